@@ -1,0 +1,3 @@
+pub mod Tests
+pub mod TestLaws
+pub mod Lists

@@ -1,0 +1,48 @@
+-- The five rules of a sheet's check (refusal 12).
+use mathlib.Core.Bool.{Bool}
+use mathlib.Core.List.{List, [], _∷_}
+use Prim.Native.Nat.{ℕ}
+use lib.Dec.{eqb}
+use lib.ListN.{length, getD}
+use Rattle.laws.specs.Tests.{_and_, _or_, _⇒_, every, any, has, listed, allPairs, firstFailed}
+use Rattle.rules.specs.Graph.{Program, edgeCount, sourceAt, targetAt, entry, called}
+use Rattle.rules.specs.Closing.{alike, bothCall, goesOn, Coverage, meets, sameWord}
+use Rattle.rules.specs.Sheet.{Sheet}
+
+module _ (old new : Program) (s : Sheet) where
+  -- 1: the first entries are listed.
+  unfoldable pub rule1 : Bool
+  rule1 = listed (s .M) (entry old 0) (entry new 0)
+
+  -- 2: listed pairs are alike.
+  unfoldable pub rule2 : Bool
+  rule2 = allPairs (alike old new) (s .M)
+
+  -- 3: for a listed pair of C nodes, the entries of their procedures are listed.
+  unfoldable pub entered : ℕ → ℕ → Bool
+  entered n n′ = bothCall old new n n′ ⇒ listed (s .M) (entry old (called old n)) (entry new (called new n′))
+
+  unfoldable pub rule3 : Bool
+  rule3 = allPairs entered (s .M)
+
+  -- 4: for each listed pair that may go on by the list, each old edge is listed under D, or the new node has the word and the ends are listed.
+  unfoldable pub keeps : ℕ → ℕ → ℕ → Bool
+  keeps n′ e e′ = eqb (sourceAt new e′) n′ and sameWord old new e e′ and listed (s .M) (targetAt old e) (targetAt new e′)
+
+  unfoldable pub edgeKept : ℕ → ℕ → ℕ → Bool
+  edgeKept n n′ e = eqb (sourceAt old e) n ⇒ has (s .D) e or any (edgeCount new) (keeps n′ e)
+
+  unfoldable pub edgesKept : ℕ → ℕ → Bool
+  edgesKept n n′ = goesOn old new (s .M) n n′ ⇒ every (edgeCount old) (edgeKept n n′)
+
+  unfoldable pub rule4 : Bool
+  rule4 = allPairs edgesKept (s .M)
+
+-- 5: every test whose coverage holds a D edge is listed.
+unfoldable pub rule5 : List Coverage → Sheet → Bool
+rule5 suite s = every (length suite) (λ i. meets (s .D) (getD suite i []) ⇒ has (s .R) i)
+
+-- The first broken rule, or 0.
+unfoldable pub broken : Program → Program → List Coverage → Sheet → ℕ
+broken old new suite s = firstFailed 1 (rule1 old new s ∷ rule2 old new s ∷ rule3 old new s ∷ rule4 old new s ∷ rule5 suite s ∷ [])
+

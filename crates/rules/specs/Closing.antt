@@ -1,0 +1,153 @@
+-- The closing rules: which nodes are alike and which are pairs, which old edges are dangerous, which tests are repeated, which edges are counterparts, and a test's marks.
+use mathlib.Core.Path.{_≡_}
+use mathlib.Core.Bool.{Bool, true, false}
+use mathlib.Core.List.{List, []}
+use Prim.Native.Nat.{ℕ, zero, suc, _<_}
+use lib.Dec.{eqb}
+use lib.ListN.{length, getD}
+use Rattle.laws.specs.Tests.{_and_, _or_, _⇒_, isnt, every, any, those, anyOf, listed, anyPair, pick, grid}
+use Rattle.rules.specs.Text.{same, Bytes}
+use Rattle.rules.specs.Graph.{C, Program, nodeCount, edgeCount, kindAt, labelAt, calleeAt, sourceAt, wordAt, targetAt, entry, exit, called, sameKind}
+
+-- Two labels, and two callee fields, that count as equal: those of equal bytes.
+unfoldable pub sameLabel : Bytes → Bytes → Bool
+sameLabel l l′ = same l l′
+
+unfoldable pub sameCallee : Bytes → Bytes → Bool
+sameCallee c c′ = same c c′
+
+module _ (old new : Program) where
+  -- An old node and a new one are alike: kind, label and callee have equal bytes.
+  unfoldable pub alike : ℕ → ℕ → Bool
+  alike n n′ = sameKind (kindAt old n) (kindAt new n′) and sameLabel (labelAt old n) (labelAt new n′) and sameCallee (calleeAt old n) (calleeAt new n′)
+
+  -- An old edge and a new one are taken for one word: equal words.
+  unfoldable pub sameWord : ℕ → ℕ → Bool
+  sameWord e e′ = same (wordAt old e) (wordAt new e′)
+
+  -- An old edge and a new one have equal words, and ends that are alike.
+  unfoldable pub fits : ℕ → ℕ → Bool
+  fits e e′ = sameWord e e′ and alike (targetAt old e) (targetAt new e′)
+
+  -- The pairs, as the smallest relation with rules 1, 2 and 3. A C pair may go on only if the exits of its callee are a pair.
+  pub data Pair : ℕ → ℕ → Type 0 where
+    first-entries : Pair (entry old 0) (entry new 0)
+    callee-entries : {n n′ : ℕ} → Pair n n′ → kindAt old n ≡ C → kindAt new n′ ≡ C → Pair (entry old (called old n)) (entry new (called new n′))
+    edge-ends : {e e′ : ℕ} → Pair (sourceAt old e) (sourceAt new e′)
+        → (kindAt old (sourceAt old e) ≡ C → Pair (exit old (called old (sourceAt old e))) (exit new (called new (sourceAt new e′))))
+        → e < edgeCount old → e′ < edgeCount new → fits e e′ ≡ true
+        → Pair (targetAt old e) (targetAt new e′)
+
+  -- A pair may go on.
+  abbrev pub MayGoOn : ℕ → ℕ → Type 0
+  MayGoOn n n′ = kindAt old n ≡ C → Pair (exit old (called old n)) (exit new (called new n′))
+
+  -- Rule 3 joins an old edge and a new one for some pair: they are counterparts.
+  pub record Counterparts (e e′ : ℕ) : Type 0 where
+    pub isOld : e < edgeCount old
+    pub isNew : e′ < edgeCount new
+    pub pair : Pair (sourceAt old e) (sourceAt new e′)
+    pub mayGoOn : MayGoOn (sourceAt old e) (sourceAt new e′)
+    pub fit : fits e e′ ≡ true
+
+  -- An old edge is dangerous: for some pair that may go on, the new node has no edge with its word, or the ends are not alike.
+  pub record Dangerous (e : ℕ) : Type 0 where
+    pub isOld : e < edgeCount old
+    pub partner : ℕ
+    pub pair : Pair (sourceAt old e) partner
+    pub mayGoOn : MayGoOn (sourceAt old e) partner
+    pub unfit : (e′ : ℕ) → e′ < edgeCount new → sourceAt new e′ ≡ partner → fits e e′ ≡ true → ⊥
+
+  -- Both nodes are calls.
+  unfoldable pub bothCall : ℕ → ℕ → Bool
+  bothCall n n′ = sameKind (kindAt old n) C and sameKind (kindAt new n′) C
+
+  -- The new node n′ has an edge that fits the old edge e.
+  unfoldable pub fitted : ℕ → ℕ → Bool
+  fitted e n′ = any (edgeCount new) (λ e′. eqb (sourceAt new e′) n′ and fits e e′)
+
+  -- The pair (a, b) is given by rule 1; by rule 2 for the pair (n, n′).
+  unfoldable pub byStart : ℕ → ℕ → Bool
+  byStart a b = eqb (entry old 0) a and eqb (entry new 0) b
+
+  unfoldable pub byCall : ℕ → ℕ → ℕ → ℕ → Bool
+  byCall a b n n′ = bothCall n n′ and eqb (entry old (called old n)) a and eqb (entry new (called new n′)) b
+
+  -- The same by computation, from a list of pairs.
+  module _ (M : List (ℕ × ℕ)) where
+    -- The listed pair (n, n′) may go on by the list.
+    unfoldable pub goesOn : ℕ → ℕ → Bool
+    goesOn n n′ = sameKind (kindAt old n) C ⇒ listed M (exit old (called old n)) (exit new (called new n′))
+
+    -- Rule 3 joins an old edge and a new one by the list.
+    unfoldable pub joined : ℕ → ℕ → Bool
+    joined e e′ = listed M (sourceAt old e) (sourceAt new e′) and goesOn (sourceAt old e) (sourceAt new e′) and fits e e′
+
+    -- By rule 3 for the edges e and e′; by a rule, from the list.
+    unfoldable pub byEdge : ℕ → ℕ → ℕ → ℕ → Bool
+    byEdge a b e e′ = eqb (targetAt old e) a and eqb (targetAt new e′) b and joined e e′
+
+    unfoldable pub follows : ℕ → ℕ → Bool
+    follows a b = byStart a b or anyPair (byCall a b) M or any (edgeCount old) (λ e. any (edgeCount new) (byEdge a b e))
+
+    -- The list with what the rules give from it, ascending.
+    unfoldable pub grown : List (ℕ × ℕ)
+    grown = pick (λ a b. listed M a b or follows a b) (grid (nodeCount old) (nodeCount new))
+
+    -- The old edge e is dangerous for the listed pair (n, n′); for some listed pair.
+    unfoldable pub dangerousAt : ℕ → ℕ → ℕ → Bool
+    dangerousAt e n n′ = eqb (sourceAt old e) n and goesOn n n′ and isnt (fitted e n′)
+
+    unfoldable pub dangerous : ℕ → Bool
+    dangerous e = anyPair (dangerousAt e) M
+
+  -- The list grown until a round adds nothing, at most k times.
+  unfoldable pub closed : ℕ → List (ℕ × ℕ) → List (ℕ × ℕ)
+  closed zero M = M
+  closed (suc k) M = elim (eqb (length (grown M)) (length M)) [ true ↦ M | false ↦ closed k (grown M) ]
+
+  -- The pairs, ascending by old, then new.
+  unfoldable pub pairs : List (ℕ × ℕ)
+  pairs = closed (length (grid (nodeCount old) (nodeCount new))) []
+
+  -- The dangerous old edges, ascending.
+  unfoldable pub dangers : List ℕ
+  dangers = those (edgeCount old) (dangerous pairs)
+
+-- A test's coverage ("row" of a "lift"): for each old edge, was it crossed? The coverage holds the edge e.
+abbrev pub Coverage : Type 0
+Coverage = List Bool
+
+abbrev pub holds : Coverage → ℕ → Bool
+holds coverage e = getD coverage e false
+
+-- The coverage holds an edge of the list.
+unfoldable pub meets : List ℕ → Coverage → Bool
+meets D coverage = anyOf (holds coverage) D
+
+-- The repeated tests ("repeated lifts"), ascending: those whose coverage holds a dangerous edge.
+unfoldable pub repeated : Program → Program → List Coverage → List ℕ
+repeated old new suite = those (length suite) (λ i. meets (dangers old new) (getD suite i []))
+
+-- A mark: `0`, `1` or `?`.
+pub data Mark : Type 0 where
+  mark-0 mark-1 mark-? : Mark
+
+-- The first mark where the test passes, else the second.
+abbrev pub chosen : Bool → Mark → Mark → Mark
+chosen true x y = x
+chosen false x y = y
+
+module _ (old new : Program) (coverage : Coverage) where
+  -- The old edge e was crossed and has the new edge e′ as a counterpart; as its only one.
+  unfoldable pub carries : ℕ → ℕ → Bool
+  carries e′ e = holds coverage e and joined old new (pairs old new) e e′
+
+  unfoldable pub carriesOnly : ℕ → ℕ → Bool
+  carriesOnly e′ e = carries e′ e and every (edgeCount new) (λ f. joined old new (pairs old new) e f ⇒ eqb f e′)
+
+  -- The mark of the new edge e′: `?` for a repeated test; else `0` if no old counterpart was crossed, `1` if some crossed one has it as only counterpart, else `?`.
+  unfoldable pub mark : ℕ → Mark
+  mark e′ =
+      chosen (meets (dangers old new) coverage) mark-?
+      (chosen (isnt (any (edgeCount old) (carries e′))) mark-0 (chosen (any (edgeCount old) (carriesOnly e′)) mark-1 mark-?))

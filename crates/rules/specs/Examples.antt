@@ -1,0 +1,175 @@
+-- P1 to P8, refusals, and two runs, computed by the definitions from the texts to the bytes.
+use mathlib.Core.Path.{_≡_, refl}
+use mathlib.Core.List.{List, [], _∷_, _++_, map}
+use Prim.Native.Nat.{ℕ, zero, suc}
+use Prim.Native.String.{String}
+use Rattle.laws.specs.Tests.{_and_, _or_, _⇒_, isnt, every, any, orElse, ifTrue, first, plus, count, those, has, anyOf, listed, allPairs, anyPair, pick, gridRow, grid, firstFailed, choose, none?}
+use Rattle.rules.specs.Text.{Bytes, same, empty, bytes, maxBytes, then, unless, onto, split, joinBy, textOf, between, allBytes, nameByte, labelByte, wordByte, digitByte, isName, isLabel, isWord, isNumber, valueFrom, digits, decimal, readLines, readText}
+use Rattle.rules.specs.Graph.{sameKind, orZero, isOf, entry, exit, procOf, leaves, edgeTaken, degree, worded}
+use Rattle.rules.specs.ProgramFile.{kindOf, isNode, isEdge, formOf, hasEdge, named, isNodeOf, hasWord, degreeFine, complete, lost, takeLine, stepProgram, finishProgram, readListing, readProgram}
+use Rattle.rules.specs.SuiteFile.{testForm, hexByte, hexValue, bitsOf, noneSet, rowFine, tested, takeTest, stepSuite, readTests, readSuite}
+use Rattle.rules.specs.Closing.{alike, fits, bothCall, fitted, goesOn, joined, byStart, byCall, byEdge, follows, grown, dangerousAt, dangerous, closed, pairs, dangers, meets, repeated, carries, carriesOnly, mark, sameCallee, sameLabel, sameWord}
+use Rattle.rules.specs.Sheet.{selected, mLine, dLine, rLine, endLine, sheetLines, sheetText, markByte, marksOf, crossed, vLine, recordText, sheetForm, before, allBelow, testOf, takeSheetLine, stepSheet, finishSheet, readSheet}
+use Rattle.rules.specs.Check.{entered, keeps, edgeKept, edgesKept, rule1, rule2, rule3, rule4, rule5, broken}
+use Rattle.rules.specs.Job.{Outcome, wrote, refusal, passed, outcome, readJob, writing, sheetBytes, recordBytes, sheetAnswer, recordAnswer, judged, checkAnswer}
+
+-- A job: the texts of the old program, the new one and the tests.
+record Job : Type 0 where
+  old : Bytes
+  new : Bytes
+  tests : Bytes
+
+-- An example: what a call answers, and what document 01 says.
+abbrev pub Example : Type 0
+Example = Outcome × Outcome
+
+-- The sheet that is written; the record line of the test i; the check of a sheet.
+writes : Job → String → Example
+writes j sheet = (sheetAnswer (j .old) (j .new) (j .tests) maxBytes, wrote (bytes sheet))
+
+records : Job → ℕ → String → Example
+records j i line = (recordAnswer (j .old) (j .new) (j .tests) i maxBytes, wrote (bytes line))
+
+checks : Job → String → Outcome → Example
+checks j sheet o = (checkAnswer (j .old) (j .new) (j .tests) (bytes sheet), o)
+
+job : String → String → String → Job
+job old new tests = record { old = bytes old; new = bytes new; tests = bytes tests }
+
+-- The programs of the examples.
+up : String
+up = "P,up\nN,E,,\nN,X,,\nB,0,-,1\n"
+
+layers : String
+layers = "P,up\nN,E,,\nN,S,read layer,\nN,S,set speed,\nN,S,hold,\nN,X,,\nB,0,-,1\nB,1,up,2\nB,1,stop,3\nB,2,ok,1\nB,3,ok,4\n"
+
+by-layer : String
+by-layer = "P,up\nN,E,,\nN,S,read layer,\nN,S,set speed by layer,\nN,S,hold,\nN,X,,\nB,0,-,1\nB,1,up,2\nB,1,stop,3\nB,2,ok,1\nB,3,ok,4\n"
+
+halting : String
+halting = "P,up\nN,E,,\nN,S,read layer,\nN,S,set speed,\nN,S,hold,\nN,X,,\nB,0,-,1\nB,1,up,2\nB,1,halt,3\nB,2,ok,1\nB,3,ok,4\n"
+
+more : String
+more = "P,up\nN,E,,\nN,S,read layer,\nN,S,set speed,\nN,S,hold,\nN,X,,\nB,0,-,1\nB,1,up,2\nB,1,stop,3\nB,2,ok,1\nB,3,ok,4\nB,3,more,1\n"
+
+winds : String
+winds = "P,up\nN,E,,\nN,S,wind,\nN,X,,\nB,0,-,1\nB,1,T,1\nB,1,F,2\n"
+
+winds-twice : String
+winds-twice = "P,up\nN,E,,\nN,S,wind,\nN,S,wind,\nN,X,,\nB,0,-,1\nB,1,T,2\nB,1,F,3\nB,2,T,1\nB,2,F,3\n"
+
+calls-itself : String
+calls-itself = "P,up\nN,E,,\nN,C,wind,up\nN,X,,\nB,0,-,1\nB,1,-,2\n"
+
+two-tests : String
+two-tests = "T,t1,a8\nT,t2,f8\n"
+
+-- P1 to P8, in their order.
+p2 : Job
+unfolding job layers by-layer two-tests
+p2 = job layers by-layer two-tests
+
+p3 : Job
+unfolding job winds winds-twice
+p3 = job winds winds-twice "T,long,e\nT,short,a\n"
+
+pub examples : List Example
+unfolding writes records checks job up layers by-layer halting more winds winds-twice calls-itself two-tests p2 p3
+examples =
+    writes (job up up "") "sheet,1\nM,0,0\nM,1,1\nend,2,0,0\n"
+    ∷ writes p2 "sheet,1\nM,0,0\nM,1,1\nM,3,3\nM,4,4\nD,1\nR,t2\nend,4,1,1\n"
+    ∷ records p2 0 "V,t1,3,10101\n"
+    ∷ records p2 1 "V,t2,5,?????\n"
+    ∷ writes p3 "sheet,1\nM,0,0\nM,1,1\nM,1,2\nM,2,3\nend,4,0,0\n"
+    ∷ records p3 0 "V,long,3,1????\n"
+    ∷ records p3 1 "V,short,2,10?0?\n"
+    ∷ writes (job layers halting "") "sheet,1\nM,0,0\nM,1,1\nM,2,2\nD,2\nend,3,1,0\n"
+    ∷ writes (job layers more "") "sheet,1\nM,0,0\nM,1,1\nM,2,2\nM,3,3\nM,4,4\nend,5,0,0\n"
+    ∷ writes (job calls-itself calls-itself "") "sheet,1\nM,0,0\nM,1,1\nend,2,0,0\n"
+    ∷ checks p2 "sheet,1\nM,0,0\nD,0\nR,t1\nR,t2\nend,1,1,2\n" passed
+    ∷ checks p2 "sheet,1\nM,0,0\nM,1,1\nM,3,3\nM,4,4\nR,t2\nend,4,0,1\n" (refusal 12 4)
+    ∷ []
+
+-- Names the definitions: where this unfolds, they compute.
+computing : Unit {0}
+unfolding
+    _and_ _or_ _⇒_ isnt choose every any orElse ifTrue first plus count those has anyOf listed allPairs anyPair pick gridRow grid firstFailed none?
+    same empty onto split joinBy textOf between allBytes nameByte labelByte wordByte digitByte isName isLabel isWord isNumber valueFrom digits decimal then unless readLines readText
+    sameKind orZero isOf entry exit procOf leaves edgeTaken degree worded
+    kindOf isNode isEdge formOf hasEdge named isNodeOf hasWord degreeFine complete lost takeLine stepProgram finishProgram readListing readProgram
+    testForm hexByte hexValue bitsOf noneSet rowFine tested takeTest stepSuite readTests readSuite
+    sameLabel sameCallee sameWord alike fits bothCall fitted goesOn joined byStart byCall byEdge follows grown dangerousAt dangerous closed pairs dangers meets repeated carries carriesOnly mark
+    selected mLine dLine rLine endLine sheetLines sheetText markByte marksOf crossed vLine recordText sheetForm before allBelow testOf takeSheetLine stepSheet finishSheet readSheet
+    entered keeps edgeKept edgesKept rule1 rule2 rule3 rule4 rule5 broken
+    outcome readJob writing sheetBytes recordBytes sheetAnswer recordAnswer judged checkAnswer
+computing = tt
+
+-- The definitions answer P1 to P8 as document 01 says: one statement over their list, by computation.
+pub examples-answered : map (λ x. x .0) examples ≡ map (λ x. x .1) examples
+unfolding computing examples
+examples-answered = refl
+
+-- ---- refusals
+
+-- The text t, n times.
+times : ℕ → Bytes → Bytes
+times zero t = []
+times (suc n) t = t ++ times n t
+
+-- A program text alone: number and place, as a job's old program.
+ofProgram : Bytes → Outcome
+ofProgram text = checkAnswer text [] [] []
+
+-- A test file, and a sheet, for P2's programs.
+ofTests : String → Outcome
+unfolding layers by-layer
+ofTests tests = checkAnswer (bytes layers) (bytes by-layer) (bytes tests) []
+
+ofSheet : String → Outcome
+unfolding layers by-layer two-tests
+ofSheet sheet = checkAnswer (bytes layers) (bytes by-layer) (bytes two-tests) (bytes sheet)
+
+-- Refusals, with what is answered: 2 to 9 of programs, 1 and 4 by texts of 65,537 bytes and of 513 nodes; 2, 5 and 10 of tests; 2, 11 and 12 of sheets; 6 and 16 of the writers.
+pub refusals : List Example
+unfolding times ofProgram ofTests ofSheet layers by-layer two-tests
+refusals =
+    (ofProgram (times 65537 (10 ∷ [])), refusal 1 0)
+    ∷ (ofProgram [], refusal 2 1)
+    ∷ (ofProgram (bytes "P,a\nP,b"), refusal 2 2)
+    ∷ (ofProgram (bytes "P,a\nP,b c\n"), refusal 2 2)
+    ∷ (ofProgram (bytes "P,abcdefghijklm\n"), refusal 2 1)
+    ∷ (ofProgram (bytes "P,a\nN,C,x,\n"), refusal 2 2)
+    ∷ (ofProgram (bytes "P,a\nN,E,,\nB,00,-,0\n"), refusal 2 3)
+    ∷ (ofProgram (bytes "N,E,,\n"), refusal 3 1)
+    ∷ (ofProgram (bytes "P,a\nN,E,,\nN,X,,\nB,0,-,1\nN,S,x,\n"), refusal 3 5)
+    ∷ (ofProgram (bytes "P,a\n" ++ times 513 (bytes "N,S,x,\n")), refusal 4 514)
+    ∷ (ofProgram (bytes "P,a\nN,E,,\nN,X,,\nB,0,-,1\nP,a\n"), refusal 5 5)
+    ∷ (ofProgram (bytes "P,a\nN,E,,\nN,X,,\nB,0,-,2\n"), refusal 6 4)
+    ∷ (ofProgram (bytes "P,a\nN,E,,\nN,X,,\nB,18446744073709551616,-,1\n"), refusal 6 4)
+    ∷ (ofProgram (bytes "P,a\nN,E,,\nN,X,,\nB,0,-,1\nB,0,-,0\n"), refusal 7 5)
+    ∷ (ofProgram (bytes "P,a\nP,a\n"), refusal 8 1)
+    ∷ (ofProgram (bytes "P,a\nN,E,,\nN,X,,\nB,0,x,1\n"), refusal 8 1)
+    ∷ (ofProgram (bytes "P,up\nN,E,,\nN,C,wind,down\nN,X,,\nB,0,-,1\nB,1,-,2\n"), refusal 9 3)
+    ∷ (ofTests "T,t1\n", refusal 2 1)
+    ∷ (ofTests "T,t1,a8\nT,t1,f8\n", refusal 5 2)
+    ∷ (ofTests "T,t1,a\n", refusal 10 1)
+    ∷ (ofTests "T,t1,A8\n", refusal 10 1)
+    ∷ (ofTests "T,t1,a1\n", refusal 10 1)
+    ∷ (ofSheet "", refusal 11 1)
+    ∷ (ofSheet "sheet,1\n", refusal 11 2)
+    ∷ (ofSheet "sheet,1\nM,1,1\nM,0,0\nend,2,0,0\n", refusal 11 3)
+    ∷ (ofSheet "sheet,1\nM,0,5\nend,1,0,0\n", refusal 11 2)
+    ∷ (ofSheet "sheet,1\nR,t3\nend,0,0,1\n", refusal 11 2)
+    ∷ (ofSheet "sheet,1\nend,1,0,0\n", refusal 11 2)
+    ∷ (ofSheet "sheet,1\nend,0,0,0", refusal 2 2)
+    ∷ (ofSheet "sheet,1\nend,0,0,0\n", refusal 12 1)
+    ∷ (ofSheet "sheet,1\nM,0,0\nM,1,2\nend,2,0,0\n", refusal 12 2)
+    ∷ (ofSheet "sheet,1\nM,0,0\nD,0\nend,1,1,0\n", refusal 12 5)
+    ∷ (sheetAnswer (bytes layers) (bytes by-layer) (bytes two-tests) 50, refusal 16 0)
+    ∷ (recordAnswer (bytes layers) (bytes by-layer) (bytes two-tests) 2 maxBytes, refusal 6 0)
+    ∷ (recordAnswer (bytes layers) (bytes by-layer) (bytes two-tests) 0 12, refusal 16 0)
+    ∷ []
+
+pub refusals-answered : map (λ x. x .0) refusals ≡ map (λ x. x .1) refusals
+unfolding computing refusals
+refusals-answered = refl

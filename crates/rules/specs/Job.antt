@@ -1,0 +1,164 @@
+-- The job: what its calls answer, by number and place, and what they write, over whole texts.
+use mathlib.Core.Bool.{Bool, true}
+use mathlib.Core.Option.{Option, none, some}
+use mathlib.Core.List.{[], _++_}
+use Prim.Native.Nat.{ℕ, zero, suc, _+_, _*_}
+use lib.Dec.{eqb, ltb}
+use lib.ListN.{length, getD, take, drop}
+use Rattle.laws.specs.Tests.{after, choose}
+use Rattle.rules.specs.Text.{Answer, Bytes, accepted, maxPairs, refused, then}
+use Rattle.rules.specs.Graph.{Program, edgeCount, labelAt, nodeCount}
+use Rattle.rules.specs.ProgramFile.{Listing, readProgram}
+use Rattle.rules.specs.SuiteFile.{Suite, coverageAt, readSuite, testCount, testName}
+use Rattle.rules.specs.Closing.{pairs}
+use Rattle.rules.specs.Sheet.{Sheet, readSheet, recordText, selected, sheetText}
+use Rattle.rules.specs.Check.{broken}
+
+-- ---- stages
+
+-- The calls of a job.
+pub data Call : Type 0 where
+  reset-job read-old read-new read-tests write-sheet write-record check-sheet show-label : Call
+
+-- A call is of a stage: 0 empty, 1 old read, 2 new read, 3 tests read. One that is not gets 13.
+unfoldable pub ofStage : Call → ℕ → Bool
+ofStage reset-job stage = true
+ofStage read-old stage = eqb stage 0
+ofStage read-new stage = eqb stage 1
+ofStage read-tests stage = eqb stage 2
+ofStage write-sheet stage = eqb stage 3
+ofStage write-record stage = eqb stage 3
+ofStage check-sheet stage = eqb stage 3
+ofStage show-label stage = eqb stage 3
+
+-- The stage after a call that succeeded.
+unfoldable pub stageAfter : Call → ℕ
+stageAfter reset-job = 0
+stageAfter read-old = 1
+stageAfter read-new = 2
+stageAfter read-tests = 3
+stageAfter write-sheet = 3
+stageAfter write-record = 3
+stageAfter check-sheet = 3
+stageAfter show-label = 3
+
+-- ---- answers
+
+-- What a call answers: it wrote these bytes, or it refuses by number and place and writes nothing.
+pub data Outcome : Type 0 where
+  wrote : Bytes → Outcome
+  refusal : ℕ → ℕ → Outcome
+
+-- The answer's number and place: success is 0 and how many bytes were written, or 0.
+abbrev pub numberOf : Outcome → ℕ
+numberOf (wrote b) = 0
+numberOf (refusal k p) = k
+
+abbrev pub placeOf : Outcome → ℕ
+placeOf (wrote b) = length b
+placeOf (refusal k p) = p
+
+-- The answer of a whole-job call in one number.
+unfoldable pub packed : Outcome → ℕ
+packed o = numberOf o * 4294967296 + placeOf o
+
+-- The output afterwards: the bytes written, and beyond them what was there; after a refusal, what was there.
+unfoldable pub outputAfter : Outcome → Bytes → Bytes
+outputAfter (wrote b) out = b ++ drop (length b) out
+outputAfter (refusal k p) out = out
+
+-- Success with nothing written; of a check it is to pass.
+abbrev pub success : Outcome
+success = wrote []
+
+abbrev pub passed : Outcome
+passed = success
+
+-- The refusal, or what follows.
+unfoldable pub outcome : {A : Type 0} → Answer A → (A → Outcome) → Outcome
+outcome (refused k p) f = refusal k p
+outcome (accepted a) f = f a
+
+-- ---- reading
+
+-- What the texts of a job give.
+pub record Given : Type 0 where
+  pub old : Program
+  pub new : Program
+  pub suite : Suite
+
+-- Reading the old program, the new one and the tests, in this order; the first refusal is the answer.
+unfoldable pub readJob : Bytes → Bytes → Bytes → Answer Given
+readJob old new tests =
+    then (readProgram old) (λ p. then (readProgram new) (λ p′. then (readSuite (edgeCount p) tests) (λ s. accepted (record { old = p; new = p′; suite = s }))))
+
+-- Reading up to each stage.
+unfoldable pub readOldAnswer : Bytes → Outcome
+readOldAnswer old = outcome (readProgram old) (λ p. success)
+
+unfoldable pub readNewAnswer : Bytes → Bytes → Outcome
+readNewAnswer old new = outcome (readProgram old) (λ p. outcome (readProgram new) (λ p′. success))
+
+unfoldable pub readTestsAnswer : Bytes → Bytes → Bytes → Outcome
+readTestsAnswer old new tests = outcome (readJob old new tests) (λ g. success)
+
+-- ---- writing
+
+-- 15: more than 4,096 pairs exist; 16: the output, of `room` bytes, is shorter than what must be written.
+unfoldable pub writing : Given → ℕ → Bytes → Outcome
+writing g room b = choose (ltb maxPairs (length (pairs (g .old) (g .new)))) (refusal 15 0) (choose (ltb room (length b)) (refusal 16 0) (wrote b))
+
+-- The sheet that the selector writes; the record line of the test i.
+unfoldable pub sheetBytes : Given → Bytes
+sheetBytes g = sheetText (g .suite .names) (selected (g .old) (g .new) (g .suite .coverages))
+
+unfoldable pub recordBytes : Given → ℕ → Bytes
+recordBytes g i = recordText (g .old) (g .new) (testName (g .suite) i) (coverageAt (g .suite) i)
+
+-- Write the sheet.
+unfoldable pub sheetAnswer : Bytes → Bytes → Bytes → ℕ → Outcome
+sheetAnswer old new tests room = outcome (readJob old new tests) (λ g. writing g room (sheetBytes g))
+
+-- Write the record line of the test i: 6 where there is none.
+unfoldable pub recordAnswer : Bytes → Bytes → Bytes → ℕ → ℕ → Outcome
+recordAnswer old new tests i room = outcome (readJob old new tests) (λ g. choose (ltb i (testCount (g .suite))) (writing g room (recordBytes g i)) (refusal 6 0))
+
+-- ---- checking
+
+-- The check of a sheet's claims: 12, whose place is the first broken rule, or pass.
+unfoldable pub judged : Given → Sheet → Outcome
+judged g s =
+    choose (eqb (broken (g .old) (g .new) (g .suite .coverages) s) 0) passed (refusal 12 (broken (g .old) (g .new) (g .suite .coverages) s))
+
+-- Check a sheet.
+unfoldable pub checkAnswer : Bytes → Bytes → Bytes → Bytes → Outcome
+checkAnswer old new tests sheet = outcome (readJob old new tests) (λ g. outcome (readSheet (g .old) (g .new) (g .suite) sheet) (judged g))
+
+-- ---- showing a label
+
+-- A version of the program: its text, and what reading it leaves.
+pub record Version : Type 0 where
+  pub text : Bytes
+  pub listing : Listing
+
+-- The version of a side: 0 the old one, 1 the new one.
+unfoldable pub bySide : Version → Version → ℕ → Option Version
+bySide old new zero = some old
+bySide old new (suc zero) = some new
+bySide old new (suc (suc n)) = none
+
+-- The node n is one of the version.
+unfoldable pub isNodeOfVersion : Version → ℕ → Bool
+isNodeOfVersion v n = ltb n (nodeCount (v .listing .program))
+
+-- Show a label, by side and node number: 6 where there is no such side, or no such node of its version.
+unfoldable pub labelAnswer : Version → Version → ℕ → ℕ → Outcome
+labelAnswer old new side n = after (bySide old new side) (refusal 6 0) (λ v. choose (isNodeOfVersion v n) success (refusal 6 0))
+
+-- The part of the text that holds the label of the node n.
+unfoldable pub labelPart : Version → ℕ → Bytes
+labelPart v n = take (length (labelAt (v .listing .program) n)) (drop (getD (v .listing .places .labelStarts) n 0) (v .text))
+
+-- The part that is shown: empty when refused.
+unfoldable pub labelShown : Version → Version → ℕ → ℕ → Bytes
+labelShown old new side n = after (bySide old new side) [] (λ v. choose (isNodeOfVersion v n) (labelPart v n) [])

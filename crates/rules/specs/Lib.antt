@@ -1,0 +1,15 @@
+pub mod Text
+pub mod Graph
+pub mod ProgramFile
+pub mod SuiteFile
+pub mod Run
+pub mod Closing
+pub mod Sheet
+pub mod Check
+pub mod Job
+pub mod Layout
+pub mod Places
+pub mod Promises
+pub mod Theorems
+pub mod Examples
+pub mod Proofs

@@ -1,0 +1,46 @@
+-- What `alike`, `sameWord` and `fits` give: the only proofs that look behind these names.
+use mathlib.Core.Path.{_≡_, sym, _∙_}
+use mathlib.Core.Bool.{true}
+use mathlib.Core.List.{[]}
+use Prim.Native.Nat.{ℕ}
+use Rattle.laws.specs.TestLaws.{and-both, and-left, and-right}
+use Rattle.rules.specs.Graph.{Program, calleeAt, kindAt, labelAt, targetAt, wordAt}
+use Rattle.rules.specs.Closing.{alike, fits, sameCallee, sameLabel, sameWord}
+use Rattle.rules.specs.Proofs.GraphLaws.{sameKind-of, sameKind-true}
+use Rattle.rules.specs.Proofs.TextLaws.{same-of, same-true}
+
+module _ (old new : Program) (n n′ : ℕ) where
+  -- Alike nodes have equal kinds, and labels of one action.
+  pub alike-kind : alike old new n n′ ≡ true → kindAt new n′ ≡ kindAt old n
+  unfolding alike
+  alike-kind h = sym (sameKind-true _ _ (and-left _ _ h))
+
+  pub alike-label : alike old new n n′ ≡ true → labelAt new n′ ≡ labelAt old n
+  unfolding alike sameLabel
+  alike-label h = sym (same-true _ _ (and-left _ _ (and-right _ _ h)))
+
+  -- Two nodes of one kind with no label and no callee are alike.
+  pub alike-bare : kindAt old n ≡ kindAt new n′ → labelAt old n ≡ [] → labelAt new n′ ≡ [] → calleeAt old n ≡ [] → calleeAt new n′ ≡ [] → alike old new n n′ ≡ true
+  unfolding alike sameLabel sameCallee
+  alike-bare k l l′ c c′ = and-both (sameKind-of k) (and-both (same-of (l ∙ sym l′)) (same-of (c ∙ sym c′)))
+
+module _ (old new : Program) (e e′ : ℕ) where
+  pub same-word : sameWord old new e e′ ≡ true → wordAt old e ≡ wordAt new e′
+  unfolding sameWord
+  same-word h = same-true _ _ h
+
+  pub word-same : wordAt old e ≡ wordAt new e′ → sameWord old new e e′ ≡ true
+  unfolding sameWord
+  word-same h = same-of h
+
+  pub fits-word : fits old new e e′ ≡ true → sameWord old new e e′ ≡ true
+  unfolding fits
+  fits-word h = and-left _ _ h
+
+  pub fits-ends : fits old new e e′ ≡ true → alike old new (targetAt old e) (targetAt new e′) ≡ true
+  unfolding fits
+  fits-ends h = and-right _ _ h
+
+  pub fits-of : sameWord old new e e′ ≡ true → alike old new (targetAt old e) (targetAt new e′) ≡ true → fits old new e e′ ≡ true
+  unfolding fits
+  fits-of w a = and-both w a

@@ -1,0 +1,396 @@
+-- The computed pairs are the smallest set with the closing rules (T4), and what the selector writes passes the check (T2).
+use mathlib.Core.Path.{_≡_, refl, sym, _∙_, subst₂}
+use mathlib.Core.Logic.{_⊎_, inl, inr, ⊎-elim, _↔_}
+use mathlib.Core.Bool.{Bool, true, false, false≢true}
+use mathlib.Core.List.{List, [], _∷_}
+use Prim.Native.Nat.{ℕ, zero, suc, _+_, _≤_, _<_}
+use native.Mathlib.Omega.{arith}
+use lib.Dec.{eqb}
+use lib.ListN.{length, getD}
+use borrow.Author.Tests.{eqb-true, eqb-false, eq-eqb}
+use Rattle.laws.specs.Tests.{_and_, _or_, any, has, listed, anyPair, pick, grid}
+use Rattle.laws.specs.TestLaws.{and-left, and-right, and-both, implied, implies, or-cases, or-left, or-right, both-ways, fails, passes?, true-isnt, isnt-true, same-test, eqb-self, every-of, any-at, any-of, those-of, anyPair-at, anyPair-of, allPairs-of, pick-of, pick-at, pick-more, pick-same, pick-all, pick-agree, grid-of, grid-at, Ascending, grid-ascends, pick-ascends, none-left, none-failed, those-at, anyOf-at, anyOf-of}
+use Rattle.laws.specs.Lists.{Rising, those-rise}
+use Rattle.rules.specs.Graph.{E, C, Program, WellFormed, procCount, nodeCount, edgeCount, kindAt, labelAt, calleeAt, sourceAt, targetAt, entry, exit, called, filled}
+use Rattle.rules.specs.Closing.{alike, fits, Pair, first-entries, callee-entries, edge-ends, Counterparts, Dangerous, bothCall, fitted, goesOn, joined, byStart, byCall, byEdge, follows, grown, dangerousAt, dangerous, closed, pairs, dangers, Coverage, meets, repeated, holds}
+use Rattle.rules.specs.Sheet.{selected}
+use Rattle.rules.specs.Check.{entered, keeps, edgeKept, edgesKept, rule1, rule2, rule3, rule4, rule5, broken}
+use Rattle.rules.specs.Promises.{Exact}
+use Rattle.rules.specs.Proofs.ClosingLaws.{alike-bare, fits-ends, fits-word}
+use Rattle.rules.specs.Proofs.GraphLaws.{sameKind-true, sameKind-of, entry-is, called-is}
+use Rattle.rules.specs.Proofs.TextLaws.{empty-true}
+
+pick-none : (l : List (ℕ × ℕ)) → pick (λ n k. false) l ≡ []
+unfolding pick
+pick-none [] = refl
+pick-none (x ∷ l) = pick-none l
+
+-- ---- the list grows until the rules give nothing new
+
+module _ (old new : Program) where
+  -- All pairs of an old node and a new one.
+  abbrev all : List (ℕ × ℕ)
+  all = grid (nodeCount old) (nodeCount new)
+
+  -- The rules give nothing new from the list.
+  Stable : List (ℕ × ℕ) → Type 0
+  Stable M = (a b : ℕ) → listed all a b ≡ true → follows old new M a b ≡ true → listed M a b ≡ true
+
+  -- The test that picks the grown list, where p picks the list.
+  abbrev wider : (ℕ → ℕ → Bool) → ℕ → ℕ → Bool
+  wider p a b = listed (pick p all) a b or follows old new (pick p all) a b
+
+  wider-of : (p : ℕ → ℕ → Bool) (a b : ℕ) → listed all a b ≡ true → p a b ≡ true → wider p a b ≡ true
+  wider-of p a b l e = or-left _ (pick-of p all a b l e)
+
+  -- One round of growing a picked list: it ends here, or edge-ends on.
+  round : (P : List (ℕ × ℕ) → Type 0) (k : ℕ) (p : ℕ → ℕ → Bool)
+      → (length (pick (wider p) all) ≡ length (pick p all) → P (pick p all))
+      → ((length (pick (wider p) all) ≡ length (pick p all) → ⊥) → P (closed old new k (pick (wider p) all)))
+      → P (closed old new (suc k) (pick p all))
+  unfolding closed grown
+  round P k p stays on = go (eqb (length (pick (wider p) all)) (length (pick p all))) refl
+    where
+      go : (t : Bool) → eqb (length (pick (wider p) all)) (length (pick p all)) ≡ t
+          → P (elim t as (λ _. List (ℕ × ℕ)) [ true ↦ pick p all | false ↦ closed old new k (pick (wider p) all) ])
+      go true e = stays (eqb-true _ _ e)
+      go false e = on (eqb-false _ _ e)
+
+  -- Growing ends in a list from which the rules give nothing new: each round that is not the last adds a pair, and there are no more than all.
+  closed-stable : (k : ℕ) (p : ℕ → ℕ → Bool) → length all ≤ k + length (pick p all) → Stable (closed old new k (pick p all))
+  unfolding closed Stable
+  closed-stable zero p h = λ a b l f. pick-of p all a b l (pick-all p all (omega arith) a b l)
+  closed-stable (suc k) p h =
+      round Stable k p
+      (λ (n : length (pick (wider p) all) ≡ length (pick p all)) a b l f. pick-of p all a b l (pick-same p (wider p) all (wider-of p) (omega arith) a b l (or-right _ f)))
+      (λ (n : length (pick (wider p) all) ≡ length (pick p all) → ⊥). closed-stable k (wider p) (grows n (pick-more p (wider p) all (wider-of p)) h))
+    where
+      grows : (length (pick (wider p) all) ≡ length (pick p all) → ⊥) → length (pick p all) ≤ length (pick (wider p) all) → length all ≤ suc k + length (pick p all)
+          → length all ≤ k + length (pick (wider p) all)
+      grows n m h = omega arith
+
+  -- The list is picked of all.
+  closed-picked : (k : ℕ) (p : ℕ → ℕ → Bool) → (q : ℕ → ℕ → Bool) × (closed old new k (pick p all) ≡ pick q all)
+  unfolding closed
+  closed-picked zero p = (p, refl)
+  closed-picked (suc k) p = round (λ M. (q : ℕ → ℕ → Bool) × (M ≡ pick q all)) k p (λ n. (p, refl)) (λ n. closed-picked k (wider p))
+
+  pairs-pick : pairs old new ≡ closed old new (length all) (pick (λ a b. false) all)
+  unfolding pairs
+  pairs-pick = rw pick-none
+
+  pairs-stable : Stable (pairs old new)
+  pairs-stable = rw pairs-pick (closed-stable (length all) (λ a b. false) (omega arith))
+
+  pairs-picked : (q : ℕ → ℕ → Bool) × (pairs old new ≡ pick q all)
+  pairs-picked = let r = closed-picked (length all) (λ a b. false) in (r .0, pairs-pick ∙ r .1)
+
+  -- The pairs are ascending, and numbers of an old node and a new one.
+  pub pairs-ascend : Ascending (pairs old new)
+  pairs-ascend = rw (pairs-picked .1) (pick-ascends (pairs-picked .0) (grid-ascends (nodeCount old) (nodeCount new)))
+
+  pub dangers-rise : Rising (dangers old new)
+  unfolding dangers
+  dangers-rise = those-rise _ _
+
+  pub pairs-inside : (a b : ℕ) → listed (pairs old new) a b ≡ true → (a < nodeCount old) × (b < nodeCount new)
+  pairs-inside a b l = grid-at _ _ a b (pick-at (pairs-picked .0) all a b (rw (pairs-picked .1) at l) .0)
+
+  -- ---- every listed pair is a pair
+
+  Sound : List (ℕ × ℕ) → Type 0
+  Sound M = (a b : ℕ) → listed M a b ≡ true → Pair old new a b
+
+  module _ (M : List (ℕ × ℕ)) where
+    pub goesOn-at : (n n′ : ℕ) → goesOn old new M n n′ ≡ true → kindAt old n ≡ C → listed M (exit old (called old n)) (exit new (called new n′)) ≡ true
+    unfolding goesOn
+    goesOn-at n n′ g k = implied _ _ g (sameKind-of k)
+
+    pub goesOn-of : (n n′ : ℕ) → (kindAt old n ≡ C → listed M (exit old (called old n)) (exit new (called new n′)) ≡ true) → goesOn old new M n n′ ≡ true
+    unfolding goesOn
+    goesOn-of n n′ h = implies _ _ (λ k. h (sameKind-true _ _ k))
+
+    pub joined-of : (e e′ : ℕ) → listed M (sourceAt old e) (sourceAt new e′) ≡ true → goesOn old new M (sourceAt old e) (sourceAt new e′) ≡ true → fits old new e e′ ≡ true
+        → joined old new M e e′ ≡ true
+    unfolding joined
+    joined-of e e′ l g f = and-both l (and-both g f)
+
+    -- What rule 3 joins by a list of pairs are counterparts.
+    joined-sound : Sound M → (e e′ : ℕ) → e < edgeCount old → e′ < edgeCount new → joined old new M e e′ ≡ true → Counterparts old new e e′
+    unfolding Sound joined
+    joined-sound s e e′ h h′ j =
+        record {
+          isOld = h;
+          isNew = h′;
+          pair = s _ _ (and-left _ _ j);
+          mayGoOn = λ k. s _ _ (goesOn-at _ _ (and-left _ _ (and-right _ _ j)) k);
+          fit = and-right _ _ (and-right _ _ j);
+        }
+
+    byCall-sound : Sound M → (a b : ℕ) → anyPair (byCall old new a b) M ≡ true → Pair old new a b
+    unfolding Sound byCall bothCall
+    byCall-sound s a b t =
+        let r = anyPair-at (byCall old new a b) M t in
+        let k = and-left _ _ (r .3) in
+        let v = and-right _ _ (r .3) in
+        subst₂ (Pair old new) (eqb-true _ _ (and-left _ _ v)) (eqb-true _ _ (and-right _ _ v))
+        (callee-entries (s _ _ (r .2)) (sameKind-true _ _ (and-left _ _ k)) (sameKind-true _ _ (and-right _ _ k)))
+
+    byEdge-sound : Sound M → (a b : ℕ) → any (edgeCount old) (λ e. any (edgeCount new) (byEdge old new M a b e)) ≡ true → Pair old new a b
+    unfolding byEdge
+    byEdge-sound s a b t =
+        let r = any-at (λ e. any (edgeCount new) (byEdge old new M a b e)) (edgeCount old) t in
+        let r′ = any-at (byEdge old new M a b (r .0)) (edgeCount new) (r .2) in
+        let v = and-right _ _ (r′ .2) in
+        let c = joined-sound s (r .0) (r′ .0) (r .1) (r′ .1) (and-right _ _ v) in
+        subst₂ (Pair old new) (eqb-true _ _ (and-left _ _ (r′ .2))) (eqb-true _ _ (and-left _ _ v)) (edge-ends (c .pair) (c .mayGoOn) (c .isOld) (c .isNew) (c .fit))
+
+    grown-sound : Sound M → Sound (grown old new M)
+    unfolding Sound grown follows byStart
+    grown-sound s a b l =
+        ⊎-elim (s a b)
+        (λ f. ⊎-elim (λ t. subst₂ (Pair old new) (eqb-true _ _ (and-left _ _ t)) (eqb-true _ _ (and-right _ _ t)) first-entries)
+        (λ t. ⊎-elim (byCall-sound s a b) (byEdge-sound s a b) (or-cases _ _ t)) (or-cases _ _ f))
+        (or-cases _ _ (pick-at _ all a b l .1))
+
+  closed-sound : (k : ℕ) (M : List (ℕ × ℕ)) → Sound M → Sound (closed old new k M)
+  unfolding closed
+  closed-sound zero M s = s
+  closed-sound (suc k) M s = go (eqb (length (grown old new M)) (length M)) (closed-sound k (grown old new M) (grown-sound M s))
+    where
+      go : (t : Bool) → Sound (closed old new k (grown old new M)) → Sound (elim t as (λ _. List (ℕ × ℕ)) [ true ↦ M | false ↦ closed old new k (grown old new M) ])
+      go true ih = s
+      go false ih = ih
+
+  -- The listed pairs are pairs.
+  pub pairs-sound : (a b : ℕ) → listed (pairs old new) a b ≡ true → Pair old new a b
+  unfolding pairs Sound listed
+  pairs-sound = closed-sound (length all) [] (λ a b l. absurd (false≢true l))
+
+  -- ---- every pair is listed
+
+  module _ (M : List (ℕ × ℕ)) where
+    follows-start : follows old new M (entry old 0) (entry new 0) ≡ true
+    unfolding follows byStart
+    follows-start = or-left _ (and-both (eqb-self (entry old 0)) (eqb-self (entry new 0)))
+
+    follows-call : (n n′ : ℕ) → listed M n n′ ≡ true → kindAt old n ≡ C → kindAt new n′ ≡ C → follows old new M (entry old (called old n)) (entry new (called new n′)) ≡ true
+    unfolding follows byCall bothCall
+    follows-call n n′ l k k′ =
+        or-right _ (or-left _ (anyPair-of (byCall old new (entry old (called old n)) (entry new (called new n′))) M n n′ l
+        (and-both (and-both (sameKind-of k) (sameKind-of k′)) (and-both (eqb-self (entry old (called old n))) (eqb-self (entry new (called new n′)))))))
+
+    follows-edge : (e e′ : ℕ) → e < edgeCount old → e′ < edgeCount new → joined old new M e e′ ≡ true → follows old new M (targetAt old e) (targetAt new e′) ≡ true
+    unfolding follows byEdge
+    follows-edge e e′ h h′ j =
+        let a = targetAt old e in
+        let b = targetAt new e′ in
+        or-right _ (or-right _ (any-of (λ e. any (edgeCount new) (byEdge old new M a b e)) (edgeCount old) e h
+        (any-of (byEdge old new M a b e) (edgeCount new) e′ h′ (and-both (eqb-self a) (and-both (eqb-self b) j)))))
+
+-- The smallest: any relation with the three rules holds of every pair.
+pub least : (old new : Program) (P : ℕ → ℕ → Type 0) → P (entry old 0) (entry new 0)
+    → ((n n′ : ℕ) → P n n′ → kindAt old n ≡ C → kindAt new n′ ≡ C → P (entry old (called old n)) (entry new (called new n′)))
+    → ((e e′ : ℕ) → P (sourceAt old e) (sourceAt new e′)
+    → (kindAt old (sourceAt old e) ≡ C → P (exit old (called old (sourceAt old e))) (exit new (called new (sourceAt new e′))))
+    → e < edgeCount old → e′ < edgeCount new → fits old new e e′ ≡ true → P (targetAt old e) (targetAt new e′))
+    → {a b : ℕ} → Pair old new a b → P a b
+least old new P r1 r2 r3 first-entries = r1
+least old new P r1 r2 r3 (callee-entries p k k′) = r2 _ _ (least old new P r1 r2 r3 p) k k′
+least old new P r1 r2 r3 (edge-ends p x h h′ f) = r3 _ _ (least old new P r1 r2 r3 p) (λ k. least old new P r1 r2 r3 (x k)) h h′ f
+
+module _ (old new : Program) (wo : WellFormed old) (wn : WellFormed new) where
+  -- The pairs are listed.
+  pub pairs-complete : {a b : ℕ} → Pair old new a b → listed (pairs old new) a b ≡ true
+  unfolding Stable
+  pairs-complete first-entries =
+      pairs-stable old new _ _ (grid-of _ _ _ _ (entry-is old wo 0 (wo .begins) .0) (entry-is new wn 0 (wn .begins) .0)) (follows-start old new (pairs old new))
+  pairs-complete (callee-entries {n = n} {n′ = n′} p k k′) =
+      let l = pairs-complete p in
+      let i = pairs-inside old new n n′ l in
+      let e = entry-is old wo (called old n) (called-is old wo n (i .0) k) in
+      let e′ = entry-is new wn (called new n′) (called-is new wn n′ (i .1) k′) in
+      pairs-stable old new _ _ (grid-of _ _ _ _ (e .0) (e′ .0)) (follows-call old new (pairs old new) n n′ l k k′)
+  pairs-complete (edge-ends {e = e} {e′ = e′} p x h h′ f) =
+      pairs-stable old new _ _ (grid-of _ _ _ _ (wo .targets e h) (wn .targets e′ h′))
+      (follows-edge old new (pairs old new) e e′ h h′
+      (joined-of old new (pairs old new) e e′ (pairs-complete p) (goesOn-of old new (pairs old new) _ _ (λ k. pairs-complete (x k))) f))
+
+  -- The computed list holds just the pairs.
+  pub smallest : (a b : ℕ) → (listed (pairs old new) a b ≡ true) ↔ Pair old new a b
+  smallest a b = (pairs-sound old new a b, pairs-complete)
+
+  -- Any test that passes just the pairs picks that list: what a selector that finds them in another way has to show.
+  pub pairs-by : (f : ℕ → ℕ → Bool) → ((a b : ℕ) → a < nodeCount old → b < nodeCount new → (f a b ≡ true) ↔ Pair old new a b)
+      → pairs old new ≡ pick f (grid (nodeCount old) (nodeCount new))
+  pairs-by f h = q .1 ∙ pick-agree (q .0) f (grid (nodeCount old) (nodeCount new)) agree
+    where
+      q : (q : ℕ → ℕ → Bool) × (pairs old new ≡ pick q (grid (nodeCount old) (nodeCount new)))
+      q = pairs-picked old new
+
+      agree : (a b : ℕ) → listed (grid (nodeCount old) (nodeCount new)) a b ≡ true → q .0 a b ≡ f a b
+      agree a b l =
+          let i = grid-at _ _ a b l in
+          same-test _ _ (λ t. h a b (i .0) (i .1) .1 (pairs-sound old new a b (rw (q .1) (pick-of (q .0) _ a b l t))))
+          (λ t. pick-at (q .0) _ a b (rw (q .1) at (pairs-complete (h a b (i .0) (i .1) .0 t))) .1)
+
+  -- A test that passes only pairs, and has the three rules, passes just the pairs: what a loop that finds them has to keep.
+  pub pairs-found : (f : ℕ → ℕ → Bool) → ((a b : ℕ) → f a b ≡ true → Pair old new a b) → f (entry old 0) (entry new 0) ≡ true
+      → ((n n′ : ℕ) → f n n′ ≡ true → kindAt old n ≡ C → kindAt new n′ ≡ C → f (entry old (called old n)) (entry new (called new n′)) ≡ true)
+      → ((e e′ : ℕ) → f (sourceAt old e) (sourceAt new e′) ≡ true
+      → (kindAt old (sourceAt old e) ≡ C → f (exit old (called old (sourceAt old e))) (exit new (called new (sourceAt new e′))) ≡ true)
+      → e < edgeCount old → e′ < edgeCount new → fits old new e e′ ≡ true → f (targetAt old e) (targetAt new e′) ≡ true)
+      → pairs old new ≡ pick f (grid (nodeCount old) (nodeCount new))
+  pairs-found f sound r1 r2 r3 = pairs-by f (λ a b h h′. (sound a b, least old new (λ a b. f a b ≡ true) r1 r2 r3))
+
+  -- Rule 3 joins by the list of pairs just the counterparts.
+  pub joined-iff : (e e′ : ℕ) → e < edgeCount old → e′ < edgeCount new → (joined old new (pairs old new) e e′ ≡ true) ↔ Counterparts old new e e′
+  unfolding Sound
+  joined-iff e e′ h h′ = (
+    joined-sound old new (pairs old new) (pairs-sound old new) e e′ h h′,
+    λ c. joined-of old new (pairs old new) e e′ (pairs-complete (c .pair)) (goesOn-of old new (pairs old new) _ _ (λ k. pairs-complete (c .mayGoOn k))) (c .fit),
+  )
+
+  -- Joined edges end on a pair.
+  joined-ends : (e e′ : ℕ) → e < edgeCount old → e′ < edgeCount new → joined old new (pairs old new) e e′ ≡ true → Pair old new (targetAt old e) (targetAt new e′)
+  joined-ends e e′ h h′ j = let c = joined-iff e e′ h h′ .0 j in edge-ends (c .pair) (c .mayGoOn) h h′ (c .fit)
+
+  -- The test of a dangerous edge passes just the dangerous ones.
+  pub dangerous-iff : (e : ℕ) → e < edgeCount old → (dangerous old new (pairs old new) e ≡ true) ↔ Dangerous old new e
+  unfolding dangerous dangerousAt fitted
+  dangerous-iff e h = (there, back)
+    where
+      from : (n n′ : ℕ) → listed (pairs old new) n n′ ≡ true → sourceAt old e ≡ n → goesOn old new (pairs old new) n n′ ≡ true → fitted old new e n′ ≡ false → Dangerous old new e
+      from n n′ l s g u =
+          record {
+            isOld = h;
+            partner = n′;
+            pair = pairs-sound old new _ _ (rw s l);
+            mayGoOn = λ k. pairs-sound old new _ _ (goesOn-at old new (pairs old new) _ _ (rw s g) k);
+            unfit = λ e′ h a f. both-ways (any-of (λ e′. eqb (sourceAt new e′) n′ and fits old new e e′) (edgeCount new) e′ h (and-both (eq-eqb _ _ a) f)) u;
+          }
+
+      there : dangerous old new (pairs old new) e ≡ true → Dangerous old new e
+      there d =
+          let r = anyPair-at (dangerousAt old new (pairs old new) e) (pairs old new) d in
+          let t = and-right _ _ (r .3) in
+          from (r .0) (r .1) (r .2) (eqb-true _ _ (and-left _ _ (r .3))) (and-left _ _ t) (isnt-true _ (and-right _ _ t))
+
+      unfits : (d : Dangerous old new e) → fitted old new e (d .partner) ≡ true → ⊥
+      unfits d t = let r = any-at _ (edgeCount new) t in d .unfit (r .0) (r .1) (eqb-true _ _ (and-left _ _ (r .2))) (and-right _ _ (r .2))
+
+      back : Dangerous old new e → dangerous old new (pairs old new) e ≡ true
+      back d =
+          anyPair-of (dangerousAt old new (pairs old new) e) (pairs old new) (sourceAt old e) (d .partner) (pairs-complete (d .pair))
+          (and-both (eqb-self (sourceAt old e))
+          (and-both (goesOn-of old new (pairs old new) _ _ (λ k. pairs-complete (d .mayGoOn k))) (true-isnt (fails _ (unfits d)))))
+
+  -- The listed dangers are just the dangerous edges.
+  pub dangers-iff : (e : ℕ) → (has (dangers old new) e ≡ true) ↔ Dangerous old new e
+  unfolding dangers
+  dangers-iff e = (
+    λ t. let r = those-at _ _ e t in dangerous-iff e (r .0) .0 (r .1),
+    λ d. those-of _ _ e (d .isOld) (dangerous-iff e (d .isOld) .1 d),
+  )
+
+  -- The repeated tests are just those whose coverage holds a dangerous edge.
+  pub repeated-iff : (suite : List Coverage) (i : ℕ)
+      → (has (repeated old new suite) i ≡ true) ↔ ((i < length suite) × (e : ℕ) × Dangerous old new e × (holds (getD suite i []) e ≡ true))
+  unfolding repeated meets
+  repeated-iff suite i = (
+    λ t. let r = those-at _ _ i t in let a = anyOf-at _ _ (r .1) in (r .0, a .0, dangers-iff (a .0) .0 (a .1), a .2),
+    λ w. those-of _ _ i (w .0) (anyOf-of _ _ (w .1) (dangers-iff (w .1) .1 (w .2)) (w .3)),
+  )
+
+  -- ---- what the selector writes passes the check
+
+  -- Entries are alike.
+  entries-alike : (q q′ : ℕ) → q < procCount old → q′ < procCount new → alike old new (entry old q) (entry new q′) ≡ true
+  unfolding filled
+  entries-alike q q′ h h′ =
+      let i = entry-is old wo q h in
+      let i′ = entry-is new wn q′ h′ in
+      let f : filled E (labelAt old (entry old q)) (calleeAt old (entry old q)) ≡ true = rw (i .2) at (wo .fields _ (i .0)) in
+      let f′ : filled E (labelAt new (entry new q′)) (calleeAt new (entry new q′)) ≡ true = rw (i′ .2) at (wn .fields _ (i′ .0)) in
+      alike-bare old new _ _ (i .2 ∙ sym (i′ .2)) (empty-true _ (and-left _ _ f)) (empty-true _ (and-left _ _ f′)) (empty-true _ (and-right _ _ f)) (empty-true _ (and-right _ _ f′))
+
+  pub pair-alike : {a b : ℕ} → Pair old new a b → alike old new a b ≡ true
+  pair-alike first-entries = entries-alike 0 0 (wo .begins) (wn .begins)
+  pair-alike (callee-entries {n = n} {n′ = n′} p k k′) =
+      let i = pairs-inside old new n n′ (pairs-complete p) in
+      entries-alike _ _ (called-is old wo n (i .0) k) (called-is new wn n′ (i .1) k′)
+  pair-alike (edge-ends p x h h′ f) = fits-ends old new _ _ f
+
+  -- For an old edge that is not dangerous, the new node of a pair that may go on has an edge that fits.
+  safe-fitted : (n n′ : ℕ) → listed (pairs old new) n n′ ≡ true → goesOn old new (pairs old new) n n′ ≡ true → (e : ℕ) → sourceAt old e ≡ n
+      → dangerous old new (pairs old new) e ≡ false → fitted old new e n′ ≡ true
+  unfolding dangerous dangerousAt
+  safe-fitted n n′ l g e s u =
+      ⊎-elim (λ t. t)
+      (λ f. absurd (both-ways (anyPair-of (dangerousAt old new (pairs old new) e) (pairs old new) n n′ l (and-both (eq-eqb _ _ s) (and-both g (true-isnt f)))) u))
+      (passes? (fitted old new e n′))
+
+  module _ (suite : List Coverage) where
+    passes1 : rule1 old new (selected old new suite) ≡ true
+    unfolding rule1 selected
+    passes1 = pairs-complete first-entries
+
+    passes2 : rule2 old new (selected old new suite) ≡ true
+    unfolding rule2 selected
+    passes2 = allPairs-of (alike old new) (pairs old new) (λ n n′ l. pair-alike (pairs-sound old new n n′ l))
+
+    passes3 : rule3 old new (selected old new suite) ≡ true
+    unfolding rule3 entered bothCall selected
+    passes3 =
+        allPairs-of (entered old new (selected old new suite)) (pairs old new) (λ n n′ l. implies _ _ (λ k.
+        pairs-complete (callee-entries (pairs-sound old new n n′ l) (sameKind-true _ _ (and-left _ _ k)) (sameKind-true _ _ (and-right _ _ k)))))
+
+    -- A fitting edge is one that rule 4 asks for.
+    kept : (n n′ : ℕ) → listed (pairs old new) n n′ ≡ true → goesOn old new (pairs old new) n n′ ≡ true → (e : ℕ) → e < edgeCount old → sourceAt old e ≡ n
+        → (e′ : ℕ) → e′ < edgeCount new → (eqb (sourceAt new e′) n′ and fits old new e e′) ≡ true → keeps old new (selected old new suite) n′ e e′ ≡ true
+    unfolding keeps selected
+    kept n n′ l g e h s e′ h′ t =
+        let s′ : sourceAt new e′ ≡ n′ = eqb-true _ _ (and-left _ _ t) in
+        let f : fits old new e e′ ≡ true = and-right _ _ t in
+        let j = joined-of old new (pairs old new) e e′ (rw (s, s′) l) (rw (s, s′) g) f in
+        and-both (and-left _ _ t) (and-both (fits-word old new e e′ f) (pairs-complete (joined-ends e e′ h h′ j)))
+
+    edge-kept : (n n′ : ℕ) → listed (pairs old new) n n′ ≡ true → goesOn old new (pairs old new) n n′ ≡ true → (e : ℕ) → e < edgeCount old → sourceAt old e ≡ n
+        → (dangerous old new (pairs old new) e ≡ true) ⊎ (dangerous old new (pairs old new) e ≡ false)
+        → (has (dangers old new) e or any (edgeCount new) (keeps old new (selected old new suite) n′ e)) ≡ true
+    unfolding dangers fitted
+    edge-kept n n′ l g e h s (inl d) = or-left _ (those-of _ _ e h d)
+    edge-kept n n′ l g e h s (inr d) =
+        let r = any-at (λ e′. eqb (sourceAt new e′) n′ and fits old new e e′) (edgeCount new) (safe-fitted n n′ l g e s d) in
+        or-right _ (any-of (keeps old new (selected old new suite) n′ e) (edgeCount new) (r .0) (r .1) (kept n n′ l g e h s (r .0) (r .1) (r .2)))
+
+    passes4 : rule4 old new (selected old new suite) ≡ true
+    unfolding rule4 edgesKept edgeKept selected
+    passes4 =
+        allPairs-of (edgesKept old new (selected old new suite)) (pairs old new) (λ n n′ l. implies _ _ (λ g.
+        every-of (edgeKept old new (selected old new suite) n n′) (edgeCount old) (λ e h. implies _ _ (λ s.
+        edge-kept n n′ l g e h (eqb-true _ _ s) (passes? (dangerous old new (pairs old new) e))))))
+
+    passes5 : rule5 suite (selected old new suite) ≡ true
+    unfolding rule5 selected repeated
+    passes5 = every-of _ (length suite) (λ i h. implies _ _ (λ t. those-of (λ i. meets (dangers old new) (getD suite i [])) (length suite) i h t))
+
+    -- T2. What the selector writes passes the check.
+    pub selected-passes : broken old new suite (selected old new suite) ≡ 0
+    unfolding broken
+    selected-passes =
+        none-failed 1 _ passes1 (none-failed 2 _ passes2 (none-failed 3 _ passes3 (none-failed 4 _ passes4 (none-failed 5 _ passes5 (none-left 6)))))
+
+-- ---- exactly the closing rules
+
+pub exact : (old new : Program) → WellFormed old → WellFormed new → Exact old new
+exact old new wo wn =
+    record {
+      pairs-are = smallest old new wo wn;
+      pairs-ascend = pairs-ascend old new;
+      smallest = λ P r1 r2 r3 {n} {n′} p. least old new P r1 r2 r3 p;
+      dangers-are = dangers-iff old new wo wn;
+      dangers-rise = dangers-rise old new;
+      counterparts-are = joined-iff old new wo wn;
+      repeated-are = repeated-iff old new wo wn;
+    }

@@ -1,0 +1,64 @@
+-- What a run's end is: a run that has ended takes no step, so that it crosses nothing more.
+use mathlib.Core.Path.{_≡_, refl, sym, ap, _∙_, subst}
+use mathlib.Core.Logic.{⊎-elim}
+use mathlib.Core.Bool.{true, false, false≢true}
+use mathlib.Core.Option.{Option, none, some, Option·some-injective, Option·none-ne-some}
+use mathlib.Core.List.{List, [], _∷_, _++_}
+use Prim.Native.Nat.{ℕ, zero, suc}
+use Rattle.laws.specs.Tests.{has, after}
+use Rattle.laws.specs.TestLaws.{has-append, has-append-left, has-append-right}
+use Rattle.rules.specs.Text.{Bytes}
+use Rattle.rules.specs.Graph.{Kind, E, S, C, X, Program, kindAt, targetAt, edgeTaken, dash}
+use Rattle.rules.specs.Run.{Meaning, Config, listOf, across, stepAt, step, edgeAhead, crossing, run, trail, endedAt, ended}
+
+module _ {ℓ κ} {St : Type ℓ} {Out : Type κ} (p : Program) (m : Meaning St Out) where
+  -- A run that has ended takes no step.
+  pub ended-stops : (c : Config St Out) → ended p c ≡ true → step p m c ≡ none
+  unfolding ended endedAt step stepAt
+  ended-stops c e = go (kindAt p (c .node)) (c .calls) e
+    where
+      go : (k : Kind) (calls : List ℕ) → endedAt k calls ≡ true → stepAt p m k (c .word) calls c ≡ none
+      go E calls e = absurd (false≢true e)
+      go S calls e = absurd (false≢true e)
+      go C calls e = absurd (false≢true e)
+      go X [] e = refl
+      go X (k ∷ calls) e = absurd (false≢true e)
+
+  -- A step that crosses an edge ends on the end of that edge.
+  pub crossing-lands : (c d : Config St Out) (e : ℕ) → step p m c ≡ some d → crossing p c ≡ some e → d .node ≡ targetAt p e
+  unfolding step stepAt crossing edgeAhead
+  crossing-lands c d e s x = go (kindAt p (c .node)) (c .word) (c .calls) s x
+    where
+      land : (o : Option ℕ) (calls : List ℕ) → across p calls c o ≡ some d → o ≡ some e → d .node ≡ targetAt p e
+      land none calls s x = absurd (Option·none-ne-some e x)
+      land (some f) calls s x = sym (ap (λ (c : Config St Out). c .node) (Option·some-injective _ d s)) ∙ ap (targetAt p) (Option·some-injective f e x)
+
+      go : (k : Kind) (w : Option Bytes) (calls : List ℕ) → stepAt p m k w calls c ≡ some d → edgeAhead p k w calls (c .node) ≡ some e → d .node ≡ targetAt p e
+      go E w calls s x = land (edgeTaken p (c .node) dash) calls s x
+      go S none calls s x = absurd (Option·none-ne-some e x)
+      go S (some w) calls s x = land (edgeTaken p (c .node) w) calls s x
+      go C w calls s x = absurd (Option·none-ne-some e x)
+      go X w [] s x = absurd (Option·none-ne-some e x)
+      go X w (k ∷ calls) s x = land (edgeTaken p k dash) calls s x
+
+  -- Where a run has ended after k steps, it crosses no edge that it has not crossed in them.
+  pub ended-crosses : (k j : ℕ) (c d : Config St Out) → run p m k c ≡ some d → ended p d ≡ true
+      → (e : ℕ) → has (trail p m j c) e ≡ true → has (trail p m k c) e ≡ true
+  unfolding run trail has
+  ended-crosses k zero c d r t e h = absurd (false≢true h)
+  ended-crosses zero (suc j) c d r t e h =
+      go (step p m c) (ended-stops c (subst (λ (x : Config St Out). ended p x ≡ true) (sym (Option·some-injective c d r)) t)) h
+    where
+      go : (o : Option (Config St Out)) → o ≡ none → has (after o [] (λ d. listOf (crossing p c) ++ trail p m j d)) e ≡ true → false ≡ true
+      go none q h = h
+      go (some x) q h = absurd (Option·none-ne-some x (sym q))
+  ended-crosses (suc k) (suc j) c d r t e h = go (step p m c) r h (λ x r. ended-crosses k j x d r t e)
+    where
+      go : (o : Option (Config St Out)) → after o none (run p m k) ≡ some d
+          → has (after o [] (λ d. listOf (crossing p c) ++ trail p m j d)) e ≡ true
+          → ((x : Config St Out) → run p m k x ≡ some d → has (trail p m j x) e ≡ true → has (trail p m k x) e ≡ true)
+          → has (after o [] (λ d. listOf (crossing p c) ++ trail p m k d)) e ≡ true
+      go none r h ih = absurd (Option·none-ne-some d r)
+      go (some x) r h ih =
+          ⊎-elim (λ q. has-append-left (listOf (crossing p c)) (trail p m k x) e q) (λ q. has-append-right (listOf (crossing p c)) (trail p m k x) e (ih x r q))
+          (has-append (listOf (crossing p c)) (trail p m j x) e h)

@@ -1,0 +1,189 @@
+-- What the definitions of `Flow` give, above all of well-formed programs.
+use mathlib.Core.Path.{_≡_, refl, sym, ap, _∙_}
+use mathlib.Core.Logic.{_⊎_, inl, inr}
+use mathlib.Core.Bool.{Bool, true}
+use mathlib.Core.Option.{some}
+use Prim.Native.Nat.{ℕ, zero, suc, _≤_, _<_}
+use native.Mathlib.Omega.{arith}
+use lib.Dec.{eqb}
+use borrow.Author.Tests.{eqb-true, eq-eqb, ltb-true, leb-true, lt-ltb, le-leb}
+use Rattle.laws.specs.Tests.{first, count}
+use Rattle.laws.specs.TestLaws.{and-left, and-right, and-both, implied, implies, eqb-self, every-at, every-of, any-at, any-of, first-at, first-only, count-one}
+use Rattle.rules.specs.Text.{Bytes, same}
+use Rattle.rules.specs.Graph.{Kind, E, S, C, X, Program, WellFormed, nameAt, ownerAt, kindAt, calleeAt, sourceAt, wordAt, procCount, nodeCount, edgeCount, dash, kindNumber, sameKind, orZero, isOf, entry, exit, procOf, called, leaves, edgeTaken, degree, worded, procFine, nodeFine, edgeFine, wellFormed}
+use Rattle.rules.specs.Proofs.TextLaws.{same-of, same-true}
+
+kindOf : ℕ → Kind
+kindOf zero = E
+kindOf (suc zero) = S
+kindOf (suc (suc zero)) = C
+kindOf (suc (suc (suc n))) = X
+
+kindOf-number : (k : Kind) → kindOf (kindNumber k) ≡ k
+unfolding kindOf
+kindOf-number E = refl
+kindOf-number S = refl
+kindOf-number C = refl
+kindOf-number X = refl
+
+pub sameKind-true : (j k : Kind) → sameKind j k ≡ true → j ≡ k
+unfolding sameKind
+sameKind-true j k e = sym (kindOf-number j) ∙ ap kindOf (eqb-true _ _ e) ∙ kindOf-number k
+
+pub sameKind-self : (k : Kind) → sameKind k k ≡ true
+unfolding sameKind
+sameKind-self k = eqb-self (kindNumber k)
+
+pub sameKind-of : {j k : Kind} → j ≡ k → sameKind j k ≡ true
+sameKind-of {j} {k} p = rw p (sameKind-self k)
+
+pub isOf-true : (p : Program) (q : ℕ) (k : Kind) (n : ℕ) → isOf p q k n ≡ true → (ownerAt p n ≡ q) × (kindAt p n ≡ k)
+unfolding isOf
+isOf-true p q k n e = (eqb-true _ _ (and-left _ _ e), sameKind-true _ _ (and-right _ _ e))
+
+pub isOf-of : (p : Program) (q : ℕ) (k : Kind) (n : ℕ) → ownerAt p n ≡ q → kindAt p n ≡ k → isOf p q k n ≡ true
+unfolding isOf
+isOf-of p q k n a b = and-both (eq-eqb _ _ a) (sameKind-of b)
+
+pub leaves-true : (p : Program) (n : ℕ) (w : Bytes) (e : ℕ) → leaves p n w e ≡ true → (sourceAt p e ≡ n) × (wordAt p e ≡ w)
+unfolding leaves
+leaves-true p n w e h = (eqb-true _ _ (and-left _ _ h), same-true _ _ (and-right _ _ h))
+
+pub leaves-of : (p : Program) (n : ℕ) (w : Bytes) (e : ℕ) → sourceAt p e ≡ n → wordAt p e ≡ w → leaves p n w e ≡ true
+unfolding leaves
+leaves-of p n w e a b = and-both (eq-eqb _ _ a) (same-of b)
+
+-- What `edgeTaken` finds is an edge of that node with that word.
+pub taken-at : (p : Program) (n : ℕ) (w : Bytes) (e : ℕ) → edgeTaken p n w ≡ some e → (e < edgeCount p) × (sourceAt p e ≡ n) × (wordAt p e ≡ w)
+unfolding edgeTaken
+taken-at p n w e h =
+    let r = first-at (leaves p n w) (edgeCount p) e h in
+    let s = leaves-true p n w e (r .1) in
+    (r .0, s .0, s .1)
+
+-- A program that passes the test has these facts.
+pub wellFormed-says : (p : Program) → wellFormed p ≡ true → WellFormed p
+unfolding wellFormed procFine nodeFine edgeFine
+wellFormed-says p w =
+    let ps : (q : ℕ) → q < procCount p → procFine p q ≡ true = every-at (procFine p) (procCount p) (and-left _ _ (and-right _ _ w)) in
+    let ns : (n : ℕ) → n < nodeCount p → nodeFine p n ≡ true = every-at (nodeFine p) (nodeCount p) (and-left _ _ (and-right _ _ (and-right _ _ w))) in
+    let es : (e : ℕ) → e < edgeCount p → edgeFine p e ≡ true = every-at (edgeFine p) (edgeCount p) (and-right _ _ (and-right _ _ (and-right _ _ w))) in
+    record {
+      begins = ltb-true _ _ (and-left _ _ w);
+      entries = λ q h. eqb-true _ _ (and-left _ _ (ps q h));
+      exits = λ q h. eqb-true _ _ (and-left _ _ (and-right _ _ (ps q h)));
+      names = λ q r h i e. eqb-true _ _ (implied _ _ (every-at _ _ (and-right _ _ (and-right _ _ (ps q h))) r i) (same-of e));
+      owners = λ n h. ltb-true _ _ (and-left _ _ (ns n h));
+      fields = λ n h. and-left _ _ (and-right _ _ (ns n h));
+      fewestLeave = λ n h. leb-true _ _ (and-left _ _ (and-right _ _ (and-right _ _ (ns n h))));
+      mostLeave = λ n h. leb-true _ _ (and-left _ _ (and-right _ _ (and-right _ _ (and-right _ _ (ns n h)))));
+      callees = λ n h k.
+          let r = any-at _ _ (implied _ _ (and-right _ _ (and-right _ _ (and-right _ _ (and-right _ _ (ns n h))))) (sameKind-of k)) in
+          (r .0, r .1, same-true _ _ (r .2));
+      sources = λ e h. ltb-true _ _ (and-left _ _ (es e h));
+      targets = λ e h. ltb-true _ _ (and-left _ _ (and-right _ _ (es e h)));
+      stays = λ e h. eqb-true _ _ (and-left _ _ (and-right _ _ (and-right _ _ (es e h))));
+      dashes = λ e h. and-left _ _ (and-right _ _ (and-right _ _ (and-right _ _ (es e h))));
+      words = λ e f h i a b.
+          eqb-true _ _ (implied _ _ (every-at _ _ (and-right _ _ (and-right _ _ (and-right _ _ (and-right _ _ (es e h))))) f i) (leaves-of p _ _ f a b));
+    }
+
+-- A program with these facts passes the test.
+module _ (p : Program) (w : WellFormed p) where
+  proc-fine : (q : ℕ) → q < procCount p → procFine p q ≡ true
+  unfolding procFine
+  proc-fine q h =
+      and-both (eq-eqb _ _ (w .entries q h))
+      (and-both (eq-eqb _ _ (w .exits q h)) (every-of _ (procCount p) (λ r i. implies _ _ (λ e. eq-eqb _ _ (w .names q r h i (same-true _ _ e))))))
+
+  node-fine : (n : ℕ) → n < nodeCount p → nodeFine p n ≡ true
+  unfolding nodeFine
+  node-fine n h =
+      and-both (lt-ltb _ _ (w .owners n h))
+      (and-both (w .fields n h)
+      (and-both (le-leb _ _ (w .fewestLeave n h))
+      (and-both (le-leb _ _ (w .mostLeave n h))
+      (implies _ _ (λ k. let r = w .callees n h (sameKind-true _ _ k) in any-of _ (procCount p) (r .0) (r .1) (same-of (r .2)))))))
+
+  edge-fine : (e : ℕ) → e < edgeCount p → edgeFine p e ≡ true
+  unfolding edgeFine
+  edge-fine e h =
+      and-both (lt-ltb _ _ (w .sources e h))
+      (and-both (lt-ltb _ _ (w .targets e h))
+      (and-both (eq-eqb _ _ (w .stays e h))
+      (and-both (w .dashes e h)
+      (every-of _ (edgeCount p) (λ f i. implies _ _ (λ l. let t = leaves-true p _ _ f l in eq-eqb _ _ (w .words e f h i (t .0) (t .1))))))))
+
+  pub says-wellFormed : wellFormed p ≡ true
+  unfolding wellFormed
+  says-wellFormed =
+      and-both (lt-ltb _ _ (w .begins))
+      (and-both (every-of (procFine p) (procCount p) proc-fine)
+      (and-both (every-of (nodeFine p) (nodeCount p) node-fine) (every-of (edgeFine p) (edgeCount p) edge-fine)))
+
+-- The first number that passes, where one passes and no other.
+first-found : (n : ℕ) (f : ℕ → Bool) → count n f ≡ 1 → (i : ℕ) × (i < n) × (f i ≡ true) × ((j : ℕ) → j < n → f j ≡ true → j ≡ i) × (first n f ≡ some i)
+first-found n f e =
+    let r = count-one f n e in
+    (r .0, r .1, r .2, r .3, first-only f n (r .0) (r .1) (r .2) (r .3))
+
+module _ (p : Program) (wf : WellFormed p) where
+  -- The entry of a procedure is a node of it, of kind E.
+  pub entry-is : (q : ℕ) → q < procCount p → (entry p q < nodeCount p) × (ownerAt p (entry p q) ≡ q) × (kindAt p (entry p q) ≡ E)
+  unfolding entry orZero
+  entry-is q h =
+      let r = first-found (nodeCount p) (isOf p q E) (wf .entries q h) in
+      let s = isOf-true p q E (r .0) (r .2) in
+      rw (r .4) (r .1, s .0, s .1)
+
+  -- The only node of kind X of a procedure is its exit.
+  pub exit-is : (q : ℕ) → q < procCount p → (exit p q < nodeCount p) × (ownerAt p (exit p q) ≡ q) × (kindAt p (exit p q) ≡ X)
+  unfolding exit orZero
+  exit-is q h =
+      let r = first-found (nodeCount p) (isOf p q X) (wf .exits q h) in
+      let s = isOf-true p q X (r .0) (r .2) in
+      rw (r .4) (r .1, s .0, s .1)
+
+  pub exit-only : (q n : ℕ) → q < procCount p → n < nodeCount p → ownerAt p n ≡ q → kindAt p n ≡ X → n ≡ exit p q
+  unfolding exit orZero
+  exit-only q n h l a b =
+      let r = first-found (nodeCount p) (isOf p q X) (wf .exits q h) in
+      rw (r .4) (r .3 n l (isOf-of p q X n a b))
+
+  -- A call's procedure exists.
+  pub called-is : (n : ℕ) → n < nodeCount p → kindAt p n ≡ C → called p n < procCount p
+  unfolding procOf orZero
+  called-is n h k =
+      let r = wf .callees n h k in
+      let only : (j : ℕ) → j < procCount p → same (nameAt p j) (calleeAt p n) ≡ true → j ≡ r .0
+      = λ j l s. wf .names (r .0) j (r .1) l (same-true _ _ s ∙ sym (r .2)) in
+      rw (first-only (λ q. same (nameAt p q) (calleeAt p n)) (procCount p) (r .0) (r .1) (same-of (r .2)) only) (r .1)
+
+  -- An edge is the one of its node and word.
+  pub edge-is : (e n : ℕ) (w : Bytes) → e < edgeCount p → sourceAt p e ≡ n → wordAt p e ≡ w → edgeTaken p n w ≡ some e
+  unfolding edgeTaken
+  edge-is e n w h a b =
+      first-only (leaves p n w) (edgeCount p) e h (leaves-of p n w e a b)
+      (λ f l s. let t = leaves-true p n w f s in wf .words e f h l (t .0 ∙ sym a) (t .1 ∙ sym b))
+
+  -- A kind with one edge, named `-`.
+  its-edge-of : (n : ℕ) → n < nodeCount p → degree p n ≡ 1 → ((w : Bytes) → worded (kindAt p n) w ≡ true → w ≡ dash)
+      → (e : ℕ) × (edgeTaken p n dash ≡ some e) × ((f : ℕ) → f < edgeCount p → sourceAt p f ≡ n → f ≡ e)
+  unfolding degree
+  its-edge-of n h d k =
+      let r = count-one (λ e. eqb (sourceAt p e) n) (edgeCount p) d in
+      let s : sourceAt p (r .0) ≡ n = eqb-true _ _ (r .2) in
+      (r .0, edge-is (r .0) n dash (r .1) s (k _ (rw s at (wf .dashes (r .0) (r .1)))), λ f i a. r .3 f i (eq-eqb _ _ a))
+
+  -- An E or C has one edge, and it is the one with the word `-`: "its edge".
+  pub its-edge : (n : ℕ) → n < nodeCount p → (kindAt p n ≡ E) ⊎ (kindAt p n ≡ C)
+      → (e : ℕ) × (edgeTaken p n dash ≡ some e) × ((f : ℕ) → f < edgeCount p → sourceAt p f ≡ n → f ≡ e)
+  unfolding worded
+  its-edge n h (inl k) =
+      let lo : 1 ≤ degree p n = rw k at (wf .fewestLeave n h) in
+      let hi : degree p n ≤ 1 = rw k at (wf .mostLeave n h) in
+      its-edge-of n h (omega arith) (λ w t. same-true w dash (rw k at t))
+  its-edge n h (inr k) =
+      let lo : 1 ≤ degree p n = rw k at (wf .fewestLeave n h) in
+      let hi : degree p n ≤ 1 = rw k at (wf .mostLeave n h) in
+      its-edge-of n h (omega arith) (λ w t. same-true w dash (rw k at t))

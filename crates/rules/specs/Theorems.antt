@@ -1,0 +1,50 @@
+-- The promises, proved.
+use mathlib.Core.Path.{_≡_}
+use Rattle.rules.specs.Text.{Bytes}
+use Rattle.rules.specs.Promises.{AnswersPlain, ClosingRulesExact, Demand3, LabelShown, PassesExactly, ProgramLayout, ProgramPlaced, ProgramWellFormed, SuiteLayout, SuitePlaced}
+use Rattle.rules.specs.Proofs.Answers.{plain-answers}
+use Rattle.rules.specs.Proofs.Closure.{exact}
+use Rattle.rules.specs.Proofs.JobLaws.{checked-texts, marked-texts, unlisted-texts}
+use Rattle.rules.specs.Proofs.Lockstep.{unlisted}
+use Rattle.rules.specs.Proofs.Places.{listing-placed, label-part, tests-placed}
+use Rattle.rules.specs.Proofs.ProgramLaws.{read-well-formed}
+use Rattle.rules.specs.Proofs.ReadBack.{written-passes}
+use Rattle.rules.specs.Proofs.SheetLayout.{check-exact}
+use Rattle.rules.specs.Proofs.WriteProgram.{reads-layout}
+use Rattle.rules.specs.Proofs.WriteSuite.{reads-suite-layout}
+
+pub program-layout : ProgramLayout
+program-layout = reads-layout
+
+pub program-well-formed : ProgramWellFormed
+program-well-formed = read-well-formed
+
+pub suite-layout : SuiteLayout
+suite-layout = reads-suite-layout
+
+pub program-placed : ProgramPlaced
+program-placed = listing-placed
+
+pub suite-placed : SuitePlaced
+suite-placed = tests-placed
+
+pub label-shown : LabelShown
+label-shown = label-part
+
+pub closing-rules-exact : ClosingRulesExact
+closing-rules-exact old new p p′ e e′ = exact p p′ (read-well-formed old p e) (read-well-formed new p′ e′)
+
+pub passes-exactly : PassesExactly
+passes-exactly = check-exact
+
+pub demand3 {ℓ κ} : (St : Type ℓ) (Out : Type κ) (old new tests : Bytes) → Demand3 St Out old new tests
+demand3 St Out old new tests =
+    record {
+      checker = λ sheet e. checked-texts old new tests sheet e;
+      passes = λ room sheet e. written-passes old new tests room sheet e;
+      unlisted = λ room sheet e g r i l. unlisted-texts old new tests room sheet e g r i l;
+      marked = λ i room line e. marked-texts old new tests i room line e;
+    }
+
+pub answers-plain : (old new tests : Bytes) → AnswersPlain old new tests
+answers-plain old new tests = plain-answers old new tests
