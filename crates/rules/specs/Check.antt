@@ -45,4 +45,3 @@ rule5 suite s = every (length suite) (λ i. meets (s .D) (getD suite i []) ⇒ h
 -- The first broken rule, or 0.
 unfoldable pub broken : Program → Program → List Coverage → Sheet → ℕ
 broken old new suite s = firstFailed 1 (rule1 old new s ∷ rule2 old new s ∷ rule3 old new s ∷ rule4 old new s ∷ rule5 suite s ∷ [])
-

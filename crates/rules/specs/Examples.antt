@@ -1,13 +1,17 @@
 -- P1 to P8, refusals, and two runs, computed by the definitions from the texts to the bytes.
 use mathlib.Core.Path.{_≡_, refl}
-use mathlib.Core.List.{List, [], _∷_, _++_, map}
+use mathlib.Core.Bool.{Bool, true, false}
+use mathlib.Core.Option.{Option, none, some}
+use lib.Dec.{eqb}
+use mathlib.Core.List.{List, [], _∷_, _++_}
 use Prim.Native.Nat.{ℕ, zero, suc}
 use Prim.Native.String.{String}
-use Rattle.laws.specs.Tests.{_and_, _or_, _⇒_, isnt, every, any, orElse, ifTrue, first, plus, count, those, has, anyOf, listed, allPairs, anyPair, pick, gridRow, grid, firstFailed, choose, none?}
-use Rattle.rules.specs.Text.{Bytes, same, empty, bytes, maxBytes, then, unless, onto, split, joinBy, textOf, between, allBytes, nameByte, labelByte, wordByte, digitByte, isName, isLabel, isWord, isNumber, valueFrom, digits, decimal, readLines, readText}
-use Rattle.rules.specs.Graph.{sameKind, orZero, isOf, entry, exit, procOf, leaves, edgeTaken, degree, worded}
+use Rattle.laws.specs.Tests.{_and_, _or_, _⇒_, isnt, every, any, orElse, ifTrue, first, plus, count, those, has, anyOf, listed, allPairs, anyPair, pick, gridRow, grid, firstFailed, choose, none?, after}
+use Rattle.rules.specs.Text.{Bytes, same, empty, bytes, maxBytes, then, unless, onto, split, joinBy, textOf, between, allBytes, nameByte, labelByte, wordByte, digitByte, isName, isLabel, isWord, isNumber, valueFrom, digits, decimal, readLines, readText, Answer, accepted, refused}
+use Rattle.rules.specs.Graph.{sameKind, orZero, isOf, entry, exit, procOf, leaves, edgeTaken, degree, worded, Program, called}
 use Rattle.rules.specs.ProgramFile.{kindOf, isNode, isEdge, formOf, hasEdge, named, isNodeOf, hasWord, degreeFine, complete, lost, takeLine, stepProgram, finishProgram, readListing, readProgram}
 use Rattle.rules.specs.SuiteFile.{testForm, hexByte, hexValue, bitsOf, noneSet, rowFine, tested, takeTest, stepSuite, readTests, readSuite}
+use Rattle.rules.specs.Run.{Meaning, crossing, edgeAhead, ended, endedAt, listOf, run, start, step, stepAt, trail}
 use Rattle.rules.specs.Closing.{alike, fits, bothCall, fitted, goesOn, joined, byStart, byCall, byEdge, follows, grown, dangerousAt, dangerous, closed, pairs, dangers, meets, repeated, carries, carriesOnly, mark, sameCallee, sameLabel, sameWord}
 use Rattle.rules.specs.Sheet.{selected, mLine, dLine, rLine, endLine, sheetLines, sheetText, markByte, marksOf, crossed, vLine, recordText, sheetForm, before, allBelow, testOf, takeSheetLine, stepSheet, finishSheet, readSheet}
 use Rattle.rules.specs.Check.{entered, keeps, edgeKept, edgesKept, rule1, rule2, rule3, rule4, rule5, broken}
@@ -22,6 +26,17 @@ record Job : Type 0 where
 -- An example: what a call answers, and what document 01 says.
 abbrev pub Example : Type 0
 Example = Outcome × Outcome
+
+-- The two are equal; each of the list is answered so.
+unfoldable pub sameOutcome : Outcome → Outcome → Bool
+sameOutcome (wrote b) (wrote c) = same b c
+sameOutcome (wrote b) (refusal j q) = false
+sameOutcome (refusal k p) (wrote c) = false
+sameOutcome (refusal k p) (refusal j q) = eqb k j and eqb p q
+
+unfoldable pub answered : List Example → Bool
+answered [] = true
+answered (x ∷ l) = sameOutcome (x .0) (x .1) and answered l
 
 -- The sheet that is written; the record line of the test i; the check of a sheet.
 writes : Job → String → Example
@@ -90,25 +105,6 @@ examples =
     ∷ checks p2 "sheet,1\nM,0,0\nM,1,1\nM,3,3\nM,4,4\nR,t2\nend,4,0,1\n" (refusal 12 4)
     ∷ []
 
--- Names the definitions: where this unfolds, they compute.
-computing : Unit {0}
-unfolding
-    _and_ _or_ _⇒_ isnt choose every any orElse ifTrue first plus count those has anyOf listed allPairs anyPair pick gridRow grid firstFailed none?
-    same empty onto split joinBy textOf between allBytes nameByte labelByte wordByte digitByte isName isLabel isWord isNumber valueFrom digits decimal then unless readLines readText
-    sameKind orZero isOf entry exit procOf leaves edgeTaken degree worded
-    kindOf isNode isEdge formOf hasEdge named isNodeOf hasWord degreeFine complete lost takeLine stepProgram finishProgram readListing readProgram
-    testForm hexByte hexValue bitsOf noneSet rowFine tested takeTest stepSuite readTests readSuite
-    sameLabel sameCallee sameWord alike fits bothCall fitted goesOn joined byStart byCall byEdge follows grown dangerousAt dangerous closed pairs dangers meets repeated carries carriesOnly mark
-    selected mLine dLine rLine endLine sheetLines sheetText markByte marksOf crossed vLine recordText sheetForm before allBelow testOf takeSheetLine stepSheet finishSheet readSheet
-    entered keeps edgeKept edgesKept rule1 rule2 rule3 rule4 rule5 broken
-    outcome readJob writing sheetBytes recordBytes sheetAnswer recordAnswer judged checkAnswer
-computing = tt
-
--- The definitions answer P1 to P8 as document 01 says: one statement over their list, by computation.
-pub examples-answered : map (λ x. x .0) examples ≡ map (λ x. x .1) examples
-unfolding computing examples
-examples-answered = refl
-
 -- ---- refusals
 
 -- The text t, n times.
@@ -170,6 +166,56 @@ refusals =
     ∷ (recordAnswer (bytes layers) (bytes by-layer) (bytes two-tests) 0 12, refusal 16 0)
     ∷ []
 
-pub refusals-answered : map (λ x. x .0) refusals ≡ map (λ x. x .1) refusals
-unfolding computing refusals
-refusals-answered = refl
+-- ---- the statement
+
+-- The definitions answer P1 to P8, and the refusals, as document 01 says: one statement over their list, by computation.
+pub examples-answered : answered (examples ++ refusals) ≡ true
+unfolding answered sameOutcome examples refusals
+    _and_ _or_ _⇒_ isnt choose every any orElse ifTrue first plus count those has anyOf listed allPairs anyPair pick gridRow grid firstFailed none?
+    same empty onto split joinBy textOf between allBytes nameByte labelByte wordByte digitByte isName isLabel isWord isNumber valueFrom digits decimal then unless readLines readText
+    sameKind orZero isOf entry exit procOf called leaves edgeTaken degree worded
+    kindOf isNode isEdge formOf hasEdge named isNodeOf hasWord degreeFine complete lost takeLine stepProgram finishProgram readListing readProgram
+    testForm hexByte hexValue bitsOf noneSet rowFine tested takeTest stepSuite readTests readSuite
+    sameLabel sameCallee sameWord alike fits bothCall fitted goesOn joined byStart byCall byEdge follows grown dangerousAt dangerous closed pairs dangers meets repeated carries carriesOnly mark
+    selected mLine dLine rLine endLine sheetLines sheetText markByte marksOf crossed vLine recordText sheetForm before allBelow testOf takeSheetLine stepSheet finishSheet readSheet
+    entered keeps edgeKept edgesKept rule1 rule2 rule3 rule4 rule5 broken
+    outcome readJob writing sheetBytes recordBytes sheetAnswer recordAnswer judged checkAnswer
+examples-answered = refl
+
+-- ---- runs
+
+-- A meaning: the state counts actions, the output is the label, and the word is `stop` after `read layer` and else `ok`.
+counting : Meaning ℕ Bytes
+counting =
+    record {
+      next = λ l s. suc s;
+      out = λ l s. l;
+      word = λ l s. choose (same l (bytes "read layer")) (bytes "stop") (bytes "ok");
+    }
+
+-- After five steps from state 0: has the run ended, its state, its outputs, and the edges crossed.
+seen : Program → Option (Bool × ℕ × List Bytes × List ℕ)
+unfolding counting
+seen p = after (run p counting 5 (start p 0)) none (λ c. some (ended p c, c .state, c .outs, trail p counting 5 (start p 0)))
+
+ran : String → Option (Bool × ℕ × List Bytes × List ℕ)
+unfolding seen
+ran text = opened (readProgram (bytes text))
+  where
+    opened : Answer Program → Option (Bool × ℕ × List Bytes × List ℕ)
+    opened (refused k p) = none
+    opened (accepted p) = seen p
+
+-- A program whose call returns.
+returning : String
+returning = "P,main\nN,E,,\nN,C,wind,sub\nN,X,,\nB,0,-,1\nB,1,-,2\nP,sub\nN,E,,\nN,X,,\nB,3,-,4\n"
+
+-- P2's programs and the call that returns run as document 01 says.
+runs-computed : (ran layers ≡ some (true, 2, bytes "read layer" ∷ bytes "hold" ∷ [], 0 ∷ 2 ∷ 4 ∷ []))
+    × (ran by-layer ≡ some (true, 2, bytes "read layer" ∷ bytes "hold" ∷ [], 0 ∷ 2 ∷ 4 ∷ [])) × (ran returning ≡ some (true, 1, bytes "wind" ∷ [], 0 ∷ 2 ∷ 1 ∷ []))
+unfolding ran layers by-layer returning run step stepAt start trail crossing edgeAhead listOf ended endedAt
+    _and_ _or_ _⇒_ isnt choose every any orElse ifTrue first plus count
+    same empty onto split between allBytes nameByte labelByte wordByte digitByte isName isLabel isWord isNumber valueFrom then unless readLines readText
+    sameKind orZero isOf entry exit procOf called leaves edgeTaken degree worded
+    kindOf isNode isEdge formOf hasEdge named isNodeOf hasWord degreeFine complete lost takeLine stepProgram finishProgram readListing readProgram
+runs-computed = (refl, refl, refl)

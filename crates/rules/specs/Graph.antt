@@ -4,9 +4,9 @@ use mathlib.Core.Bool.{Bool, true}
 use mathlib.Core.Option.{Option, none, some}
 use mathlib.Core.List.{List, [], _∷_}
 use Prim.Native.Nat.{ℕ, _≤_, _<_}
-use lib.Dec.{eqb, leb, ltb}
+use lib.Dec.{eqb}
 use lib.ListN.{length, getD}
-use Rattle.laws.specs.Tests.{_and_, _⇒_, isnt, every, any, first, count}
+use Rattle.laws.specs.Tests.{_and_, isnt, first, count}
 use Rattle.rules.specs.Text.{Bytes, empty, same}
 
 -- The kinds of node: entry, step, call, exit.
@@ -116,7 +116,7 @@ exit p q = orZero (first (nodeCount p) (isOf p q X))
 unfoldable pub procOf : Program → Bytes → ℕ
 procOf p name = orZero (first (procCount p) (λ q. same (nameAt p q) name))
 
-abbrev pub called : Program → ℕ → ℕ
+unfoldable pub called : Program → ℕ → ℕ
 called p n = procOf p (calleeAt p n)
 
 -- The edge e leaves the node n with the word w; the edge that the node n takes for the word w.
@@ -160,33 +160,9 @@ worded S w = true
 worded C w = same w dash
 worded X w = true
 
--- The procedure q has one E and one X, and no other procedure has its name.
-unfoldable pub procFine : Program → ℕ → Bool
-procFine p q =
-    eqb (count (nodeCount p) (isOf p q E)) 1 and eqb (count (nodeCount p) (isOf p q X)) 1
-    and every (procCount p) (λ r. same (nameAt p r) (nameAt p q) ⇒ eqb r q)
-
--- The node n has a procedure, its fields filled, as many edges as the table says, and a callee that exists if it is a C.
-unfoldable pub nodeFine : Program → ℕ → Bool
-nodeFine p n =
-    ltb (ownerAt p n) (procCount p) and filled (kindAt p n) (labelAt p n) (calleeAt p n)
-    and leb (fewest (kindAt p n)) (degree p n) and leb (degree p n) (most (kindAt p n))
-    and (sameKind (kindAt p n) C ⇒ any (procCount p) (λ q. same (nameAt p q) (calleeAt p n)))
-
--- The edge e runs between two nodes of one procedure, its word suits its node, and no other edge of that node has it.
-unfoldable pub edgeFine : Program → ℕ → Bool
-edgeFine p e =
-    ltb (sourceAt p e) (nodeCount p) and ltb (targetAt p e) (nodeCount p)
-    and eqb (ownerAt p (sourceAt p e)) (ownerAt p (targetAt p e))
-    and worded (kindAt p (sourceAt p e)) (wordAt p e)
-    and every (edgeCount p) (λ f. leaves p (sourceAt p e) (wordAt p e) f ⇒ eqb f e)
-
--- The program is one that a program file gives.
-unfoldable pub wellFormed : Program → Bool
-wellFormed p =
-    ltb 0 (procCount p) and every (procCount p) (procFine p) and every (nodeCount p) (nodeFine p) and every (edgeCount p) (edgeFine p)
-
--- The same as facts.
+-- A program of the kind that a program file gives: it has a procedure; each procedure has one E, one X and a name of its own; each node has a procedure, its fields filled, as many
+-- edges as the table says and, if it is a C, a callee that exists; each edge leads from a node to one of the same procedure, with a word that suits the node and that no other edge of
+-- the node has.
 pub record WellFormed (p : Program) : Type 0 where
   pub begins : 0 < procCount p
   pub entries : (q : ℕ) → q < procCount p → count (nodeCount p) (isOf p q E) ≡ 1

@@ -1,4 +1,4 @@
--- The layouts, said without reading: how a program and a suite are written, and which follow the rules of document 01. The readers accept just these (WriteProgram, WriteSuite).
+-- The layouts, said without reading: how a program and a suite are written, and which programs, suites and sheets follow the rules. The readers accept just these.
 --
 use mathlib.Core.Path.{_≡_}
 use mathlib.Core.Bool.{Bool, true, false}
@@ -53,8 +53,8 @@ programLines p (suc q) = programLines p q ++ procLines p q
 unfoldable pub writeProgram : Program → Bytes
 writeProgram p = textOf (programLines p (procCount p))
 
--- A program that follows the rules: its structure (one E and one X, the table of degrees, `-`, callees, words); names, labels, callees and words of their bytes and lengths;
--- the nodes and the edges numbered procedure by procedure; the limits.
+-- A program that follows the rules: its structure (one E and one X, the table, `-`, callees, words); names, labels, callees and words of their bytes and lengths; the nodes and the
+-- edges numbered procedure by procedure; the limits.
 pub record Follows (p : Program) : Type 0 where
   pub structure : WellFormed p
   pub nameForms : (q : ℕ) → q < procCount p → isName (nameAt p q) ≡ true
@@ -110,7 +110,7 @@ pub record SuiteFollows (m : ℕ) (s : Suite) : Type 0 where
 
 -- ---- sheets
 
--- What a sheet has to be, so that its text is read back.
+-- A sheet that follows the rules: at most 4,096 pairs, ascending by old, then new; edges ascending; tests in the order of their file; all of these the files have.
 pub record SheetFollows (old new : Program) (suite : Suite) (c : Sheet) : Type 0 where
   pub fewPairs : length (c .M) ≤ maxPairs
   pub ascends : Ascending (c .M)

@@ -1,4 +1,4 @@
--- Program files: the forms of their lines, and what reading one answers (refusals 1 to 9). The laws are in ProgramLaws.
+-- Program files: the forms of their lines, and what reading one answers (refusals 1 to 9).
 use mathlib.Core.Bool.{Bool}
 use mathlib.Core.Option.{Option, none, some}
 use mathlib.Core.List.{List, [], _∷_, _++_}

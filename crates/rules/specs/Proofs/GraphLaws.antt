@@ -1,4 +1,4 @@
--- What the definitions of `Flow` give, above all of well-formed programs.
+-- What the definitions of Graph give, above all of well-formed programs.
 use mathlib.Core.Path.{_≡_, refl, sym, ap, _∙_}
 use mathlib.Core.Logic.{_⊎_, inl, inr}
 use mathlib.Core.Bool.{Bool, true}
@@ -6,11 +6,11 @@ use mathlib.Core.Option.{some}
 use Prim.Native.Nat.{ℕ, zero, suc, _≤_, _<_}
 use native.Mathlib.Omega.{arith}
 use lib.Dec.{eqb}
-use borrow.Author.Tests.{eqb-true, eq-eqb, ltb-true, leb-true, lt-ltb, le-leb}
+use borrow.Author.Tests.{eqb-true, eq-eqb}
 use Rattle.laws.specs.Tests.{first, count}
-use Rattle.laws.specs.TestLaws.{and-left, and-right, and-both, implied, implies, eqb-self, every-at, every-of, any-at, any-of, first-at, first-only, count-one}
+use Rattle.laws.specs.TestLaws.{and-left, and-right, and-both, eqb-self, first-at, first-only, count-one}
 use Rattle.rules.specs.Text.{Bytes, same}
-use Rattle.rules.specs.Graph.{Kind, E, S, C, X, Program, WellFormed, nameAt, ownerAt, kindAt, calleeAt, sourceAt, wordAt, procCount, nodeCount, edgeCount, dash, kindNumber, sameKind, orZero, isOf, entry, exit, procOf, called, leaves, edgeTaken, degree, worded, procFine, nodeFine, edgeFine, wellFormed}
+use Rattle.rules.specs.Graph.{Kind, E, S, C, X, Program, WellFormed, nameAt, ownerAt, kindAt, calleeAt, sourceAt, wordAt, procCount, nodeCount, edgeCount, dash, kindNumber, sameKind, orZero, isOf, entry, exit, procOf, called, leaves, edgeTaken, degree, worded}
 use Rattle.rules.specs.Proofs.TextLaws.{same-of, same-true}
 
 kindOf : ℕ → Kind
@@ -61,66 +61,6 @@ taken-at p n w e h =
     let s = leaves-true p n w e (r .1) in
     (r .0, s .0, s .1)
 
--- A program that passes the test has these facts.
-pub wellFormed-says : (p : Program) → wellFormed p ≡ true → WellFormed p
-unfolding wellFormed procFine nodeFine edgeFine
-wellFormed-says p w =
-    let ps : (q : ℕ) → q < procCount p → procFine p q ≡ true = every-at (procFine p) (procCount p) (and-left _ _ (and-right _ _ w)) in
-    let ns : (n : ℕ) → n < nodeCount p → nodeFine p n ≡ true = every-at (nodeFine p) (nodeCount p) (and-left _ _ (and-right _ _ (and-right _ _ w))) in
-    let es : (e : ℕ) → e < edgeCount p → edgeFine p e ≡ true = every-at (edgeFine p) (edgeCount p) (and-right _ _ (and-right _ _ (and-right _ _ w))) in
-    record {
-      begins = ltb-true _ _ (and-left _ _ w);
-      entries = λ q h. eqb-true _ _ (and-left _ _ (ps q h));
-      exits = λ q h. eqb-true _ _ (and-left _ _ (and-right _ _ (ps q h)));
-      names = λ q r h i e. eqb-true _ _ (implied _ _ (every-at _ _ (and-right _ _ (and-right _ _ (ps q h))) r i) (same-of e));
-      owners = λ n h. ltb-true _ _ (and-left _ _ (ns n h));
-      fields = λ n h. and-left _ _ (and-right _ _ (ns n h));
-      fewestLeave = λ n h. leb-true _ _ (and-left _ _ (and-right _ _ (and-right _ _ (ns n h))));
-      mostLeave = λ n h. leb-true _ _ (and-left _ _ (and-right _ _ (and-right _ _ (and-right _ _ (ns n h)))));
-      callees = λ n h k.
-          let r = any-at _ _ (implied _ _ (and-right _ _ (and-right _ _ (and-right _ _ (and-right _ _ (ns n h))))) (sameKind-of k)) in
-          (r .0, r .1, same-true _ _ (r .2));
-      sources = λ e h. ltb-true _ _ (and-left _ _ (es e h));
-      targets = λ e h. ltb-true _ _ (and-left _ _ (and-right _ _ (es e h)));
-      stays = λ e h. eqb-true _ _ (and-left _ _ (and-right _ _ (and-right _ _ (es e h))));
-      dashes = λ e h. and-left _ _ (and-right _ _ (and-right _ _ (and-right _ _ (es e h))));
-      words = λ e f h i a b.
-          eqb-true _ _ (implied _ _ (every-at _ _ (and-right _ _ (and-right _ _ (and-right _ _ (and-right _ _ (es e h))))) f i) (leaves-of p _ _ f a b));
-    }
-
--- A program with these facts passes the test.
-module _ (p : Program) (w : WellFormed p) where
-  proc-fine : (q : ℕ) → q < procCount p → procFine p q ≡ true
-  unfolding procFine
-  proc-fine q h =
-      and-both (eq-eqb _ _ (w .entries q h))
-      (and-both (eq-eqb _ _ (w .exits q h)) (every-of _ (procCount p) (λ r i. implies _ _ (λ e. eq-eqb _ _ (w .names q r h i (same-true _ _ e))))))
-
-  node-fine : (n : ℕ) → n < nodeCount p → nodeFine p n ≡ true
-  unfolding nodeFine
-  node-fine n h =
-      and-both (lt-ltb _ _ (w .owners n h))
-      (and-both (w .fields n h)
-      (and-both (le-leb _ _ (w .fewestLeave n h))
-      (and-both (le-leb _ _ (w .mostLeave n h))
-      (implies _ _ (λ k. let r = w .callees n h (sameKind-true _ _ k) in any-of _ (procCount p) (r .0) (r .1) (same-of (r .2)))))))
-
-  edge-fine : (e : ℕ) → e < edgeCount p → edgeFine p e ≡ true
-  unfolding edgeFine
-  edge-fine e h =
-      and-both (lt-ltb _ _ (w .sources e h))
-      (and-both (lt-ltb _ _ (w .targets e h))
-      (and-both (eq-eqb _ _ (w .stays e h))
-      (and-both (w .dashes e h)
-      (every-of _ (edgeCount p) (λ f i. implies _ _ (λ l. let t = leaves-true p _ _ f l in eq-eqb _ _ (w .words e f h i (t .0) (t .1))))))))
-
-  pub says-wellFormed : wellFormed p ≡ true
-  unfolding wellFormed
-  says-wellFormed =
-      and-both (lt-ltb _ _ (w .begins))
-      (and-both (every-of (procFine p) (procCount p) proc-fine)
-      (and-both (every-of (nodeFine p) (nodeCount p) node-fine) (every-of (edgeFine p) (edgeCount p) edge-fine)))
-
 -- The first number that passes, where one passes and no other.
 first-found : (n : ℕ) (f : ℕ → Bool) → count n f ≡ 1 → (i : ℕ) × (i < n) × (f i ≡ true) × ((j : ℕ) → j < n → f j ≡ true → j ≡ i) × (first n f ≡ some i)
 first-found n f e =
@@ -152,7 +92,7 @@ module _ (p : Program) (wf : WellFormed p) where
 
   -- A call's procedure exists.
   pub called-is : (n : ℕ) → n < nodeCount p → kindAt p n ≡ C → called p n < procCount p
-  unfolding procOf orZero
+  unfolding called procOf orZero
   called-is n h k =
       let r = wf .callees n h k in
       let only : (j : ℕ) → j < procCount p → same (nameAt p j) (calleeAt p n) ≡ true → j ≡ r .0

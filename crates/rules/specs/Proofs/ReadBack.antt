@@ -331,7 +331,7 @@ written-passes old new tests room sheet e =
     let o = chosen-orderly g _ h (u .2) in
     let f = chosen-few g _ h (u .2) (n .old-sound) in (
       passed-check old new tests sheet g c (u .1)
-      (subst (λ (b : Bytes). readSheet (g .old) (g .new) (g .suite) b ≡ accepted c) (u .4) (read-back (g .old) (g .new) (g .suite) (n .old-sound) (n .new-sound) _ h c o f))
-      (selected-passes (g .old) (g .new) (n .old-formed) (n .new-formed) (g .suite .coverages)),
+          (subst (λ (b : Bytes). readSheet (g .old) (g .new) (g .suite) b ≡ accepted c) (u .4) (read-back (g .old) (g .new) (g .suite) (n .old-sound) (n .new-sound) _ h c o f))
+          (selected-passes (g .old) (g .new) (n .old-formed) (n .new-formed) (g .suite .coverages)),
       subst (λ (b : Bytes). length b ≤ maxBytes) (u .4) (sheet-short (g .old) (g .new) (g .suite) (n .old-sound) (n .new-sound) _ h c o f),
     )
