@@ -76,6 +76,9 @@ winds-twice = "P,up\nN,E,,\nN,S,wind,\nN,S,wind,\nN,X,,\nB,0,-,1\nB,1,T,2\nB,1,F
 calls-itself : String
 calls-itself = "P,up\nN,E,,\nN,C,wind,up\nN,X,,\nB,0,-,1\nB,1,-,2\n"
 
+returning : String
+returning = "P,main\nN,E,,\nN,C,wind,sub\nN,X,,\nB,0,-,1\nB,1,-,2\nP,sub\nN,E,,\nN,X,,\nB,3,-,4\n"
+
 two-tests : String
 two-tests = "T,t1,a8\nT,t2,f8\n"
 
@@ -127,7 +130,7 @@ ofSheet sheet = checkAnswer (bytes layers) (bytes by-layer) (bytes two-tests) (b
 
 -- Refusals, with what is answered: 2 to 9 of programs, 1 and 4 by texts of 65,537 bytes and of 513 nodes; 2, 5 and 10 of tests; 2, 11 and 12 of sheets; 6 and 16 of the writers.
 pub refusals : List Example
-unfolding times ofProgram ofTests ofSheet layers by-layer two-tests
+unfolding times ofProgram ofTests ofSheet layers by-layer returning two-tests
 refusals =
     (ofProgram (times 65537 (10 ∷ [])), refusal 1 0)
     ∷ (ofProgram [], refusal 2 1)
@@ -160,6 +163,7 @@ refusals =
     ∷ (ofSheet "sheet,1\nend,0,0,0", refusal 2 2)
     ∷ (ofSheet "sheet,1\nend,0,0,0\n", refusal 12 1)
     ∷ (ofSheet "sheet,1\nM,0,0\nM,1,2\nend,2,0,0\n", refusal 12 2)
+    ∷ (checkAnswer (bytes returning) (bytes returning) [] (bytes "sheet,1\nM,0,0\nM,1,1\nend,2,0,0\n"), refusal 12 3)
     ∷ (ofSheet "sheet,1\nM,0,0\nD,0\nend,1,1,0\n", refusal 12 5)
     ∷ (sheetAnswer (bytes layers) (bytes by-layer) (bytes two-tests) 50, refusal 16 0)
     ∷ (recordAnswer (bytes layers) (bytes by-layer) (bytes two-tests) 2 maxBytes, refusal 6 0)
@@ -205,10 +209,6 @@ ran text = opened (readProgram (bytes text))
     opened : Answer Program → Option (Bool × ℕ × List Bytes × List ℕ)
     opened (refused k p) = none
     opened (accepted p) = seen p
-
--- A program whose call returns.
-returning : String
-returning = "P,main\nN,E,,\nN,C,wind,sub\nN,X,,\nB,0,-,1\nB,1,-,2\nP,sub\nN,E,,\nN,X,,\nB,3,-,4\n"
 
 -- P2's programs and the call that returns run as document 01 says.
 runs-computed : (ran layers ≡ some (true, 2, bytes "read layer" ∷ bytes "hold" ∷ [], 0 ∷ 2 ∷ 4 ∷ []))
