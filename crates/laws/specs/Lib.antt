@@ -1,4 +1,6 @@
--- Definitions and laws that several crates cite: Boolean tests over numbers and lists, and their laws.
+-- Definitions and laws that several crates cite: Boolean tests over numbers and lists, and their laws; parts of lists and stores into them; chains in a table.
 pub mod Tests
 pub mod TestLaws
 pub mod Lists
+pub mod Slices
+pub mod Chain

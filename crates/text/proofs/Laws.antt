@@ -1,0 +1,339 @@
+-- The turns and the returns of this crate's functions, as `search` finds them: the premises are what the code holds there.
+use mathlib.Core.Path.{_≡_, refl, sym, ap, _∙_}
+use mathlib.Core.Bool.{Bool, true, false}
+use mathlib.Core.List.{List, [], _∷_, _++_, append-nil}
+use Prim.Native.Nat.{ℕ, _+_, _-_, _*_, _/_, _%_, _^_, _≤_, _<_, min}
+use native.Mathlib.Nat.{add-sub-cancel-left}
+use native.Mathlib.Omega.{arith}
+use lib.Dec.{eqb, leb}
+use lib.ListN.{length, getD, take, drop, set, replicate, length-drop, length-append, List·getD-eq-default}
+use lib.Seq.{length-take-le, take-all, take-nil, set-out, sets}
+use borrow.Author.Fill.{fill-more}
+use borrow.Author.Tests.{eq-eqb, ne-eqb, le-leb, lt-leb}
+use Rattle.laws.specs.Tests.{_and_, _or_, isnt, choose}
+use Rattle.laws.specs.TestLaws.{and-right, false-isnt, fails, both-ways}
+use Rattle.laws.specs.Slices.{below-or, drop-at, drop-end, take-more, sets-more, sets-out}
+use Rattle.rules.specs.Text.{Bytes, same, between, allBytes, nameByte, labelByte, wordByte, digitByte, isName, isLabel, isWord, isNumber, valueFrom, decimal}
+use Rattle.rules.specs.SuiteFile.{hexByte}
+use Rattle.rules.specs.Proofs.TextLaws.{decimal-small, decimal-more}
+use Rattle.text.specs.Scans.{span, plainByte, classByte, sized}
+use Rattle.text.specs.SplitLaws.{span-hit, span-miss, span-end, counts, fields}
+use Rattle.text.specs.Puts.{Puts, puts-none, puts-then, puts-length}
+
+-- ---- `find`
+
+module _ (b : ℕ) (s : Bytes) (i : ℕ) (inv : span b s ≡ i + span b (drop i s)) where
+  pub find-hit : i < length s → getD s i 0 ≡ b → i ≡ span b s
+  find-hit h e = omega (arith, span-hit b s i h e)
+
+  pub find-on : i < length s → (getD s i 0 ≡ b → ⊥) → span b s ≡ i + 1 + span b (drop (i + 1) s)
+  find-on h e = omega (arith, span-miss b s i h e)
+
+  pub find-end : i ≤ length s → length s ≤ i → i ≡ span b s
+  find-end h e = omega (arith, span-end b s i e)
+
+pub ruleset finds = (find-hit, find-on, find-end)
+
+-- ---- `same`
+
+module _ (a b : Bytes) (i : ℕ) (inv : same a b ≡ same (drop i a) (drop i b)) where
+  pub same-on : i < length a → i < length b → getD a i 0 ≡ getD b i 0 → same a b ≡ same (drop (i + 1) a) (drop (i + 1) b)
+  unfolding same _and_
+  same-on h k e = inv ∙ simp (drop-at a i 0 h, drop-at b i 0 k, eq-eqb _ _ e)
+
+  pub same-not : i < length a → i < length b → (getD a i 0 ≡ getD b i 0 → ⊥) → false ≡ same a b
+  unfolding same _and_
+  same-not h k e = sym (inv ∙ simp (drop-at a i 0 h, drop-at b i 0 k, ne-eqb _ _ e))
+
+  pub same-long : i < length a → length b ≤ i → false ≡ same a b
+  unfolding same
+  same-long h k = sym (inv ∙ simp (drop-at a i 0 h, drop-end b i k))
+
+  pub same-done : length a ≤ i → leb (length b) i ≡ same a b
+  unfolding same
+  same-done h =
+      below-or i (length b)
+      (λ l. lt-leb (length b) i l ∙ sym (inv ∙ simp (drop-end a i h, drop-at b i 0 l)))
+      (λ l. le-leb (length b) i l ∙ sym (inv ∙ simp (drop-end a i h, drop-end b i l)))
+
+pub ruleset sames = (same-on, same-not, same-long, same-done)
+
+-- ---- `part`, `run`, `front`, `after`
+
+module _ (s : List ℕ) (start len : ℕ) where
+  pub part-out : length s < start → _≡_ {A = List ℕ} [] (take len (drop start s))
+  part-out h = sym (simp (drop-end s start (omega arith)) (take-nil len))
+
+  pub part-rest : length s - start < len → take (length s - start) (drop start s) ≡ take len (drop start s)
+  part-rest h = take-all (length s - start) (drop start s) (omega (arith, length-drop start s)) ∙ sym (take-all len (drop start s) (omega (arith, length-drop start s)))
+
+  pub part-in : take (start + len - start) (drop start s) ≡ take len (drop start s)
+  part-in = ap (λ (n : ℕ). take n (drop start s)) (add-sub-cancel-left start len)
+
+module _ (s : List ℕ) (n : ℕ) where
+  pub front-all : length s < n → s ≡ take n s
+  front-all h = sym (take-all n s (omega arith))
+
+  pub after-out : length s < n → _≡_ {A = List ℕ} [] (drop n s)
+  after-out h = sym (drop-end s n (omega arith))
+
+  pub after-in : take (length s - n) (drop n s) ≡ drop n s
+  after-in = take-all (length s - n) (drop n s) (omega (arith, length-drop n s))
+
+pub ruleset parts = (part-out, part-rest, part-in, front-all, after-out, after-in, length-take-le)
+
+-- ---- `get`, `put`, `clear`, `copy`
+
+pub get-out : (s : List ℕ) (i : ℕ) → length s ≤ i → 0 ≡ getD s i 0
+get-out s i h = sym (List·getD-eq-default s 0 h)
+
+pub put-out : (s : List ℕ) (i v : ℕ) → length s ≤ i → s ≡ set s i v
+put-out s i v h = sym (set-out s i v h)
+
+module _ (s₀ s : List ℕ) (i : ℕ) (inv : s ≡ replicate i 0 ++ drop i s₀) (l : length s ≡ length s₀) where
+  pub clear-on : i < length s → set s i 0 ≡ replicate (i + 1) 0 ++ drop (i + 1) s₀
+  clear-on h = simp inv (fill-more i 0 s₀ (omega arith))
+
+  pub clear-done : i ≤ length s₀ → length s ≤ i → s ≡ replicate (length s₀) 0
+  clear-done h k =
+      let n : i ≡ length s₀ = omega arith in
+      inv ∙ ap (λ (r : List ℕ). replicate i 0 ++ r) (drop-end s₀ i (omega arith)) ∙ append-nil (replicate i 0) ∙ ap (λ (m : ℕ). replicate m 0) n
+
+module _ (d₀ d s : List ℕ) (at k i : ℕ) (inv : sets d₀ at s ≡ sets d k (drop i s)) where
+  pub copy-on : i < length s → sets d₀ at s ≡ sets (set d k (getD s i 0)) (k + 1) (drop (i + 1) s)
+  copy-on h = inv ∙ ap (λ (l : List ℕ). sets d k l) (drop-at s i 0 h) ∙ sets-more d k (getD s i 0) (drop (i + 1) s)
+
+  pub copy-full : length d ≤ k → d ≡ sets d₀ at s
+  copy-full h = sym (inv ∙ sets-out (drop i s) d k h)
+
+  pub copy-done : length s ≤ i → d ≡ sets d₀ at s
+  copy-done h = sym (inv ∙ simp (drop-end s i h))
+
+pub ruleset stores = (get-out, put-out, clear-on, clear-done, copy-on, copy-full, copy-done)
+
+-- ---- the classes
+
+pub under : (a b x : ℕ) → x < a → false ≡ between a b x
+unfolding between _and_
+under a b x h = sym (simp (lt-leb a x h))
+
+pub from : (a b x : ℕ) → a ≤ x → leb x b ≡ between a b x
+unfolding between _and_
+from a b x h = sym (simp (le-leb a x h))
+
+module _ (x : ℕ) (t : Bool) (e : t ≡ between 65 90 x) where
+  pub name-upper : t ≡ true → true ≡ nameByte x
+  unfolding nameByte _or_
+  name-upper y = sym (simp (← e, y))
+
+  module _ (u : Bool) (n : t ≡ false) (f : u ≡ between 97 122 x) where
+    pub name-lower : u ≡ true → true ≡ nameByte x
+    unfolding nameByte _or_
+    name-lower y = sym (simp (← e, n, ← f, y))
+
+    module _ (v : Bool) (m : u ≡ false) (g : v ≡ between 48 57 x) where
+      pub name-digit : v ≡ true → true ≡ nameByte x
+      unfolding nameByte _or_
+      name-digit y = sym (simp (← e, n, ← f, m, ← g, y))
+
+      pub name-other : v ≡ false → eqb x 95 ≡ nameByte x
+      unfolding nameByte _or_
+      name-other y = sym (simp (← e, n, ← f, m, ← g, y))
+
+pub plain-comma : (a x : ℕ) → x ≡ 44 → false ≡ plainByte a x
+unfolding plainByte
+plain-comma a x h = sym (fails _ (λ p. both-ways (and-right _ _ p) (false-isnt (eq-eqb x 44 h))))
+
+and-true : (t : Bool) → (t and true) ≡ t
+unfolding _and_
+and-true true = refl
+and-true false = refl
+
+pub plain-other : (a x : ℕ) (t : Bool) → (x ≡ 44 → ⊥) → t ≡ between a 126 x → t ≡ plainByte a x
+unfolding plainByte isnt
+plain-other a x t h e = e ∙ sym (simp (ne-eqb x 44 h) (and-true (between a 126 x)))
+
+module _ (k x : ℕ) (r : Bool) where
+  pub class-name : k ≡ 0 → r ≡ nameByte x → r ≡ classByte k x
+  unfolding classByte choose
+  class-name h e = e ∙ sym (simp h)
+
+  pub class-label : k ≡ 1 → r ≡ plainByte 32 x → r ≡ classByte k x
+  unfolding classByte choose labelByte plainByte
+  class-label h e = e ∙ sym (simp h)
+
+  pub class-word : k ≡ 2 → r ≡ plainByte 33 x → r ≡ classByte k x
+  unfolding classByte choose wordByte plainByte
+  class-word h e = e ∙ sym (simp h)
+
+  pub class-digit : k ≡ 3 → r ≡ between 48 57 x → r ≡ classByte k x
+  unfolding classByte choose digitByte
+  class-digit h e = e ∙ sym (simp h)
+
+  module _ (a : k ≡ 0 → ⊥) (b : k ≡ 1 → ⊥) (c : k ≡ 2 → ⊥) (d : k ≡ 3 → ⊥) (e : r ≡ between 48 57 x) where
+    pub class-low : r ≡ true → true ≡ classByte k x
+    unfolding classByte choose hexByte _or_
+    class-low y = sym (simp (ne-eqb k 0 a, ne-eqb k 1 b, ne-eqb k 2 c, ne-eqb k 3 d, ← e, y))
+
+    pub class-high : (t : Bool) → r ≡ false → t ≡ between 97 102 x → t ≡ classByte k x
+    unfolding classByte choose hexByte _or_
+    class-high t y f = f ∙ sym (simp (ne-eqb k 0 a, ne-eqb k 1 b, ne-eqb k 2 c, ne-eqb k 3 d, ← e, y))
+
+pub ruleset classes = (under, from, name-upper, name-lower, name-digit, name-other, plain-comma, plain-other, class-name, class-label, class-word, class-digit, class-low, class-high)
+
+-- ---- `all_in`
+
+module _ (k : ℕ) (s : Bytes) (i : ℕ) (inv : allBytes (classByte k) s ≡ allBytes (classByte k) (drop i s)) where
+  pub all-on : (t : Bool) → i < length s → t ≡ classByte k (getD s i 0) → t ≡ true → allBytes (classByte k) s ≡ allBytes (classByte k) (drop (i + 1) s)
+  unfolding allBytes _and_
+  all-on t h e y = inv ∙ simp (drop-at s i 0 h, ← e, y)
+
+  pub all-not : (t : Bool) → i < length s → t ≡ classByte k (getD s i 0) → t ≡ false → false ≡ allBytes (classByte k) s
+  unfolding allBytes _and_
+  all-not t h e y = sym (inv ∙ simp (drop-at s i 0 h, ← e, y))
+
+  pub all-done : length s ≤ i → true ≡ allBytes (classByte k) s
+  unfolding allBytes
+  all-done h = sym (inv ∙ simp (drop-end s i h))
+
+pub ruleset alls = (all-on, all-not, all-done)
+
+-- ---- `sized` and the three that it serves
+
+module _ (k most : ℕ) (s : Bytes) where
+  pub sized-none : length s < 1 → false ≡ sized k most s
+  unfolding sized between _and_
+  sized-none h = sym (simp (lt-leb 1 (length s) h))
+
+  pub sized-long : 1 ≤ length s → most < length s → false ≡ sized k most s
+  unfolding sized between _and_
+  sized-long g h = sym (simp (le-leb 1 (length s) g, lt-leb (length s) most h))
+
+  pub sized-all : (t : Bool) → 1 ≤ length s → length s ≤ most → t ≡ allBytes (classByte k) s → t ≡ sized k most s
+  unfolding sized between _and_
+  sized-all t g h e = e ∙ sym (simp (le-leb 1 (length s) g, le-leb (length s) most h))
+
+module _ (s : Bytes) (r : Bool) where
+  pub sized-name : r ≡ sized 0 12 s → r ≡ isName s
+  unfolding sized isName classByte choose
+  sized-name e = e
+
+  pub sized-label : r ≡ sized 1 60 s → r ≡ isLabel s
+  unfolding sized isLabel classByte choose
+  sized-label e = e
+
+  pub sized-word : r ≡ sized 2 8 s → r ≡ isWord s
+  unfolding sized isWord classByte choose
+  sized-word e = e
+
+pub ruleset sizes = (sized-none, sized-long, sized-all, sized-name, sized-label, sized-word)
+
+-- ---- `is_number`
+
+-- A digit that is not 0 is from 1 to 9.
+lead-digit : (d : ℕ) → (d ≡ 48 → ⊥) → digitByte d ≡ between 49 57 d
+unfolding digitByte between _and_
+lead-digit d h =
+    below-or d 48
+    (λ l. simp (lt-leb 48 d l, lt-leb 49 d (omega arith)))
+    (λ l. simp (le-leb 48 d l, le-leb 49 d (omega arith)))
+
+pub number-none : (s : Bytes) → length s < 1 → false ≡ isNumber s
+unfolding isNumber
+number-none [] h = refl
+number-none (d ∷ ds) h = absurd (let z : ⊥ = omega arith in z)
+
+pub number-one : (s : Bytes) (t : Bool) → 1 ≤ length s → length s < 2 → t ≡ allBytes (classByte 3) s → t ≡ isNumber s
+unfolding isNumber allBytes classByte choose
+number-one [] t g h e = absurd (let z : ⊥ = omega arith in z)
+number-one (d ∷ []) t g h e = e ∙ and-true (digitByte d)
+number-one (d ∷ x ∷ ds) t g h e = absurd (let z : ⊥ = omega arith in z)
+
+pub number-zero : (s : Bytes) → 2 ≤ length s → getD s 0 0 ≡ 48 → false ≡ isNumber s
+unfolding isNumber between _and_
+number-zero [] g h = absurd (let z : ⊥ = omega arith in z)
+number-zero (d ∷ []) g h = absurd (let z : ⊥ = omega arith in z)
+number-zero (d ∷ x ∷ ds) g h = sym (simp h)
+
+pub number-more : (s : Bytes) (t : Bool) → 2 ≤ length s → (getD s 0 0 ≡ 48 → ⊥) → t ≡ allBytes (classByte 3) s → t ≡ isNumber s
+unfolding isNumber allBytes classByte choose
+number-more [] t g h e = absurd (let z : ⊥ = omega arith in z)
+number-more (d ∷ []) t g h e = absurd (let z : ⊥ = omega arith in z)
+number-more (d ∷ x ∷ ds) t g h e = e ∙ ap (λ (u : Bool). u and allBytes digitByte (x ∷ ds)) (lead-digit d h)
+
+pub ruleset numbers = (number-none, number-one, number-zero, number-more)
+
+-- ---- `value`
+
+value-step : (n : ℕ) (s : Bytes) (i : ℕ) → i < length s → valueFrom n (drop i s) ≡ valueFrom (n * 10 + (getD s i 0 - 48)) (drop (i + 1) s)
+unfolding valueFrom
+value-step n s i h = simp (drop-at s i 0 h)
+
+value-end : (n : ℕ) (s : Bytes) (i : ℕ) → length s ≤ i → valueFrom n (drop i s) ≡ n
+unfolding valueFrom
+value-end n s i h = simp (drop-end s i h)
+
+-- A number only grows as digits follow it: where it has reached the cap, the cap is what it comes to.
+value-grows : (ds : Bytes) (n : ℕ) → n ≤ valueFrom n ds
+unfolding valueFrom
+value-grows [] n = omega arith
+value-grows (d ∷ ds) n = omega (arith, value-grows ds (n * 10 + (d - 48)))
+
+value-capped : (w : ℕ) (ds : Bytes) → 65536 ≤ w → min (valueFrom w ds) 65536 ≡ min (valueFrom 65536 ds) 65536
+value-capped w ds h = omega (arith, value-grows ds w, value-grows ds 65536)
+
+module _ (s : Bytes) (v i : ℕ) (inv : min (valueFrom 0 s) 65536 ≡ min (valueFrom v (drop i s)) 65536) where
+  pub value-on : (d w : ℕ) → i < length s → d ≡ getD s i 0 - 48 → w ≡ v * 10 + d → min (valueFrom 0 s) 65536 ≡ min (valueFrom w (drop (i + 1) s)) 65536
+  value-on d w h e f =
+      let q : v * 10 + (getD s i 0 - 48) ≡ w = omega arith in
+      inv ∙ ap (λ (n : ℕ). min n 65536) (value-step v s i h ∙ ap (λ (n : ℕ). valueFrom n (drop (i + 1) s)) q)
+
+  pub value-over : (d w : ℕ) → i < length s → d ≡ getD s i 0 - 48 → w ≡ v * 10 + d → 65536 ≤ w → min (valueFrom 0 s) 65536 ≡ min (valueFrom 65536 (drop (i + 1) s)) 65536
+  value-over d w h e f l = value-on d w h e f ∙ value-capped w (drop (i + 1) s) l
+
+  pub value-done : length s ≤ i → v ≤ 65536 → v ≡ min (valueFrom 0 s) 65536
+  value-done h l = omega (arith, ap (λ (n : ℕ). min n 65536) (value-end v s i h))
+
+pub ruleset values = (value-on, value-over, value-done)
+
+-- ---- `put_byte`, `put_bytes`, `put_decimal`
+
+pub byte-past : (o : List ℕ) (at b : ℕ) → length o ≤ at → Puts o at (b ∷ []) (at + 1) o
+byte-past o at b h = record { next = refl; bytes = sym (set-out o at b h) }
+
+pub bytes-none : (o s : List ℕ) (at : ℕ) → Puts o at (take 0 s) at o
+bytes-none o s at = puts-none o at
+
+module _ (o o₁ s : List ℕ) (at k i : ℕ) (inv : Puts o at (take i s) k o₁) where
+  pub bytes-room : i < length s → at + length s < 2 ^ 64 → k + 1 < 2 ^ 64
+  bytes-room h l = omega (arith, inv .next, length-take-le i s (omega arith))
+
+  pub bytes-on : (o₂ : List ℕ) (r : ℕ) → i < length s → Puts o₁ k (getD s i 0 ∷ []) r o₂ → Puts o at (take (i + 1) s) r o₂
+  bytes-on o₂ r h p = rw (take-more s i 0 h) (puts-then inv p)
+
+  pub bytes-done : length s ≤ i → Puts o at s k o₁
+  bytes-done h = rw (take-all i s h) at inv
+
+pub decimal-one : {o o₁ : List ℕ} {at r x d : ℕ} → x < 10 → d ≡ 48 + x % 10 → Puts o at (d ∷ []) r o₁ → Puts o at (decimal x) r o₁
+decimal-one {o} {o₁} {at} {r} {x} h e p = rw (decimal-small x h) (rw e at p)
+
+pub decimal-on : {o o₁ o₂ : List ℕ} {at r₁ r₂ x d : ℕ} → 10 ≤ x → d ≡ 48 + x % 10 → Puts o at (decimal (x / 10)) r₁ o₁ → Puts o₁ r₁ (d ∷ []) r₂ o₂ → Puts o at (decimal x) r₂ o₂
+decimal-on {o} {o₁} {o₂} {at} {r₁} {r₂} {x} h e p q = rw (decimal-more x h) (puts-then p (rw e at q))
+
+-- Room for one digit, for the digits before the last, and for the last.
+decimal-length : (x : ℕ) → 10 ≤ x → length (decimal x) ≡ length (decimal (x / 10)) + 1
+decimal-length x h = rw (decimal-more x h) (length-append (decimal (x / 10)) _)
+
+module _ (at x : ℕ) (l : at + length (decimal x) < 2 ^ 64) where
+  pub room-one : x < 10 → at + 1 < 2 ^ 64
+  room-one h = omega (arith, ap length (decimal-small x h))
+
+  pub room-before : 10 ≤ x → at + length (decimal (x / 10)) < 2 ^ 64
+  room-before h = omega (arith, decimal-length x h)
+
+  pub room-last : (o o₁ : List ℕ) (r : ℕ) → 10 ≤ x → Puts o at (decimal (x / 10)) r o₁ → r + 1 < 2 ^ 64
+  room-last o o₁ r h p = omega (arith, decimal-length x h, p .next)
+
+pub ruleset writes = (byte-past, bytes-none, bytes-room, bytes-on, bytes-done, decimal-one, decimal-on, room-one, room-before, room-last, puts-length)
+
+pub ruleset all = (finds, sames, parts, stores, classes, alls, sizes, numbers, counts, fields, values, writes)

@@ -1,0 +1,53 @@
+use borrow.Author.Needs.{needs}
+use Rattle.text.proofs.Laws.{all}
+use Prim.Native.Nat.{_≤_, _-_}
+use mathlib.Core.Path.{_≡_}
+use mathlib.Core.List.{_++_}
+use lib.ListN.{length, drop, replicate}
+use Rattle.text.proofs.clear.Statement.{statement}
+use Rattle.text.proofs.clear.Tie as tie
+
+abbrev Inv-loop : tie.InvT-loop
+Inv-loop s₀ i₀ s i = (i ≤ length s₀) × (length s ≡ length s₀) × (s ≡ replicate i 0 ++ drop i s₀)
+
+abbrev μ-loop : tie.MeasureT-loop
+μ-loop s₀ i₀ s i = length s₀ - i
+
+loop-holds : tie.Need-loop-holds Inv-loop μ-loop
+loop-holds c = search (all, needs)
+
+mul-s : tie.Need-mul-s Inv-loop μ-loop
+mul-s c = search (all, needs)
+
+slice-write-s : tie.Need-slice-write-s Inv-loop μ-loop
+slice-write-s c = search (all, needs)
+
+add-i : tie.Need-add-i Inv-loop μ-loop
+add-i c = search (all, needs)
+
+loop-less : tie.Need-loop-less Inv-loop μ-loop
+loop-less c = search (all, needs)
+
+loop-again : tie.Need-loop-again Inv-loop μ-loop
+loop-again c = search (all, needs)
+
+same-length : tie.Need-same-length Inv-loop μ-loop
+same-length c = search (all, needs)
+
+returns : tie.Need-returns Inv-loop μ-loop
+returns c = search (all, needs)
+
+pub clear-spec : {M : Type 1} → statement M
+clear-spec =
+    tie.close
+    (tie.spec
+    Inv-loop
+    μ-loop
+    loop-holds
+    mul-s
+    slice-write-s
+    add-i
+    loop-less
+    loop-again
+    same-length
+    returns)

@@ -1,0 +1,384 @@
+// Texts as slices of bytes, and tables as slices of numbers: scans, parts, fields, numbers, and writing. Every function takes any slice and
+// any place: a part that goes past the end is cut there, a read past the end is 0, and a store past the end does nothing. A writer requires
+// only that the next place can be counted.
+ghost use mathlib.Core.Path.{_≡_};
+ghost use mathlib.Core.List.{List, _∷_, []};
+ghost use Prim.Native.Nat.{_+_, _-_, _%_, _^_, _<_, min};
+ghost use lib.ListN.{take, drop, getD, set, length, replicate};
+ghost use lib.Seq.{sets};
+ghost use Rattle.rules.specs.Text.{
+  allBytes,
+  between as within,
+  decimal,
+  isLabel,
+  isName,
+  isNumber,
+  isWord,
+  nameByte,
+  same as sameBytes,
+  split,
+  value as valueOf,
+};
+ghost use Rattle.text.specs.Puts.{Puts};
+ghost use Rattle.text.specs.Scans.{classByte, plainByte, sized as isSized, span};
+
+// How many bytes stand before the first b: all of them, where there is none.
+pub fn find(s: &[u8], b: u8) -> usize
+    ensures { λ r. ⌜ r ≡ span b (now (s .entry)) ⌝ }
+{
+    let mut i = 0;
+    while i < s.len() {
+        if s[i] == b {
+            return i;
+        }
+        i += 1;
+    }
+    i
+}
+
+// Whether the two hold the same bytes.
+pub fn same(a: &[u8], b: &[u8]) -> bool
+    ensures { λ r. ⌜ r ≡ sameBytes (now (a .entry)) (now (b .entry)) ⌝ }
+{
+    let mut i = 0;
+    while i < a.len() {
+        if b.len() <= i {
+            return false;
+        }
+        if a[i] != b[i] {
+            return false;
+        }
+        i += 1;
+    }
+    b.len() <= i
+}
+
+// The part of s from start, len bytes long, cut at the end of s.
+pub fn part(s: &[u8], start: usize, len: usize) -> &[u8]
+    ensures { λ r. ⌜ now r ≡ take len (drop start (now (s .entry))) ⌝ }
+{
+    if s.len() < start {
+        return &s[..0];
+    }
+    if s.len() - start < len {
+        return &s[start..];
+    }
+    let end = start + len;
+    &s[start..end]
+}
+
+// The first n bytes, or all where there are fewer.
+pub fn front(s: &[u8], n: usize) -> &[u8]
+    ensures { λ r. ⌜ now r ≡ take n (now (s .entry)) ⌝ }
+{
+    if s.len() < n {
+        return s;
+    }
+    &s[..n]
+}
+
+// What stands after the first n bytes.
+pub fn after(s: &[u8], n: usize) -> &[u8]
+    ensures { λ r. ⌜ now r ≡ drop n (now (s .entry)) ⌝ }
+{
+    if s.len() < n {
+        return &s[..0];
+    }
+    &s[n..]
+}
+
+// What stands at i, or 0 past the end.
+pub fn get(s: &[usize], i: usize) -> usize
+    ensures { λ r. ⌜ r ≡ getD (now (s .entry)) i 0 ⌝ }
+{
+    if i < s.len() {
+        return s[i];
+    }
+    0
+}
+
+// Puts v at i; past the end, nothing.
+pub fn put(s: &mut [usize], i: usize, v: usize)
+    ensures { λ _. ⌜ now (s .exit) ≡ set (now (s .entry)) i v ⌝ }
+{
+    if i < s.len() {
+        s[i] = v;
+    }
+}
+
+// The part of s from start, len numbers long, cut at the end of s.
+pub fn run(s: &[usize], start: usize, len: usize) -> &[usize]
+    ensures { λ r. ⌜ now r ≡ take len (drop start (now (s .entry))) ⌝ }
+{
+    if s.len() < start {
+        return &s[..0];
+    }
+    if s.len() - start < len {
+        return &s[start..];
+    }
+    let end = start + len;
+    &s[start..end]
+}
+
+// Makes every number 0.
+pub fn clear(s: &mut [usize])
+    ensures { λ _. ⌜ now (s .exit) ≡ replicate (length (now (s .entry))) 0 ⌝ }
+{
+    let mut i = 0;
+    while i < s.len() {
+        s[i] = 0;
+        i += 1;
+    }
+}
+
+// Puts the numbers of s into d from at on, as far as d goes.
+pub fn copy(d: &mut [usize], at: usize, s: &[usize])
+    ensures { λ _. ⌜ now (d .exit) ≡ sets (now (d .entry)) at (now (s .entry)) ⌝ }
+{
+    let mut k = at;
+    let mut i = 0;
+    while i < s.len() {
+        if d.len() <= k {
+            return;
+        }
+        d[k] = s[i];
+        k += 1;
+        i += 1;
+    }
+}
+
+// Whether x is from a to b.
+fn between(a: u8, b: u8, x: u8) -> bool
+    ensures { λ r. ⌜ r ≡ within a b x ⌝ }
+{
+    if x < a {
+        return false;
+    }
+    x <= b
+}
+
+// Whether x is a byte of a name.
+fn name_byte(x: u8) -> bool
+    ensures { λ r. ⌜ r ≡ nameByte x ⌝ }
+{
+    if between(65, 90, x) {
+        return true;
+    }
+    if between(97, 122, x) {
+        return true;
+    }
+    if between(48, 57, x) {
+        return true;
+    }
+    x == 95
+}
+
+// Whether x is from a to 126, and no comma.
+fn plain_byte(a: u8, x: u8) -> bool
+    ensures { λ r. ⌜ r ≡ plainByte a x ⌝ }
+{
+    if x == 44 {
+        return false;
+    }
+    between(a, 126, x)
+}
+
+// Whether x is of the class k: 0 of a name, 1 of a label, 2 of a word, 3 a decimal digit, else a lower-case hexadecimal digit.
+pub fn in_class(k: u8, x: u8) -> bool
+    ensures { λ r. ⌜ r ≡ classByte k x ⌝ }
+{
+    if k == 0 {
+        return name_byte(x);
+    }
+    if k == 1 {
+        return plain_byte(32, x);
+    }
+    if k == 2 {
+        return plain_byte(33, x);
+    }
+    if k == 3 {
+        return between(48, 57, x);
+    }
+    if between(48, 57, x) {
+        return true;
+    }
+    between(97, 102, x)
+}
+
+// Whether every byte is of the class k.
+pub fn all_in(k: u8, s: &[u8]) -> bool
+    ensures { λ r. ⌜ r ≡ allBytes (classByte k) (now (s .entry)) ⌝ }
+{
+    let mut i = 0;
+    while i < s.len() {
+        if in_class(k, s[i]) {
+            i += 1;
+        } else {
+            return false;
+        }
+    }
+    true
+}
+
+// Whether there are from 1 to `most` bytes, all of the class k.
+fn sized(k: u8, most: usize, s: &[u8]) -> bool
+    ensures { λ r. ⌜ r ≡ isSized k most (now (s .entry)) ⌝ }
+{
+    if s.len() < 1 {
+        return false;
+    }
+    if most < s.len() {
+        return false;
+    }
+    all_in(k, s)
+}
+
+// Whether the bytes are a name.
+pub fn is_name(s: &[u8]) -> bool
+    ensures { λ r. ⌜ r ≡ isName (now (s .entry)) ⌝ }
+{
+    sized(0, 12, s)
+}
+
+// Whether the bytes are a label.
+pub fn is_label(s: &[u8]) -> bool
+    ensures { λ r. ⌜ r ≡ isLabel (now (s .entry)) ⌝ }
+{
+    sized(1, 60, s)
+}
+
+// Whether the bytes are a word.
+pub fn is_word(s: &[u8]) -> bool
+    ensures { λ r. ⌜ r ≡ isWord (now (s .entry)) ⌝ }
+{
+    sized(2, 8, s)
+}
+
+// Whether the bytes are a number: digits, of which the first is 0 only where it is the only one.
+pub fn is_number(s: &[u8]) -> bool
+    ensures { λ r. ⌜ r ≡ isNumber (now (s .entry)) ⌝ }
+{
+    if s.len() < 1 {
+        return false;
+    }
+    if s.len() < 2 {
+        return all_in(3, s);
+    }
+    if s[0] == 48 {
+        return false;
+    }
+    all_in(3, s)
+}
+
+// How many fields there are between the bytes b.
+pub fn count(s: &[u8], b: u8) -> usize
+    ensures { λ r. ⌜ r ≡ length (split b (now (s .entry))) ⌝ }
+{
+    let mut n = 1;
+    let mut i = 0;
+    while i < s.len() {
+        if s[i] == b {
+            n += 1;
+            i += 1;
+        } else {
+            i += 1;
+        }
+    }
+    n
+}
+
+// The field k between the bytes b, empty where there are not so many.
+pub fn field(s: &[u8], b: u8, k: usize) -> &[u8]
+    ensures { λ r. ⌜ now r ≡ getD (split b (now (s .entry))) k [] ⌝ }
+{
+    let mut at = 0;
+    let mut j = k;
+    while at <= s.len() {
+        let rest = after(s, at);
+        let n = find(rest, b);
+        if j == 0 {
+            return front(rest, n);
+        }
+        if rest.len() <= n {
+            return front(rest, 0);
+        }
+        at = at + n + 1;
+        j -= 1;
+    }
+    front(s, 0)
+}
+
+// The number of a digit.
+fn digit(b: u8) -> usize
+    ensures { λ r. ⌜ (r ≡ b - 48) × (r < 256) ⌝ }
+{
+    if 48 <= b {
+        return (b - 48) as usize;
+    }
+    0
+}
+
+// The number that the digits spell, or 65536 where it is more.
+pub fn value(s: &[u8]) -> usize
+    ensures { λ r. ⌜ r ≡ min (valueOf (now (s .entry))) 65536 ⌝ }
+{
+    let mut v: usize = 0;
+    let mut i = 0;
+    while i < s.len() {
+        let d = digit(s[i]);
+        let w = v * 10 + d;
+        if w < 65536 {
+            v = w;
+            i += 1;
+        } else {
+            v = 65536;
+            i += 1;
+        }
+    }
+    v
+}
+
+// Stores b at the place `at`, if it is inside out; the next place either way.
+pub fn put_byte(out: &mut [u8], at: usize, b: u8) -> usize
+    requires { ⌜ at + 1 < 2 ^ 64 ⌝ }
+    ensures { λ r. ⌜ Puts (now (out .entry)) at (b ∷ []) r (now (out .exit)) ⌝ }
+{
+    if at < out.len() {
+        out[at] = b;
+        return at + 1;
+    }
+    at + 1
+}
+
+// Stores the bytes of s from the place `at` on, as far as out goes; the place behind them.
+pub fn put_bytes(out: &mut [u8], at: usize, s: &[u8]) -> usize
+    requires { ⌜ at + length (now s) < 2 ^ 64 ⌝ }
+    ensures { λ r. ⌜ Puts (now (out .entry)) at (now (s .entry)) r (now (out .exit)) ⌝ }
+{
+    let mut k = at;
+    let mut i = 0;
+    while i < s.len() {
+        k = put_byte(out, k, s[i]);
+        i += 1;
+    }
+    k
+}
+
+// The last digit of x.
+fn last_digit(x: usize) -> u8
+    ensures { λ r. ⌜ r ≡ 48 + x % 10 ⌝ }
+{
+    48 + (x % 10) as u8
+}
+
+// Stores x in decimal from the place `at` on, as far as out goes; the place behind it.
+pub fn put_decimal(out: &mut [u8], at: usize, x: usize) -> usize
+    requires { ⌜ at + length (decimal x) < 2 ^ 64 ⌝ }
+    ensures { λ r. ⌜ Puts (now (out .entry)) at (decimal x) r (now (out .exit)) ⌝ }
+{
+    if x < 10 {
+        return put_byte(out, at, last_digit(x));
+    }
+    let next = put_decimal(out, at, x / 10);
+    put_byte(out, next, last_digit(x))
+}
