@@ -1,5 +1,5 @@
 use borrow.Author.Needs.{needs}
-use Rattle.text.proofs.Laws.{all}
+use Rattle.text.proofs.Laws.{decimal-one, decimal-on, room-one, room-before, room-last}
 use Prim.Native.Nat.{ℕ, _<_}
 use borrow.Fn.Kinds.{In}
 use borrow.Fn.PlainCycle.{Measures, is, falls, and}
@@ -28,31 +28,31 @@ R t =
     (last-digit-reads.Asked, last-digit-reads.Learnt, put-byte-reads.Asked, put-byte-reads.Learnt, put-decimal-below t, put-decimal.Post)
 
 put-decimal-last-digit-requires : (t : ℕ) → put-decimal-lts.Need-last-digit-requires (R t) (put-decimal-at t) put-decimal.Post
-put-decimal-last-digit-requires t c κs = search (all, needs)
+put-decimal-last-digit-requires t c κs = search needs
 
 put-decimal-put-byte-requires : (t : ℕ) → put-decimal-lts.Need-put-byte-requires (R t) (put-decimal-at t) put-decimal.Post
-put-decimal-put-byte-requires t c κs = search (all, needs)
+put-decimal-put-byte-requires t c κs = search (room-one, needs)
 
 put-decimal-same-length : (t : ℕ) → put-decimal-lts.Need-same-length (R t) (put-decimal-at t) put-decimal.Post
-put-decimal-same-length t c = search (all, needs)
+put-decimal-same-length t c = search needs
 
 put-decimal-returns : (t : ℕ) → put-decimal-lts.Need-returns (R t) (put-decimal-at t) put-decimal.Post
-put-decimal-returns t c = search (all, needs)
+put-decimal-returns t c = search decimal-one
 
 put-decimal-put-decimal-requires : (t : ℕ) → put-decimal-lts.Need-put-decimal-requires (R t) (put-decimal-at t) put-decimal.Post
-put-decimal-put-decimal-requires t c κs = search (all, needs)
+put-decimal-put-decimal-requires t c κs = search (room-before, needs)
 
 put-decimal-last-digit-requires-2 : (t : ℕ) → put-decimal-lts.Need-last-digit-requires-2 (R t) (put-decimal-at t) put-decimal.Post
-put-decimal-last-digit-requires-2 t c κs = search (all, needs)
+put-decimal-last-digit-requires-2 t c κs = search needs
 
 put-decimal-put-byte-requires-2 : (t : ℕ) → put-decimal-lts.Need-put-byte-requires-2 (R t) (put-decimal-at t) put-decimal.Post
-put-decimal-put-byte-requires-2 t c κs = search (all, needs)
+put-decimal-put-byte-requires-2 t c κs = search (room-last, needs)
 
 put-decimal-same-length-2 : (t : ℕ) → put-decimal-lts.Need-same-length-2 (R t) (put-decimal-at t) put-decimal.Post
-put-decimal-same-length-2 t c = search (all, needs)
+put-decimal-same-length-2 t c = search needs
 
 put-decimal-returns-2 : (t : ℕ) → put-decimal-lts.Need-returns-2 (R t) (put-decimal-at t) put-decimal.Post
-put-decimal-returns-2 t c = search (all, needs)
+put-decimal-returns-2 t c = search decimal-on
 
 pub +put-decimal-spec : {M : Type 1} → statement M
 +put-decimal-spec = close μ-put-decimal λ t. put-decimal-lts.spec (R t)

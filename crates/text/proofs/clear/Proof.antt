@@ -17,22 +17,22 @@ loop-holds : tie.Need-loop-holds Inv-loop μ-loop
 loop-holds c = search (all, needs)
 
 mul-s : tie.Need-mul-s Inv-loop μ-loop
-mul-s c = search (all, needs)
+mul-s c = search needs
 
 slice-write-s : tie.Need-slice-write-s Inv-loop μ-loop
-slice-write-s c = search (all, needs)
+slice-write-s c = search needs
 
 add-i : tie.Need-add-i Inv-loop μ-loop
-add-i c = search (all, needs)
+add-i c = search needs
 
 loop-less : tie.Need-loop-less Inv-loop μ-loop
-loop-less c = search (all, needs)
+loop-less c = search needs
 
 loop-again : tie.Need-loop-again Inv-loop μ-loop
 loop-again c = search (all, needs)
 
 same-length : tie.Need-same-length Inv-loop μ-loop
-same-length c = search (all, needs)
+same-length c = search needs
 
 returns : tie.Need-returns Inv-loop μ-loop
 returns c = search (all, needs)

@@ -17,37 +17,37 @@ loop-holds : tie.Need-loop-holds Inv-loop μ-loop
 loop-holds c = search (all, needs)
 
 same-length : tie.Need-same-length Inv-loop μ-loop
-same-length c = search (all, needs)
+same-length c = search needs
 
 returns : tie.Need-returns Inv-loop μ-loop
 returns c = search (all, needs)
 
 mul-d : tie.Need-mul-d Inv-loop μ-loop
-mul-d c = search (all, needs)
+mul-d c = search needs
 
 shared-slice-read-d : tie.Need-shared-slice-read-d Inv-loop μ-loop
-shared-slice-read-d c = search (all, needs)
+shared-slice-read-d c = search needs
 
 mul-d-2 : tie.Need-mul-d-2 Inv-loop μ-loop
-mul-d-2 c = search (all, needs)
+mul-d-2 c = search needs
 
 slice-write-d : tie.Need-slice-write-d Inv-loop μ-loop
-slice-write-d c = search (all, needs)
+slice-write-d c = search needs
 
 add-k : tie.Need-add-k Inv-loop μ-loop
-add-k c = search (all, needs)
+add-k c = search needs
 
 add-i : tie.Need-add-i Inv-loop μ-loop
-add-i c = search (all, needs)
+add-i c = search needs
 
 loop-less : tie.Need-loop-less Inv-loop μ-loop
-loop-less c = search (all, needs)
+loop-less c = search needs
 
 loop-again : tie.Need-loop-again Inv-loop μ-loop
 loop-again c = search (all, needs)
 
 same-length-2 : tie.Need-same-length-2 Inv-loop μ-loop
-same-length-2 c = search (all, needs)
+same-length-2 c = search needs
 
 returns-2 : tie.Need-returns-2 Inv-loop μ-loop
 returns-2 c = search (all, needs)

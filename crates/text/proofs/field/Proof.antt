@@ -18,40 +18,40 @@ loop-holds : tie.Need-loop-holds Inv-loop μ-loop
 loop-holds c = search (all, needs)
 
 after-requires : tie.Need-after-requires Inv-loop μ-loop
-after-requires c κs = search (all, needs)
+after-requires c κs = search needs
 
 find-requires : tie.Need-find-requires Inv-loop μ-loop
-find-requires c κs = search (all, needs)
+find-requires c κs = search needs
 
 front-requires : tie.Need-front-requires Inv-loop μ-loop
-front-requires c κs = search (all, needs)
+front-requires c κs = search needs
 
 returns : tie.Need-returns Inv-loop μ-loop
 returns c = search (all, needs)
 
 front-requires-2 : tie.Need-front-requires-2 Inv-loop μ-loop
-front-requires-2 c κs = search (all, needs)
+front-requires-2 c κs = search needs
 
 returns-2 : tie.Need-returns-2 Inv-loop μ-loop
 returns-2 c = search (all, needs)
 
 add-at : tie.Need-add-at Inv-loop μ-loop
-add-at c = search (all, needs)
+add-at c = search needs
 
 add-at-2 : tie.Need-add-at-2 Inv-loop μ-loop
-add-at-2 c = search (all, needs)
+add-at-2 c = search needs
 
 sub-j : tie.Need-sub-j Inv-loop μ-loop
-sub-j c = search (all, needs)
+sub-j c = search needs
 
 loop-less : tie.Need-loop-less Inv-loop μ-loop
-loop-less c = search (all, needs)
+loop-less c = search needs
 
 loop-again : tie.Need-loop-again Inv-loop μ-loop
 loop-again c = search (all, needs)
 
 front-requires-3 : tie.Need-front-requires-3 Inv-loop μ-loop
-front-requires-3 c κs = search (all, needs)
+front-requires-3 c κs = search needs
 
 returns-3 : tie.Need-returns-3 Inv-loop μ-loop
 returns-3 c = search (all, needs)

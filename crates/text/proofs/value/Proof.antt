@@ -17,31 +17,31 @@ loop-holds : tie.Need-loop-holds Inv-loop μ-loop
 loop-holds c = search (all, needs)
 
 shared-slice-read-digit : tie.Need-shared-slice-read-digit Inv-loop μ-loop
-shared-slice-read-digit c = search (all, needs)
+shared-slice-read-digit c = search needs
 
 digit-requires : tie.Need-digit-requires Inv-loop μ-loop
-digit-requires c κs = search (all, needs)
+digit-requires c κs = search needs
 
 mul-w : tie.Need-mul-w Inv-loop μ-loop
-mul-w c = search (all, needs)
+mul-w c = search needs
 
 add-w : tie.Need-add-w Inv-loop μ-loop
-add-w c = search (all, needs)
+add-w c = search needs
 
 add-i : tie.Need-add-i Inv-loop μ-loop
-add-i c = search (all, needs)
+add-i c = search needs
 
 loop-less : tie.Need-loop-less Inv-loop μ-loop
-loop-less c = search (all, needs)
+loop-less c = search needs
 
 loop-again : tie.Need-loop-again Inv-loop μ-loop
 loop-again c = search (all, needs)
 
 add-i-2 : tie.Need-add-i-2 Inv-loop μ-loop
-add-i-2 c = search (all, needs)
+add-i-2 c = search needs
 
 loop-less-2 : tie.Need-loop-less-2 Inv-loop μ-loop
-loop-less-2 c = search (all, needs)
+loop-less-2 c = search needs
 
 loop-again-2 : tie.Need-loop-again-2 Inv-loop μ-loop
 loop-again-2 c = search (all, needs)
