@@ -19,11 +19,11 @@ unfoldable pub latest : (ℕ → ℕ) → ℕ → ℕ → ℕ
 latest key a zero = 0
 latest key a (suc c) = elim (eqb (key c) a) [ true ↦ suc c | false ↦ latest key a c ]
 
-latest-hit : (key : ℕ → ℕ) (a c : ℕ) → key c ≡ a → latest key a (suc c) ≡ suc c
+pub latest-hit : (key : ℕ → ℕ) (a c : ℕ) → key c ≡ a → latest key a (suc c) ≡ suc c
 unfolding latest
 latest-hit key a c e = rw (eq-eqb (key c) a e, latest)
 
-latest-miss : (key : ℕ → ℕ) (a c : ℕ) → (key c ≡ a → ⊥) → latest key a (suc c) ≡ latest key a c
+pub latest-miss : (key : ℕ → ℕ) (a c : ℕ) → (key c ≡ a → ⊥) → latest key a (suc c) ≡ latest key a c
 unfolding latest
 latest-miss key a c e = rw (ne-eqb (key c) a e, latest)
 
@@ -48,7 +48,7 @@ latest-gap key a (suc c) k l h e =
     (λ q. let x = latest-hit key a c q in omega arith)
     (λ q. same-or k c (λ w. q (ap key (sym w) ∙ e)) (λ w. latest-gap key a c k (let x = latest-miss key a c q in omega arith) (omega arith) e))
 
-latest-agree : (key key′ : ℕ → ℕ) (a c : ℕ) → ((i : ℕ) → i < c → key i ≡ key′ i) → latest key a c ≡ latest key′ a c
+pub latest-agree : (key key′ : ℕ → ℕ) (a c : ℕ) → ((i : ℕ) → i < c → key i ≡ key′ i) → latest key a c ≡ latest key′ a c
 unfolding latest
 latest-agree key key′ a zero h = refl
 latest-agree key key′ a (suc c) h =
@@ -57,6 +57,12 @@ latest-agree key key′ a (suc c) h =
     same-or (key c) a
     (λ e. latest-hit key a c e ∙ sym (latest-hit key′ a c (sym last ∙ e)))
     (λ e. latest-miss key a c e ∙ t ∙ sym (latest-miss key′ a c (λ q. e (last ∙ q))))
+
+-- a key that no item has
+pub latest-none : (key : ℕ → ℕ) (a c : ℕ) → ((i : ℕ) → i < c → key i ≡ a → ⊥) → latest key a c ≡ 0
+unfolding latest
+latest-none key a zero h = refl
+latest-none key a (suc c) h = latest-miss key a c (h c (omega arith)) ∙ latest-none key a c (λ i l. h i (omega arith))
 
 -- ---- the chains of c items, for keys below n: tops a is what heads[a] holds, links i what prev[i] holds, wherever the code keeps them
 pub record Chained (key : ℕ → ℕ) (n c : ℕ) (tops links : ℕ → ℕ) : Type 0 where
@@ -122,3 +128,46 @@ module _ {key : ℕ → ℕ} {n c : ℕ} {tops links : ℕ → ℕ} (ch : Chaine
 
 pub walk-end : {P : ℕ → Type 0} {key : ℕ → ℕ} {a c j : ℕ} → Walk P key a c j → j ≤ 0 → (k : ℕ) → k < c → key k ≡ a → P k
 walk-end w z k kc ka = w .seen k (omega arith) kc ka
+
+-- ---- a walk along a's chain that looks for something: F j is what the items below j come to, and an item of another key adds nothing to it
+
+unfoldable pub Blind : {X : Type 0} → (ℕ → ℕ) → ℕ → (ℕ → X) → Type 0
+Blind key a F = (k : ℕ) → (key k ≡ a → ⊥) → F (suc k) ≡ F k
+
+latest-left : {X : Type 0} (key : ℕ → ℕ) (a : ℕ) (F : ℕ → X) → Blind key a F → (c : ℕ) → F c ≡ F (latest key a c)
+unfolding latest Blind
+latest-left key a F h zero = refl
+latest-left key a F h (suc c) =
+    same-or (key c) a
+    (λ e. ap F (sym (latest-hit key a c e)))
+    (λ e. h c e ∙ latest-left key a F h c ∙ ap F (sym (latest-miss key a c e)))
+
+-- At j: what all c items come to is what those below j come to, with what the walk has gathered.
+pub record Left {X : Type 0} (key : ℕ → ℕ) (a c : ℕ) (all : X) (F : ℕ → X) (j : ℕ) : Type 0 where
+  pub within : j ≤ c
+  pub owner : 0 < j → key (j - 1) ≡ a
+  pub rest : all ≡ F j
+
+left-at : {X : Type 0} {key : ℕ → ℕ} {c : ℕ} {all : X} {F : ℕ → X} (a m j : ℕ) → Blind key a F → m ≤ c → j ≡ latest key a m → all ≡ F m → Left key a c all F j
+left-at {key = key} {F = F} a m j b mc e h =
+    record {
+      within = omega (arith, latest-le key a m);
+      owner = λ pos. latest-key key a m (j - 1) (omega arith);
+      rest = h ∙ latest-left key a F b m ∙ ap F (sym e);
+    }
+
+module _ {key : ℕ → ℕ} {n c : ℕ} {tops links : ℕ → ℕ} (ch : Chained key n c tops links) where
+  pub left-start : {X : Type 0} {F : ℕ → X} (a : ℕ) → a < n → Blind key a F → Left key a c (F c) F (tops a)
+  left-start a an b = left-at a c (tops a) b (omega arith) (ch .top a an) refl
+
+  -- What the item j - 1 adds is gathered into G.
+  pub left-step : {X : Type 0} {all : X} {F G : ℕ → X} {a j : ℕ} → Left key a c all F j → 0 < j → Blind key a G → F j ≡ G (j - 1) → Left key a c all G (links (j - 1))
+  left-step {a = a} {j = j} w pos b e =
+      let jc = w .within in
+      left-at a (j - 1) (links (j - 1)) b (omega arith)
+      (ch .link (j - 1) (omega arith) ∙ ap (λ (x : ℕ). latest key x (j - 1)) (w .owner pos))
+      (w .rest ∙ e)
+
+  -- A link leads down.
+  pub link-le : (i : ℕ) → i < c → links i ≤ i
+  link-le i h = omega (arith, ch .link i h, latest-le key (key i) i)

@@ -2,5 +2,6 @@
 pub mod Tests
 pub mod TestLaws
 pub mod Lists
+pub mod Counting
 pub mod Slices
 pub mod Chain

@@ -164,7 +164,40 @@ module _ (f : ℕ → Bool) where
       go none e = absurd (first-none n e i h p)
       go (some j) e = e ∙ ap {B = Option ℕ} some (only j (first-at n j e .0) (first-at n j e .1))
 
-  count-none : (n : ℕ) → count n f ≡ 0 → (i : ℕ) → i < n → f i ≡ true → ⊥
+  -- `first` finds the first number that passes.
+  pub first-least : (n i : ℕ) → i < n → f i ≡ true → first i f ≡ none → first n f ≡ some i
+  unfolding first orElse ifTrue
+  first-least zero i h p e = absurd (not-below-zero i h)
+  first-least (suc n) i h p e = ⊎-elim (λ l. rw (first-least n i l p e)) (λ (l : i ≡ n). rw (← l, e, p)) (below-suc i n h)
+
+  -- One number more: it changes nothing where it does not pass, and of all where it passes.
+  pub first-skip : (n : ℕ) → f n ≡ false → first (suc n) f ≡ first n f
+  unfolding first orElse ifTrue
+  first-skip n p = go (first n f) (f n) p
+    where
+      go : (o : Option ℕ) (b : Bool) → b ≡ false → orElse o (ifTrue b n) ≡ o
+      go o true q = absurd (true≢false q)
+      go none false q = refl
+      go (some i) false q = refl
+
+  pub count-skip : (n : ℕ) → f n ≡ false → count (suc n) f ≡ count n f
+  unfolding count plus
+  count-skip n p = rw p
+
+  pub count-more : (n : ℕ) → f n ≡ true → count (suc n) f ≡ suc (count n f)
+  unfolding count plus
+  count-more n p = rw p
+
+  pub every-skip : (n : ℕ) → f n ≡ true → every (suc n) f ≡ every n f
+  unfolding every _and_
+  every-skip n p = go (every n f) (f n) p
+    where
+      go : (a b : Bool) → b ≡ true → (a and b) ≡ a
+      go a false q = absurd (false≢true q)
+      go true true q = refl
+      go false true q = refl
+
+  pub count-none : (n : ℕ) → count n f ≡ 0 → (i : ℕ) → i < n → f i ≡ true → ⊥
   unfolding count plus
   count-none zero e i h p = not-below-zero i h
   count-none (suc n) e i h p = go (f n) refl e (λ r l. count-none n r i l p) (below-suc i n h)

@@ -10,6 +10,7 @@ use lib.Dec.{eqb}
 use lib.ListN.{length, getD, length-append, List·getD-eq-default}
 use borrow.Author.Tests.{ltb-false}
 use Rattle.laws.specs.Tests.{after, choose, count, first, firstFailed, plus}
+use Rattle.laws.specs.Counting.{count-few}
 use Rattle.laws.specs.Lists.{snoc-all, snoc-length}
 use Rattle.rules.specs.Text.{Answer, Bytes, accepted, bytes, decimal, fieldsOf, joinBy, linesOf, onto, readLines, readText, refused, split, textOf, then, unless, maxBytes}
 use Rattle.rules.specs.Graph.{Program, edgeCount, nodeCount}
@@ -229,15 +230,6 @@ nothing-wrote b e = sym (wrote-same e)
 judged-wrote : (g : Given) (s : Sheet) (b : Bytes) → judged g s ≡ wrote b → b ≡ []
 unfolding judged
 judged-wrote g s b e = nothing-wrote b (wrote-choose _ _ _ _ _ e .1)
-
-count-few : (f : ℕ → Bool) (n : ℕ) → count n f ≤ n
-unfolding count plus
-count-few f zero = omega arith
-count-few f (suc n) = go (f n) (count-few f n)
-  where
-    go : (b : Bool) → count n f ≤ n → plus b (count n f) ≤ suc n
-    go true h = omega arith
-    go false h = omega arith
 
 -- A record line has at most 1,045 bytes.
 record-short : (old new tests : Bytes) (i room : ℕ) (b : Bytes) → recordAnswer old new tests i room ≡ wrote b → length b < big

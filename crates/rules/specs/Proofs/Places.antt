@@ -145,13 +145,13 @@ lines-add {A = A} ls l d f vs ns v e o =
 -- ---- a program file
 
 -- What was read after a line.
-abbrev afterLine : ℕ → ℕ → Listing → Line → Listing
+abbrev pub afterLine : ℕ → ℕ → Listing → Line → Listing
 afterLine n at s (proc-line name) = withProc n at name s
 afterLine n at s (node-line kind label callee) = withNode n at kind label callee s
 afterLine n at s (edge-line from word to) = withEdge at from word to s
 afterLine n at s malformed = s
 
-line-taken : (n at : ℕ) (s : Listing) (l : Line) (t : Listing) → takeLine n at s l ≡ accepted t → t ≡ afterLine n at s l
+pub line-taken : (n at : ℕ) (s : Listing) (l : Line) (t : Listing) → takeLine n at s l ≡ accepted t → t ≡ afterLine n at s l
 unfolding takeLine
 line-taken n at s (proc-line name) t e =
     let u = closing-begun s (begun (s .program)) (takeProc n at name s) t refl e in
@@ -189,7 +189,7 @@ sofar-more ls l s p =
       on-nodes = lines-more ls (l ∷ []) _ _ _ _ (p .on-nodes);
     }
 
-kind-long : (k : Kind) → length (kindField k) ≡ 1
+pub kind-long : (k : Kind) → length (kindField k) ≡ 1
 kind-long E = refl
 kind-long S = refl
 kind-long C = refl

@@ -1,0 +1,123 @@
+// Look-ups in the tables of a program. Every function takes any slice and any number: what stands past the end of the links is 0, and a walk
+// goes on only downwards.
+ghost use mathlib.Core.Path.{_≡_};
+ghost use Prim.Native.Nat.{_+_};
+ghost use lib.ListN.{getD};
+ghost use Rattle.rules.specs.Text.{same as sameBytes};
+ghost use Rattle.graph.specs.Table.{edgeBase, headBase, procBase};
+ghost use Rattle.graph.specs.Reads.{partAt, upTo};
+ghost use Rattle.graph.specs.Lookups.{Dashed, Degree, EdgeTaken, ProcNamed};
+
+// Whether the part of the text whose start stands at i in the links, and its length behind that, has these bytes.
+fn spells(text: &[u8], links: &[usize], i: usize, bytes: &[u8]) -> bool
+    ensures { λ r. ⌜ r ≡ sameBytes (partAt (now (text .entry)) (now (links .entry)) i) (now (bytes .entry)) ⌝ }
+{
+    let place = text::run(links, i, 2);
+    let start = text::get(place, 0);
+    let len = text::get(place, 1);
+    let part = text::part(text, start, len);
+    text::same(part, bytes)
+}
+
+// Whether the procedure q has this name.
+fn name_is(text: &[u8], links: &[usize], q: usize, name: &[u8]) -> bool
+    ensures { λ r. ⌜ r ≡ sameBytes (partAt (now (text .entry)) (now (links .entry)) (procBase q)) (now (name .entry)) ⌝ }
+{
+    if links.len() <= q {
+        return spells(text, links, q, name);
+    }
+    spells(text, links, 7 * q, name)
+}
+
+// 1 + the first procedure of this name, or 0.
+pub fn proc_named(text: &[u8], links: &[usize], procs: usize, name: &[u8]) -> usize
+    ensures { λ r. ⌜ ProcNamed (now (text .entry)) (now (links .entry)) procs (now (name .entry)) r ⌝ }
+{
+    let mut q = 0;
+    while q < procs {
+        if name_is(text, links, q, name) {
+            return q + 1;
+        }
+        q += 1;
+    }
+    0
+}
+
+// The head of the node n's chain: 1 + its last edge, or 0.
+fn head(links: &[usize], n: usize) -> usize
+    ensures { λ r. ⌜ r ≡ getD (now (links .entry)) (headBase n) 0 ⌝ }
+{
+    if links.len() <= n {
+        return 0;
+    }
+    text::get(links, 5568 + n)
+}
+
+// 1 + the edge before e of the same node, or 0; 0 too where the links lead past e.
+fn before(links: &[usize], e: usize) -> usize
+    ensures { λ r. ⌜ r ≡ upTo e (getD (now (links .entry)) (edgeBase e + 4) 0) ⌝ }
+{
+    if links.len() <= e {
+        return 0;
+    }
+    let place = text::get(links, 448 + 5 * e + 4);
+    if place <= e {
+        return place;
+    }
+    0
+}
+
+// Whether the edge e has this word.
+fn word_is(text: &[u8], links: &[usize], e: usize, word: &[u8]) -> bool
+    ensures { λ r. ⌜ r ≡ sameBytes (partAt (now (text .entry)) (now (links .entry)) (edgeBase e + 1)) (now (word .entry)) ⌝ }
+{
+    if links.len() <= e {
+        return spells(text, links, e, word);
+    }
+    spells(text, links, 448 + 5 * e + 1, word)
+}
+
+// 1 + the edge that the node n takes for the word, or 0.
+pub fn edge_taken(text: &[u8], links: &[usize], n: usize, word: &[u8]) -> usize
+    ensures { λ r. ⌜ EdgeTaken (now (text .entry)) (now (links .entry)) n (now (word .entry)) r ⌝ }
+{
+    let mut place = head(links, n);
+    while 0 < place {
+        let e = place - 1;
+        if word_is(text, links, e, word) {
+            return place;
+        }
+        place = before(links, e);
+    }
+    0
+}
+
+// How many edges leave the node n.
+pub fn degree(links: &[usize], n: usize) -> usize
+    ensures { λ r. ⌜ Degree (now (links .entry)) n r ⌝ }
+{
+    let mut r = 0;
+    let mut place = head(links, n);
+    while 0 < place {
+        let e = place - 1;
+        r += 1;
+        place = before(links, e);
+    }
+    r
+}
+
+// Whether every edge that leaves the node n has the word `-`.
+pub fn dashed(text: &[u8], links: &[usize], n: usize) -> bool
+    ensures { λ r. ⌜ Dashed (now (text .entry)) (now (links .entry)) n r ⌝ }
+{
+    let mut place = head(links, n);
+    while 0 < place {
+        let e = place - 1;
+        if word_is(text, links, e, b"-") {
+            place = before(links, e);
+        } else {
+            return false;
+        }
+    }
+    true
+}

@@ -1,0 +1,45 @@
+use borrow.Author.Needs.{needs}
+use Rattle.reader.proofs.All.{all}
+use Rattle.reader.proofs.new_edge.Statement.{statement}
+use Rattle.reader.proofs.new_edge.Tie as tie
+
+part-requires : tie.Need-part-requires
+part-requires c κs = search needs
+
+links-requires : tie.Need-links-requires
+links-requires c κs = search needs
+
+edge-taken-requires : tie.Need-edge-taken-requires
+edge-taken-requires c κs = search needs
+
+same-length : tie.Need-same-length
+same-length c = search needs
+
+returns : tie.Need-returns
+returns c = search (all, needs)
+
+store-edge-requires : tie.Need-store-edge-requires
+store-edge-requires c κs = search needs
+
+add-t21 : tie.Need-add-t21
+add-t21 c = search needs
+
+same-length-2 : tie.Need-same-length-2
+same-length-2 c = search needs
+
+returns-2 : tie.Need-returns-2
+returns-2 c = search (all, needs)
+
+pub new-edge-spec : {M : Type 1} → statement M
+new-edge-spec =
+    tie.close
+    (tie.spec
+    part-requires
+    links-requires
+    edge-taken-requires
+    same-length
+    returns
+    store-edge-requires
+    add-t21
+    same-length-2
+    returns-2)

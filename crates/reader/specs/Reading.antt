@@ -1,0 +1,237 @@
+-- What the reader of program files keeps while it reads, and what its functions claim. The rows go into one work table: the nodes from 0, the links from 2,048.
+use mathlib.Core.Path.{_≡_}
+use mathlib.Core.Bool.{Bool, true, false}
+use mathlib.Core.Option.{Option, none, some}
+use mathlib.Core.List.{List, [], _∷_}
+use Prim.Native.Nat.{ℕ, suc, _+_, _-_, _*_, _≤_, _<_}
+use lib.Dec.{eqb, leb, ltb}
+use lib.ListN.{length, getD, take, drop, set}
+use lib.Seq.{sets}
+use Rattle.laws.specs.Tests.{_and_, _⇒_, every, first, count, choose}
+use Rattle.rules.specs.Text.{Bytes, value, Answer, refused, accepted, unless, readLines, linesOf as linesOfText}
+use Rattle.rules.specs.Graph.{Program, Kind, E, C, X, kindAt, labelAt, calleeAt, sourceAt, nodeCount, edgeCount, procCount, kindNumber, isOf, entry, exit, degrees, degree, worded, wordAt, ownerAt}
+use Rattle.rules.specs.ProgramFile.{Line, Listing, current, complete, takeProc, takeLine, stepProgram, finishProgram, nothingRead, readListing, hasWord, withEdge, degreeFine, lost}
+use Rattle.rules.specs.Places.{Part}
+use Rattle.graph.specs.Table.{At, nodeBase, procBase, edgeBase, headBase, procHead, procRow, edgeRow, headOf, nodeRow}
+use Rattle.graph.specs.Lookups.{in-table}
+use Rattle.lines.specs.declared.Form.{Form}
+use Rattle.lines.specs.declared.Form.the-variants.{Malformed, Proc, Node, Edge}
+use Rattle.lines.specs.Shape.{shape}
+use Rattle.lines.specs.Stands.{Stands}
+use Rattle.lines.specs.Known.{Known}
+use Rattle.reader.specs.declared.Count.{Count}
+use Rattle.reader.specs.declared.Degrees.{Degrees}
+
+-- The links of a work table.
+abbrev pub linksOf : List ℕ → List ℕ
+linksOf w = drop 2048 w
+
+-- ---- what the work table holds of a listing that is being read
+
+-- A node's row: until its callee is known, the fourth number is 16 times its line and the length of its callee.
+abbrev pub readingRow : Listing → ℕ → List ℕ
+readingRow s n =
+    kindNumber (kindAt (s .program) n) ∷ getD (s .places .labelStarts) n 0 ∷ length (labelAt (s .program) n)
+    ∷ (getD (s .places .nodeLines) n 0 * 16 + length (calleeAt (s .program) n)) ∷ []
+
+-- The tables hold the listing. An entry and an exit stand in a procedure's row where it has one of each.
+pub record Reading (node link : ℕ → ℕ) (s : Listing) : Type 0 where
+  pub nodes : (n : ℕ) → n < nodeCount (s .program) → At node (nodeBase n) (readingRow s n)
+  pub procs : (q : ℕ) → q < procCount (s .program) → At link (procBase q) (procHead s q)
+  pub entries : (q : ℕ) → q < procCount (s .program) → count (nodeCount (s .program)) (isOf (s .program) q E) ≡ 1 → link (procBase q + 5) ≡ entry (s .program) q
+  pub exits : (q : ℕ) → q < procCount (s .program) → count (nodeCount (s .program)) (isOf (s .program) q X) ≡ 1 → link (procBase q + 6) ≡ exit (s .program) q
+  pub edges : (e : ℕ) → e < edgeCount (s .program) → At link (edgeBase e) (edgeRow s e)
+  pub heads : (n : ℕ) → n < nodeCount (s .program) → link (headBase n) ≡ headOf s n
+
+-- The counts are those of the listing, and the work table holds it.
+pub record Holds (w : List ℕ) (c : Count) (s : Listing) : Type 0 where
+  pub procs-n : c .procs ≡ procCount (s .program)
+  pub nodes-n : c .nodes ≡ nodeCount (s .program)
+  pub edges-n : c .edges ≡ edgeCount (s .program)
+  pub reading : Reading (in-table w) (in-table (linksOf w)) s
+
+-- The counts are within their limits.
+pub record Small (c : Count) : Type 0 where
+  pub few-procs : c .procs ≤ 64
+  pub few-nodes : c .nodes ≤ 512
+  pub few-edges : c .edges ≤ 1024
+
+-- ---- a line
+
+-- An answer against the definition's.
+abbrev pub After : Answer Listing → Count → List ℕ → Type 0
+After (refused k p) r w = (r .number ≡ k) × (r .place ≡ p) × (0 < k)
+After (accepted t) r w = (r .number ≡ 0) × Holds w r t
+
+-- Whatever listing the work table holds, the answer to the line is the definition's.
+unfoldable pub Stepped : Bytes → ℕ → ℕ → Form → Count → List ℕ → Count → List ℕ → Type 0
+Stepped text n at f c w r w′ = (s : Listing) (x : Line) → Known text s → Holds w c s → f ≡ shape x → Stands text at x → After (takeLine n at s x) r w′
+
+pub record Took (text : Bytes) (n at : ℕ) (f : Form) (c : Count) (w : List ℕ) (r : Count) (w′ : List ℕ) : Type 0 where
+  pub stepped : Stepped text n at f c w r w′
+  pub small : Small r
+
+-- The same of a P line behind a procedure that is complete.
+unfoldable pub Opened : Bytes → ℕ → ℕ → ℕ → Count → List ℕ → Count → List ℕ → Type 0
+Opened text n at len c w r w′ = (s : Listing) (name : Bytes) → Known text s → Holds w c s → len ≡ length name → Part text (at + 2) name → After (takeProc n at name s) r w′
+
+pub record OpenedProc (text : Bytes) (n at len : ℕ) (c : Count) (w : List ℕ) (r : Count) (w′ : List ℕ) : Type 0 where
+  pub opened : Opened text n at len c w r w′
+  pub small : Small r
+
+-- The same of an N line, for any text.
+pub record AddedNode (n at kind label callee : ℕ) (c : Count) (w : List ℕ) (r : Count) (w′ : List ℕ) : Type 0 where
+  pub stepped : (text : Bytes) → Stepped text n at (Node kind label callee) c w r w′
+  pub small : Small r
+
+-- `in_procedure`: n is a node from `first` on.
+unfoldable pub inProcedure : ℕ → ℕ → ℕ → Bool
+inProcedure first nodes n = leb first n and ltb n nodes
+
+-- The same of a B line whose word begins at `start`.
+pub record AddedEdge (text : Bytes) (n from start len to : ℕ) (c : Count) (w : List ℕ) (r : Count) (w′ : List ℕ) : Type 0 where
+  pub stepped : (at k : ℕ) → start ≡ at + k + 3 → Stepped text n at (Edge from k len to) c w r w′
+  pub small : Small r
+
+-- The same of a B line whose ends are nodes of its procedure.
+unfoldable pub Linked : Bytes → ℕ → ℕ → ℕ → ℕ → ℕ → Count → List ℕ → Count → List ℕ → Type 0
+Linked text n f start len t c w r w′ =
+    (s : Listing) (at : ℕ) (from word to : Bytes) → Known text s → Holds w c s → f ≡ value from → t ≡ value to → len ≡ length word → start ≡ at + length from + 3 → Part text start word
+    → f < nodeCount (s .program) → ownerAt (s .program) f ≡ current (s .program)
+    → After (unless (hasWord (s .program) (value from) word) 7 n (accepted (withEdge at from word to s))) r w′
+
+pub record LinkedEdge (text : Bytes) (n f start len t : ℕ) (c : Count) (w : List ℕ) (r : Count) (w′ : List ℕ) : Type 0 where
+  pub linked : Linked text n f start len t c w r w′
+  pub small : Small r
+
+-- How far into its line a form reaches.
+abbrev pub spread : Form → ℕ
+spread Malformed = 0
+spread (Proc len) = len
+spread (Node kind label callee) = callee
+spread (Edge from len word to) = len
+
+-- ---- a procedure that is complete (8)
+
+-- `degrees_of`: the bounds of a kind, by the constant table.
+pub record DegreesOf (kind : ℕ) (r : Degrees) : Type 0 where
+  pub fewest-is : r .fewest ≡ getD degrees kind (0, 0) .0
+  pub most-is : r .most ≡ getD degrees kind (0, 0) .1
+
+-- `of_current`: the number k of the last procedure's row.
+unfoldable pub ofCurrent : List ℕ → ℕ → ℕ → ℕ
+ofCurrent w procs k = choose (eqb procs 0) 0 (getD w (2048 + 7 * (procs - 1) + k) 0)
+
+-- `count_kind`: how many nodes from `first` on have the kind.
+unfoldable pub kindCount : List ℕ → ℕ → ℕ → ℕ → ℕ
+kindCount w first nodes k = count nodes (λ n. leb first n and eqb (getD w (4 * n) 0) k)
+
+-- `node_fine`: the node has as many edges as the table says, and its edges are `-` if it is an E or C.
+unfoldable pub nodeFine : Program → ℕ → Bool
+nodeFine p n = degreeFine p n and every (edgeCount p) (λ e. eqb (sourceAt p e) n ⇒ worded (kindAt p n) (wordAt p e))
+
+unfoldable pub NodeFine : Bytes → List ℕ → ℕ → Bool → Type 0
+NodeFine text w n r = (s : Listing) (c : Count) → Known text s → Holds w c s → n < nodeCount (s .program) → r ≡ nodeFine (s .program) n
+
+-- `all_fine`: every node from `first` on is.
+unfoldable pub AllFine : Bytes → List ℕ → ℕ → ℕ → Bool → Type 0
+AllFine text w first nodes r = (s : Listing) (c : Count) → Known text s → Holds w c s → nodes ≡ nodeCount (s .program) → r ≡ every nodes (λ n. leb first n ⇒ nodeFine (s .program) n)
+
+-- The nodes from `first` up to n are.
+unfoldable pub FineTo : Bytes → List ℕ → ℕ → ℕ → ℕ → Type 0
+FineTo text w first nodes n =
+    (s : Listing) (c : Count) → Known text s → Holds w c s → nodes ≡ nodeCount (s .program) → every n (λ i. leb first i ⇒ nodeFine (s .program) i) ≡ true
+
+-- `complete`: the procedure that is being read is.
+unfoldable pub Completes : Bytes → List ℕ → Count → Bool → Type 0
+Completes text w c r = (s : Listing) → Known text s → Holds w c s → 0 < procCount (s .program) → r ≡ complete (s .program) (current (s .program))
+
+-- ---- what the stores leave in the work table
+
+-- The row of the procedure c.
+unfoldable pub storedProc : List ℕ → ℕ → ℕ → ℕ → ℕ → ℕ → ℕ → List ℕ
+storedProc w c start len line nodes edges = sets w (2048 + 7 * c) (start ∷ len ∷ line ∷ nodes ∷ edges ∷ [])
+
+-- The row of the node c, with the head of its chain; an E or X is the entry or exit of the procedure q.
+unfoldable pub marked : ℕ → ℕ → ℕ → List ℕ → List ℕ
+marked kind q c w = choose (eqb kind 0) (set w (2048 + 7 * q + 5) c) (choose (eqb kind 3) (set w (2048 + 7 * q + 6) c) w)
+
+unfoldable pub storedNode : List ℕ → ℕ → ℕ → ℕ → ℕ → ℕ → ℕ → List ℕ
+storedNode w q c kind start len last = marked kind q c (set (sets w (4 * c) (kind ∷ start ∷ len ∷ last ∷ [])) (7616 + c) 0)
+
+-- The row of the edge c, at the head of its node's chain.
+unfoldable pub storedEdge : List ℕ → ℕ → ℕ → ℕ → ℕ → ℕ → List ℕ
+storedEdge w c from start len to = set (sets w (2496 + 5 * c) (from ∷ start ∷ len ∷ to ∷ getD w (7616 + from) 0 ∷ [])) (7616 + from) (c + 1)
+
+-- ---- all lines
+
+-- What reading the lines of a text comes to.
+unfoldable pub wholeText : Bytes → Answer Listing
+wholeText text = readLines stepProgram finishProgram 1 0 nothingRead (linesOfText text)
+
+-- The lines were read: the rest is the end of the text.
+pub record LinesDone (text : Bytes) (r : Count) (w : List ℕ) : Type 0 where
+  pub listing : Listing
+  pub known : Known text listing
+  pub holds : Holds w r listing
+  pub number : ℕ
+  pub goes : wholeText text ≡ finishProgram number listing
+
+-- `read_lines`
+pub record LinesRead (text : Bytes) (r : Count) (w : List ℕ) : Type 0 where
+  pub done : r .number ≡ 0 → LinesDone text r w
+  pub stopped : (r .number ≡ 0 → ⊥) → wholeText text ≡ refused (r .number) (r .place)
+  pub small : Small r
+
+-- ---- callees (9), and the whole text
+
+-- The callees of the nodes below i are known, and none of them is unknown; the rest is as it was in the work table w₀.
+pub record Partly (w₀ w : List ℕ) (s : Listing) (i : ℕ) : Type 0 where
+  pub same-links : linksOf w ≡ linksOf w₀
+  pub done : (n : ℕ) → n < nodeCount (s .program) → n < i → At (in-table w) (nodeBase n) (nodeRow s n)
+  pub todo : (n : ℕ) → n < nodeCount (s .program) → i ≤ n → At (in-table w) (nodeBase n) (readingRow s n)
+  pub none-lost : first i (lost (s .program)) ≡ none
+
+-- `resolve_node`: 0 where the callee of the node n is known, else 1 + its line.
+unfoldable pub ResolvedNode : Bytes → List ℕ → ℕ → ℕ → ℕ → List ℕ → Type 0
+ResolvedNode text w procs n r w′ =
+    (s : Listing) (c : Count) (w₀ : List ℕ) → Known text s → Holds w₀ c s → procs ≡ procCount (s .program) → n < nodeCount (s .program) → Partly w₀ w s n
+    → (r ≡ 0 → Partly w₀ w′ s (n + 1)) × ((r ≡ 0 → ⊥) → (lost (s .program) n ≡ true) × (r ≡ suc (getD (s .places .nodeLines) n 0)))
+
+-- `resolve`: 0 where all callees are known, else 1 + the line of the first that is not.
+unfoldable pub ResolvedTo : Bytes → List ℕ → ℕ → ℕ → ℕ → List ℕ → Type 0
+ResolvedTo text w₀ procs nodes n w = (s : Listing) (c : Count) → Known text s → Holds w₀ c s → procs ≡ procCount (s .program) → nodes ≡ nodeCount (s .program) → Partly w₀ w s n
+
+unfoldable pub Resolved : Bytes → List ℕ → ℕ → ℕ → ℕ → List ℕ → Type 0
+Resolved text w₀ procs nodes r w =
+    (s : Listing) (c : Count) → Known text s → Holds w₀ c s → procs ≡ procCount (s .program) → nodes ≡ nodeCount (s .program)
+    → (r ≡ 0 → Partly w₀ w s (nodeCount (s .program)))
+    × ((r ≡ 0 → ⊥) → (m : ℕ) × (first (nodeCount (s .program)) (lost (s .program)) ≡ some m) × (r ≡ suc (getD (s .places .nodeLines) m 0)))
+
+-- `callee_of`: the field behind a label.
+unfoldable pub calleeBytes : Bytes → ℕ → ℕ → ℕ → Bytes
+calleeBytes text start len size = take size (drop 1 (drop len (drop start text)))
+
+-- The work table holds all that reading leaves.
+pub record InTable (w : List ℕ) (c : Count) (s : Listing) : Type 0 where
+  pub procs-n : c .procs ≡ procCount (s .program)
+  pub nodes-n : c .nodes ≡ nodeCount (s .program)
+  pub edges-n : c .edges ≡ edgeCount (s .program)
+  pub nodes : (n : ℕ) → n < nodeCount (s .program) → At (in-table w) (nodeBase n) (nodeRow s n)
+  pub procs : (q : ℕ) → q < procCount (s .program) → At (in-table (linksOf w)) (procBase q) (procRow s q)
+  pub edges : (e : ℕ) → e < edgeCount (s .program) → At (in-table (linksOf w)) (edgeBase e) (edgeRow s e)
+  pub heads : (n : ℕ) → n < nodeCount (s .program) → in-table (linksOf w) (headBase n) ≡ headOf s n
+
+-- `read_into`: the answer is the definition's, and the work table holds what was read.
+abbrev pub Told : Answer Listing → Count → List ℕ → Type 0
+Told (refused k p) r w = (r .number ≡ k) × (r .place ≡ p) × (0 < k)
+Told (accepted s) r w = (r .number ≡ 0) × InTable w r s
+
+-- `finish`
+pub record Finished (text : Bytes) (c : Count) (w : List ℕ) (r : Count) (w′ : List ℕ) : Type 0 where
+  pub told : (s : Listing) (n : ℕ) → Known text s → Holds w c s → Told (finishProgram n s) r w′
+  pub small : Small r
+
+pub record ReadInto (text : Bytes) (r : Count) (w : List ℕ) : Type 0 where
+  pub told : Told (readListing text) r w
+  pub small : Small r
