@@ -15,6 +15,8 @@ NAME,old,NUMBER,PLACE or NAME,new,NUMBER,PLACE. A number and a place are always 
 Beyond these, `made_cases` has texts at the limits of the format. Their answers are worked out by hand from the requirements, with the
 reason beside each, and are held against `faults`. Such a text is the old one of its case, and SMALL the new one.
 
+Before the cases the program prints its table of the fewest and the most edges by kind, which must be `EDGES`.
+
 Writes crates/read_vectors/data/cases, whose form crates/read_vectors/src/main.rt describes, and crates/read_vectors/stdout, in the
 repository that holds this script.
 """
@@ -339,6 +341,8 @@ def main():
         for name, old, new, _ in cases:
             f.write(head(name, old, new) + old + new)
     with open(os.path.join(crate, 'stdout'), 'w') as f:
+        for kind, (fewest, most) in EDGES.items():
+            f.write('%s,%d,%d\n' % (kind, fewest, most))
         for name, _, _, answer in cases:
             f.write('%s,%s\n' % (name, answer))
     print('%d cases given: %d read, %d refused, %d left out in doubt' % (given + len(left_out), given - refused, refused, len(left_out)))

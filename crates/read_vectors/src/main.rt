@@ -1,4 +1,5 @@
-// Reads the old and the new program file of each case in the file `cases`, and writes one line for the case: NAME,read, or, for the first of
+// Writes the table of the fewest and the most edges that leave a node, a line for each kind: KIND,FEWEST,MOST. Then
+// reads the old and the new program file of each case in the file `cases`, and writes one line for the case: NAME,read, or, for the first of
 // the two that is refused, NAME,old,NUMBER,PLACE or NAME,new,NUMBER,PLACE. tools/reader_vectors.py makes the cases and the lines expected.
 //
 // A case is a head of 48 bytes, the bytes of the old text and the bytes of the new one. The head is `OLD NEW NAME`, blanks up to 47 bytes, and
@@ -78,7 +79,20 @@ fn all_cases(fd: i32) {
     }
 }
 
+// The line of a kind in the table of degrees.
+fn degrees(kind: &[u8], k: usize) {
+    let d = reader::degrees_of(k);
+    io::write_all(STDOUT_FILENO, kind);
+    number(d.fewest);
+    number(d.most);
+    io::write_all(STDOUT_FILENO, b"\n");
+}
+
 fn main() {
+    degrees(b"E", 0);
+    degrees(b"S", 1);
+    degrees(b"C", 2);
+    degrees(b"X", 3);
     let fd = os::open_read(b"cases");
     if fd < 0 {
         os::fail(b"cases");

@@ -348,7 +348,7 @@ module _ (text w : List ℕ) (c : Count) (sm : Small c) where
                 let held : InTable w′ (record { number = 0; place = 0; procs = c .procs; nodes = c .nodes; edges = c .edges }) s
                 = table-held text w w′ c s k h (some-of s h) (sym (q s k h (some-of s h)) ∙ t) a (record { number = 0; place = 0; procs = c .procs; nodes = c .nodes; edges = c .edges }) refl refl refl in
                 subst (λ (x : Answer Listing). Told x (record { number = 0; place = 0; procs = c .procs; nodes = c .nodes; edges = c .edges }) w′)
-                (sym (finish-is s n k h ∙ ap (λ (o : Option ℕ). after o (accepted s) (λ m. refused 9 (getD (s .places .nodeLines) m 0))) (a .none-lost))) (refl, held);
+                (sym (finish-is s n k h ∙ ap (λ (o : Option ℕ). after o (accepted s) (λ m. refused 9 (getD (s .places .nodeLines) m 0))) (a .none-lost))) (refl, refl, held);
             small = small-answer 0 0;
           }
 

@@ -225,7 +225,7 @@ pub record InTable (w : List ℕ) (c : Count) (s : Listing) : Type 0 where
 -- `read_into`: the answer is the definition's, and the work table holds what was read.
 abbrev pub Told : Answer Listing → Count → List ℕ → Type 0
 Told (refused k p) r w = (r .number ≡ k) × (r .place ≡ p) × (0 < k)
-Told (accepted s) r w = (r .number ≡ 0) × InTable w r s
+Told (accepted s) r w = (r .number ≡ 0) × (r .place ≡ 0) × InTable w r s
 
 -- `finish`
 pub record Finished (text : Bytes) (c : Count) (w : List ℕ) (r : Count) (w′ : List ℕ) : Type 0 where

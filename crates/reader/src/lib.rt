@@ -74,7 +74,7 @@ pub fn degrees_of(kind: usize) -> Degrees
 }
 
 // The links of a work table.
-fn links(work: &[usize]) -> &[usize]
+pub fn links(work: &[usize]) -> &[usize]
     ensures { λ r. ⌜ now r ≡ linksOf (now (work .entry)) ⌝ }
 {
     if work.len() < 2048 {
