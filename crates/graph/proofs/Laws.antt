@@ -10,7 +10,7 @@ use native.Mathlib.Omega.{arith}
 use lib.Dec.{eqb}
 use lib.ListN.{length, getD, take, drop, List·getD-eq-default}
 use borrow.Author.Tests.{eqb-true, eq-eqb, ne-eqb, le-leb, lt-leb}
-use Rattle.laws.specs.Tests.{_⇒_, every, first, count}
+use Rattle.laws.specs.Tests.{_⇒_, every, first, count, found}
 use Rattle.laws.specs.TestLaws.{first-least, first-only, first-skip, count-skip, count-more, every-skip, every-at, both-ways, fails, implied, implies}
 use Rattle.laws.specs.Lists.{choose-yes, choose-no}
 use Rattle.laws.specs.Slices.{below-or, getD-part}
@@ -21,7 +21,7 @@ use Rattle.rules.specs.ProgramFile.{Listing}
 use Rattle.rules.specs.Proofs.Places.{part-is}
 use Rattle.rules.specs.Proofs.TextLaws.{same-true, same-of}
 use Rattle.rules.specs.Proofs.GraphLaws.{leaves-true, leaves-of}
-use Rattle.graph.specs.Table.{procBase, edgeBase, headBase, found}
+use Rattle.graph.specs.Table.{procBase, edgeBase, headBase}
 use Rattle.graph.specs.Lookups.{in-table, Procs, Edges, ProcNamed, EdgeTaken, Degree, Dashed}
 use Rattle.graph.specs.Reads.{partAt, upTo}
 
@@ -113,14 +113,14 @@ module _ (text : Bytes) (links : List ℕ) (c : ℕ) (name : Bytes) where
 
   module _ (q : ℕ) (inv : Unnamed text links c name q) where
     pub named-none : c ≤ q → q ≤ c → ProcNamed text links c name 0
-    unfolding Unnamed ProcNamed found
+    unfolding Unnamed ProcNamed
     named-none a b s h e =
         let x : q ≡ procCount (s .program) = omega arith in
         sym (ap found (rw x at (inv s h e)))
 
     module _ (t : Bool) (l : q < c) (is : t ≡ same (partAt text links (procBase q)) name) where
       pub named-hit : t ≡ true → ProcNamed text links c name (q + 1)
-      unfolding Unnamed ProcNamed found
+      unfolding Unnamed ProcNamed
       named-hit y s h e =
           let x : q < procCount (s .program) = omega arith in
           let f : same (nameAt (s .program) q) name ≡ true = ap (λ (w : Bytes). same w name) (sym (proc-name text links s h q x)) ∙ sym is ∙ y in
@@ -182,14 +182,14 @@ module _ (text : Bytes) (links : List ℕ) (n : ℕ) (word : Bytes) where
 
   module _ (place : ℕ) (inv : TakenBelow text links n word place) where
     pub taken-none : place ≤ 0 → EdgeTaken text links n word 0
-    unfolding TakenBelow Rest EdgeTaken found first
+    unfolding TakenBelow Rest EdgeTaken first
     taken-none z s h l =
         let q : place ≡ 0 = omega arith in
         sym (ap found (inv s h l .rest ∙ ap (λ (k : ℕ). first k (leaves (s .program) n word)) q))
 
     module _ (e : ℕ) (t : Bool) (pos : 0 < place) (d : e ≡ place - 1) (is : t ≡ same (partAt text links (edgeBase e + 1)) word) where
       pub taken-hit : t ≡ true → EdgeTaken text links n word place
-      unfolding TakenBelow Rest EdgeTaken found edgeTaken
+      unfolding TakenBelow Rest EdgeTaken edgeTaken
       taken-hit y s h l =
           let i = inv s h l in
           let k : e < edgeCount (s .program) = omega (arith, i .within) in

@@ -5,12 +5,12 @@ use mathlib.Core.List.{List}
 use Prim.Native.Nat.{ℕ, _+_, _<_, _≤_}
 use lib.Dec.{eqb, leb}
 use lib.ListN.{getD}
-use Rattle.laws.specs.Tests.{_and_, _⇒_, every, first, count}
+use Rattle.laws.specs.Tests.{_⇒_, every, first, found}
 use Rattle.rules.specs.Text.{Bytes, same}
 use Rattle.rules.specs.Graph.{Program, nameAt, kindAt, labelAt, calleeAt, sourceAt, wordAt, procCount, nodeCount, edgeCount, kindNumber, dash, edgeTaken, degree}
 use Rattle.rules.specs.ProgramFile.{Listing}
 use Rattle.rules.specs.Places.{Part}
-use Rattle.graph.specs.Table.{edgeBase, headBase, procBase, nodeBase, edgeRow, headOf, procHead, At, found}
+use Rattle.graph.specs.Table.{edgeBase, headBase, procBase, nodeBase, edgeRow, headOf, procHead, At}
 
 -- The numbers of a table by index.
 abbrev pub in-table : List ℕ → ℕ → ℕ

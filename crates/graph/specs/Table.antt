@@ -84,8 +84,3 @@ linksAfter s t =
 -- The row stands at i.
 abbrev pub At : (ℕ → ℕ) → ℕ → List ℕ → Type 0
 At f i row = (k : ℕ) → k < length row → f (i + k) ≡ getD row k 0
-
--- A number found: 1 + it, or 0 for none.
-unfoldable pub found : Option ℕ → ℕ
-found none = 0
-found (some n) = suc n

@@ -10,7 +10,7 @@ use lib.Dec.{eqb, leb, ltb}
 use lib.ListN.{length, getD, take, drop, set}
 use lib.Seq.{drop-drop, getD-set-same, getD-set-other}
 use borrow.Author.Tests.{eqb-true, eq-eqb, ne-eqb, ltb-true, lt-ltb, le-ltb, leb-true}
-use Rattle.laws.specs.Tests.{_and_, isnt, any, first, after}
+use Rattle.laws.specs.Tests.{_and_, isnt, any, first, found, after}
 use Rattle.laws.specs.TestLaws.{and-left, and-right, and-both, fails, both-ways, below-suc, true-isnt, false-isnt, isnt-true, any-of, any-at, first-at, first-none, first-skip, first-least}
 use Rattle.laws.specs.Slices.{drop-sets-after, same-or}
 use Rattle.rules.specs.Text.{Bytes, same, empty, between, isName, maxBytes, Answer, refused, accepted, unless, readText, readLines, linesOf}
@@ -20,7 +20,7 @@ use Rattle.rules.specs.Proofs.TextLaws.{same-true, empty-true, unless-passes}
 use Rattle.rules.specs.Proofs.GraphLaws.{sameKind-of, sameKind-true}
 use Rattle.rules.specs.Proofs.ProgramLaws.{Complete, complete-says}
 use Rattle.rules.specs.Proofs.Places.{part-is}
-use Rattle.graph.specs.Table.{At, found, firstNode, firstEdge, nodeRow, procRow, edgeRow}
+use Rattle.graph.specs.Table.{At, firstNode, firstEdge, nodeRow, procRow, edgeRow}
 use Rattle.graph.specs.Lookups.{in-table, Procs, ProcNamed}
 use Rattle.lines.specs.Known.{Known}
 use Rattle.reader.specs.declared.Count.{Count}
@@ -40,14 +40,6 @@ callee-is text start len size =
     ap (λ (l : Bytes). take size (drop 1 l)) (drop-drop len start text) ∙ ap (take size) (drop-drop 1 (start + len) text)
 
 -- ---- a node's callee
-
-nothing-found : found none ≡ 0
-unfolding found
-nothing-found = refl
-
-something-found : (i : ℕ) → found (some i) ≡ suc i
-unfolding found
-something-found i = refl
 
 or-some : (i : ℕ) → orZero (some i) ≡ i
 unfolding orZero
@@ -126,10 +118,10 @@ module _ (text : Bytes) (s : Listing) (k : Known text s) (n : ℕ) (l : n < node
       where
         go : (o : Option ℕ) → first (procCount p) (λ q. same (nameAt p q) (calleeAt p n)) ≡ o → q ≡ found o
             → ((sameKind (kindAt p n) C and isnt (any (procCount p) (λ q. same (nameAt p q) (calleeAt p n)))) ≡ false) × (q - 1 ≡ orZero (first (procCount p) (λ q. same (nameAt p q) (calleeAt p n))))
-        go none f g = absurd (z (g ∙ nothing-found))
+        go none f g = absurd (z g)
         go (some i) f g =
             let u = first-at (λ q. same (nameAt p q) (calleeAt p n)) (procCount p) i f in
-            (fails _ (λ t. both-ways (any-of (λ q. same (nameAt p q) (calleeAt p n)) (procCount p) i (u .0) (u .1)) (isnt-true _ (and-right _ _ t))), one-less q i (g ∙ something-found i) ∙ sym (ap orZero f ∙ or-some i))
+            (fails _ (λ t. both-ways (any-of (λ q. same (nameAt p q) (calleeAt p n)) (procCount p) i (u .0) (u .1)) (isnt-true _ (and-right _ _ t))), one-less q i g ∙ sym (ap orZero f ∙ or-some i))
 
 -- ---- the row of a node, with its callee
 

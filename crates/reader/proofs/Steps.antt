@@ -10,7 +10,7 @@ use lib.Dec.{eqb, leb, ltb}
 use lib.ListN.{length, getD, take, drop}
 use lib.Seq.{sets}
 use borrow.Author.Tests.{eqb-true, eq-eqb, ne-eqb, ltb-true, lt-ltb, le-ltb, leb-true, le-leb, lt-leb}
-use Rattle.laws.specs.Tests.{_and_, _or_, isnt, any, first, choose}
+use Rattle.laws.specs.Tests.{_and_, _or_, isnt, any, first, found, choose}
 use Rattle.laws.specs.TestLaws.{and-left, and-right, and-both, or-left, or-right, fails, both-ways, true-isnt, false-isnt, same-test, any-of, any-at, first-at, first-none}
 use Rattle.laws.specs.Lists.{choose-yes, choose-no}
 use Rattle.rules.specs.Text.{Bytes, same, value, maxProcs, maxNodes, maxEdges, Answer, refused, accepted, unless}
@@ -19,7 +19,7 @@ use Rattle.rules.specs.ProgramFile.{Line, proc-line, node-line, edge-line, malf
 use Rattle.rules.specs.Places.{Part}
 use Rattle.rules.specs.Proofs.TextLaws.{unless-passes}
 use Rattle.rules.specs.Proofs.Places.{part-is}
-use Rattle.graph.specs.Table.{found, firstNode, firstEdge, procHead}
+use Rattle.graph.specs.Table.{firstNode, firstEdge, procHead}
 use Rattle.graph.specs.Lookups.{in-table, Procs, Edges, ProcNamed, EdgeTaken}
 use Rattle.lines.specs.declared.Form.{Form}
 use Rattle.lines.specs.declared.Form.the-variants.{Malformed, Proc, Node, Edge}
@@ -49,12 +49,10 @@ after-same x y r w e a = subst (λ (z : Answer Listing). After z r w) (sym e) a
 -- ---- what a look-up found
 
 pub found-some : (o : Option ℕ) → 0 < found o → (i : ℕ) × (o ≡ some i)
-unfolding found
 found-some none h = absurd (let z : ⊥ = omega arith in z)
 found-some (some i) h = (i, refl)
 
 pub found-none : (o : Option ℕ) → found o ≤ 0 → o ≡ none
-unfolding found
 found-none none h = refl
 found-none (some i) h = absurd (let z : ⊥ = omega arith in z)
 

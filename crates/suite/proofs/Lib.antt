@@ -1,0 +1,5 @@
+pub mod Laws
+pub mod Forms
+pub mod Stores
+pub mod Turns
+pub mod All

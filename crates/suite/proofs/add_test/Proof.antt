@@ -1,0 +1,65 @@
+use borrow.Author.Needs.{needs}
+use Rattle.suite.proofs.All.{all}
+use Rattle.suite.proofs.add_test.Statement.{statement}
+use Rattle.suite.proofs.add_test.Tie as tie
+
+returns : tie.Need-returns
+returns c = search (all, needs)
+
+name-seen-requires : tie.Need-name-seen-requires
+name-seen-requires c κs = search needs
+
+row-fine-requires : tie.Need-row-fine-requires
+row-fine-requires c κs = search needs
+
+same-length : tie.Need-same-length
+same-length c = search needs
+
+returns-2 : tie.Need-returns-2
+returns-2 c = search (all, needs)
+
+add-put-test : tie.Need-add-put-test
+add-put-test c = search needs
+
+put-test-requires : tie.Need-put-test-requires
+put-test-requires c κs = search needs
+
+store-row-requires : tie.Need-store-row-requires
+store-row-requires c κs = search needs
+
+add-t19 : tie.Need-add-t19
+add-t19 c = search needs
+
+same-length-2 : tie.Need-same-length-2
+same-length-2 c = search needs
+
+same-length-3 : tie.Need-same-length-3
+same-length-3 c = search needs
+
+returns-3 : tie.Need-returns-3
+returns-3 c = search (all, needs)
+
+same-length-4 : tie.Need-same-length-4
+same-length-4 c = search needs
+
+returns-4 : tie.Need-returns-4
+returns-4 c = search (all, needs)
+
+pub add-test-spec : {M : Type 1} → statement M
+add-test-spec =
+    tie.close
+    (tie.spec
+    returns
+    name-seen-requires
+    row-fine-requires
+    same-length
+    returns-2
+    add-put-test
+    put-test-requires
+    store-row-requires
+    add-t19
+    same-length-2
+    same-length-3
+    returns-3
+    same-length-4
+    returns-4)

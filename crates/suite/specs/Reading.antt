@@ -1,0 +1,85 @@
+-- What the reader of test files claims: its answer is the definition's, whatever the tables hold before.
+use mathlib.Core.Path.{_≡_, refl, sym, ap₂}
+use mathlib.Core.Bool.{Bool, true, false}
+use mathlib.Core.List.{List}
+use Prim.Native.Nat.{ℕ, _+_, _*_, _≤_, _<_}
+use native.Mathlib.Omega.{arith}
+use lib.ListN.{length, getD, take, drop}
+use Rattle.laws.specs.Tests.{any}
+use Rattle.rules.specs.Text.{Bytes, same, Answer, refused, accepted, linesOf, readLines}
+use Rattle.rules.specs.SuiteFile.{TestLine, TestListing, finishSuite, no-test, noTests, readTests, stepSuite, takeTest, test-line, testCount, testName}
+use Rattle.suite.specs.declared.Read.{Read}
+use Rattle.suite.specs.Rows.{Holds}
+
+-- ---- a line
+
+-- `is_test`: the line says a test.
+unfoldable pub isTest : TestLine → Bool
+isTest (test-line name row) = true
+isTest no-test = false
+
+-- `name_at`: the part of the text that the table gives as the name of the test i.
+unfoldable pub nameAt : Bytes → List ℕ → ℕ → Bytes
+nameAt text tests i = take (getD tests (2 * i + 1) 0) (drop (getD tests (2 * i) 0) text)
+
+-- `name_seen`: one of the first n tests has the name.
+unfoldable pub nameIn : Bytes → List ℕ → ℕ → Bytes → Bool
+nameIn text tests n name = any n (λ i. same (nameAt text tests i) name)
+
+-- What is known of the tests that were read: each has a place and a coverage, and its name stands in the text.
+pub record Known (text : Bytes) (l : TestListing) : Type 0 where
+  pub placed : length (l .starts) ≡ testCount (l .suite)
+  pub covered : length (l .suite .coverages) ≡ testCount (l .suite)
+  pub names : (i : ℕ) → i < testCount (l .suite) → take (length (testName (l .suite) i)) (drop (getD (l .starts) i 0) text) ≡ testName (l .suite) i
+
+-- An answer against the definition's, where the old program has m edges.
+abbrev pub After : ℕ → Answer TestListing → Read → List ℕ → List ℕ → Type 0
+After m (refused k p) r tests rows = (r .number ≡ k) × (r .place ≡ p) × (0 < k)
+After m (accepted l) r tests rows = (r .number ≡ 0) × (r .place ≡ 0) × Holds m tests rows (r .count) l
+
+-- What the definition answers, by the number.
+pub accepted-of : (m : ℕ) (x : Answer TestListing) (r : Read) (tests rows : List ℕ) → After m x r tests rows → r .number ≡ 0
+    → (l : TestListing) × (x ≡ accepted l) × Holds m tests rows (r .count) l
+accepted-of m (refused k p) r tests rows h z = absurd (omega arith)
+accepted-of m (accepted l) r tests rows h z = (l, refl, h .2)
+
+pub refused-of : (m : ℕ) (x : Answer TestListing) (r : Read) (tests rows : List ℕ) → After m x r tests rows → (r .number ≡ 0 → ⊥)
+    → (x ≡ refused (r .number) (r .place)) × (0 < r .number)
+refused-of m (refused k p) r tests rows h z = (ap₂ refused (sym (h .0)) (sym (h .1)), omega arith)
+refused-of m (accepted l) r tests rows h z = absurd (z (h .0))
+
+-- `add_test`: whatever tests the tables hold, the answer to a test more is the definition's.
+unfoldable pub Adds : Bytes → ℕ → ℕ → ℕ → Bytes → Bytes → ℕ → List ℕ → List ℕ → Read → List ℕ → List ℕ → Type 0
+Adds text m n at name row c tests rows r tests′ rows′ =
+    (l : TestListing) → Known text l → Holds m tests rows c l → After m (takeTest m n at l (test-line name row)) r tests′ rows′
+
+pub record Added (text : Bytes) (m n at : ℕ) (name row : Bytes) (c : ℕ) (tests rows : List ℕ) (r : Read) (tests′ rows′ : List ℕ) : Type 0 where
+  pub adds : Adds text m n at name row c tests rows r tests′ rows′
+  pub few : r .count ≤ 200
+
+-- `step`: the same of a line.
+unfoldable pub Steps : Bytes → ℕ → ℕ → ℕ → Bytes → ℕ → List ℕ → List ℕ → Read → List ℕ → List ℕ → Type 0
+Steps text m n at line c tests rows r tests′ rows′ =
+    (l : TestListing) → Known text l → Holds m tests rows c l → After m (stepSuite m n at l line) r tests′ rows′
+
+pub record Stepped (text : Bytes) (m n at : ℕ) (line : Bytes) (c : ℕ) (tests rows : List ℕ) (r : Read) (tests′ rows′ : List ℕ) : Type 0 where
+  pub steps : Steps text m n at line c tests rows r tests′ rows′
+  pub few : r .count ≤ 200
+
+-- ---- a text
+
+-- `read_lines`: the answer to all lines is the definition's.
+unfoldable pub Lines : ℕ → Bytes → Read → List ℕ → List ℕ → Type 0
+Lines m text r tests rows = After m (readLines (stepSuite m) finishSuite 1 0 noTests (linesOf text)) r tests rows
+
+pub record LinesRead (m : ℕ) (text : Bytes) (r : Read) (tests rows : List ℕ) : Type 0 where
+  pub lines : Lines m text r tests rows
+  pub few : r .count ≤ 200
+
+-- `read_tests`: the answer is the definition's.
+unfoldable pub Reads : ℕ → Bytes → Read → List ℕ → List ℕ → Type 0
+Reads m text r tests rows = After m (readTests m text) r tests rows
+
+pub record TestsRead (m : ℕ) (text : Bytes) (r : Read) (tests rows : List ℕ) : Type 0 where
+  pub reads : Reads m text r tests rows
+  pub few : r .count ≤ 200
