@@ -35,6 +35,14 @@ procs-of text w c s k h = record { heads = h .reading .procs; names = k .names }
 kind-at : (w : List ℕ) (c : Count) (s : Listing) → Holds w c s → (n : ℕ) → n < nodeCount (s .program) → getD w (4 * n) 0 ≡ kindNumber (kindAt (s .program) n)
 kind-at w c s h n l = ap (λ (i : ℕ). getD w i 0) (let z : 4 * n ≡ 4 * n + 0 = omega arith in z) ∙ h .reading .nodes n l 0 (omega arith)
 
+-- There is a procedure where the count says so.
+pub some-procs : (w : List ℕ) (c : Count) (s : Listing) → Holds w c s → (c .procs ≡ 0 → ⊥) → 0 < procCount (s .program)
+some-procs w c s h z = go (procCount (s .program)) (h .procs-n)
+  where
+    go : (m : ℕ) → c .procs ≡ m → 0 < m
+    go zero e = absurd (z e)
+    go (suc m) e = omega arith
+
 -- The row of the procedure that is being read.
 pub current-row : (w : List ℕ) (c : Count) (s : Listing) → Holds w c s → 0 < procCount (s .program) → (k : ℕ) → k < 5 → ofCurrent w (c .procs) k ≡ getD (procHead s (current (s .program))) k 0
 unfolding ofCurrent
@@ -76,7 +84,7 @@ pub ruleset kinds = (kind-none, kind-start, kind-hit, kind-miss, kind-end)
 
 -- ---- `node_fine`
 
-number-kind : (k : Kind) → (kindNumber k ≡ 0 → k ≡ E) × (kindNumber k ≡ 2 → k ≡ C)
+pub number-kind : (k : Kind) → (kindNumber k ≡ 0 → k ≡ E) × (kindNumber k ≡ 2 → k ≡ C)
 number-kind E = (λ e. refl, λ e. absurd (let z : ⊥ = omega arith in z))
 number-kind S = (λ e. absurd (let z : ⊥ = omega arith in z), λ e. absurd (let z : ⊥ = omega arith in z))
 number-kind C = (λ e. absurd (let z : ⊥ = omega arith in z), λ e. refl)

@@ -25,7 +25,7 @@ use Rattle.graph.specs.Lookups.{in-table, Procs, ProcNamed}
 use Rattle.lines.specs.Known.{Known}
 use Rattle.reader.specs.declared.Count.{Count}
 use Rattle.reader.specs.Reading.{linksOf, readingRow, Holds, Small, Completes, ofCurrent, wholeText, LinesDone, LinesRead, Partly, ResolvedNode, ResolvedTo, Resolved, calleeBytes, InTable, Told, Finished, ReadInto}
-use Rattle.reader.proofs.Completeness.{procs-of, current-row}
+use Rattle.reader.proofs.Completeness.{procs-of, some-procs, number-kind, current-row}
 use Rattle.reader.proofs.Steps.{unless-stops, found-some, found-none}
 
 -- ---- `callee_of`
@@ -64,12 +64,6 @@ name-short : (s : Bytes) → isName s ≡ true → (0 < length s) × (length s �
 unfolding isName between
 name-short s h = (let z : 1 ≤ length s = leb-true _ _ (and-left _ _ (and-left _ _ h)) in z, leb-true _ _ (and-right _ _ (and-left _ _ h)))
 
-kind-c : (k : Kind) → kindNumber k ≡ 2 → k ≡ C
-kind-c E e = absurd (let z : ⊥ = omega arith in z)
-kind-c S e = absurd (let z : ⊥ = omega arith in z)
-kind-c C e = refl
-kind-c X e = absurd (let z : ⊥ = omega arith in z)
-
 c-number : (k : Kind) → k ≡ C → kindNumber k ≡ 2
 c-number k e = ap kindNumber e
 
@@ -103,7 +97,7 @@ module _ (text : Bytes) (s : Listing) (k : Known text s) (n : ℕ) (l : n < node
 
   module _ (e : kindNumber (kindAt p n) ≡ 2) (q : ℕ) (eq : q ≡ found (first (procCount p) (λ q. same (nameAt p q) (calleeAt p n)))) where
     is-c : kindAt p n ≡ C
-    is-c = kind-c (kindAt p n) e
+    is-c = number-kind (kindAt p n) .1 e
 
     called-lost : q ≡ 0 → lost p n ≡ true
     unfolding lost named
@@ -179,7 +173,7 @@ module _ (text w : List ℕ) (procs n kind : ℕ) (ek : kind ≡ getD w (4 * n) 
       is-two = sym (row-kind text s k w₀ w n l h few) ∙ sym ek ∙ is-call
 
       short : length (calleeAt (s .program) n) ≤ 12
-      short = name-short _ (call-callee (kindAt (s .program) n) (labelAt (s .program) n) (calleeAt (s .program) n) (k .sound .nodeForms n l) (kind-c _ is-two)) .1
+      short = name-short _ (call-callee (kindAt (s .program) n) (labelAt (s .program) n) (calleeAt (s .program) n) (k .sound .nodeForms n l) (number-kind _ .1 is-two)) .1
 
       last-is : last ≡ getD (s .places .nodeLines) n 0 * 16 + length (calleeAt (s .program) n)
       last-is = et ∙ row-last text s k w₀ w n l h few
@@ -296,11 +290,7 @@ module _ (text w : List ℕ) (c : Count) (sm : Small c) where
 
   module _ (some-proc : c .procs ≡ 0 → ⊥) (u : Bool) (q : Completes text w c u) where
     some-of : (s : Listing) → Holds w c s → 0 < procCount (s .program)
-    some-of s h = go (procCount (s .program)) (h .procs-n)
-      where
-        go : (m : ℕ) → c .procs ≡ m → 0 < m
-        go zero e = absurd (some-proc e)
-        go (suc m) e = omega arith
+    some-of s h = some-procs w c s h some-proc
 
     begun-of : (s : Listing) → Holds w c s → isnt (begun (s .program)) ≡ false
     begun-of s h = false-isnt (lt-ltb 0 (procCount (s .program)) (some-of s h))

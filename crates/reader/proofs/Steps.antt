@@ -30,7 +30,7 @@ use Rattle.reader.specs.declared.Count.{Count}
 use Rattle.reader.specs.Reading.{linksOf, Holds, Small, After, Stepped, Took, Opened, AddedNode, AddedEdge, Linked, inProcedure, spread, ofCurrent, Completes, storedProc, storedNode, storedEdge}
 use Rattle.reader.proofs.Programs.{has-edge, node-of}
 use Rattle.reader.proofs.Stores.{push-proc, push-node, push-edge}
-use Rattle.reader.proofs.Completeness.{edges-of, procs-of, current-row}
+use Rattle.reader.proofs.Completeness.{edges-of, procs-of, some-procs, current-row}
 
 -- ---- answers
 
@@ -129,11 +129,7 @@ module _ (text w : List ℕ) (n at len : ℕ) (c : Count) where
 
   module _ (some-proc : c .procs ≡ 0 → ⊥) (u : Bool) (q : Completes text w c u) where
     some-of : (s : Listing) → Holds w c s → 0 < procCount (s .program)
-    some-of s h = ⊎-elim (λ (z : 0 < procCount (s .program)). z) (λ (z : procCount (s .program) ≤ 0). absurd (some-proc (let y : c .procs ≡ 0 = omega (arith, h .procs-n) in y))) (below (procCount (s .program)))
-      where
-        below : (m : ℕ) → (0 < m) ⊎ (m ≤ 0)
-        below zero = inr (omega arith)
-        below (suc m) = inl (omega arith)
+    some-of s h = some-procs w c s h some-proc
 
     pub next-proc : (r : Count) (w′ : List ℕ) → u ≡ true → Opened text n at len c w r w′ → Stepped text n at (Proc len) c w r w′
     unfolding Opened takeLine Completes
@@ -170,11 +166,7 @@ module _ (w : List ℕ) (n at kind label callee : ℕ) (c : Count) where
   node-stepped text r w′ f s x k h e st = as-node x e (λ t l d q a b g. subst (λ (y : Line). After (takeLine n at s y) r w′) (sym q) (f s t l d k h a b g))
 
   begun-of : (s : Listing) → Holds w c s → (c .procs ≡ 0 → ⊥) → 0 < procCount (s .program)
-  begun-of s h z = go (procCount (s .program)) (h .procs-n)
-    where
-      go : (m : ℕ) → c .procs ≡ m → 0 < m
-      go zero e = absurd (z e)
-      go (suc m) e = omega arith
+  begun-of s h z = some-procs w c s h z
 
   pub node-first : (r : Count) (w′ : List ℕ) → c .procs ≡ 0 → r .number ≡ 3 → r .place ≡ n → (text : Bytes) → Stepped text n at (Node kind label callee) c w r w′
   unfolding takeLine
@@ -291,11 +283,7 @@ module _ (text w : List ℕ) (n from start len to : ℕ) (c : Count) (at j : ℕ
 
   module _ (some-proc : c .procs ≡ 0 → ⊥) where
     some-of-edge : (s : Listing) → Holds w c s → 0 < procCount (s .program)
-    some-of-edge s h = go (procCount (s .program)) (h .procs-n)
-      where
-        go : (m : ℕ) → c .procs ≡ m → 0 < m
-        go zero e = absurd (some-proc e)
-        go (suc m) e = omega arith
+    some-of-edge s h = some-procs w c s h some-proc
 
     has-begun : (s : Listing) → Holds w c s → isnt (begun (s .program)) ≡ false
     has-begun s h = false-isnt (lt-ltb 0 (procCount (s .program)) (some-of-edge s h))
