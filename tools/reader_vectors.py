@@ -351,4 +351,5 @@ def main():
     print('%d cases made' % (len(cases) - given))
 
 
-main()
+if __name__ == '__main__':
+    main()

@@ -17,7 +17,7 @@ use Rattle.rules.specs.ProgramFile.{Listing, readListing}
 use Rattle.graph.specs.Table.{At, rows, nodeRow, procRow, edgeRow, headOf, nodesAfter, linksAfter}
 use Rattle.graph.specs.Lookups.{in-table}
 use Rattle.reader.specs.declared.Count.{Count}
-use Rattle.reader.specs.Reading.{linksOf, InTable, Told, Small, ReadInto}
+use Rattle.reader.specs.Result.{linksOf, InTable, Told, Small, ReadInto}
 use Rattle.program.specs.Lent.{copiedNodes, copiedLinks, Counted, Leaves, ReadProgram, isLeft, leftNumber, TablesLeft}
 
 -- ---- windows

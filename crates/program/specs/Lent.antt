@@ -11,7 +11,7 @@ use Rattle.rules.specs.Graph.{procCount, nodeCount, edgeCount}
 use Rattle.rules.specs.ProgramFile.{Listing, readListing}
 use Rattle.graph.specs.Table.{nodesAfter, linksAfter}
 use Rattle.reader.specs.declared.Count.{Count}
-use Rattle.reader.specs.Reading.{linksOf}
+use Rattle.reader.specs.Result.{linksOf}
 
 -- The rows of a work table, copied.
 unfoldable pub copiedNodes : List ℕ → ℕ → List ℕ → List ℕ

@@ -7,7 +7,7 @@ ghost use mathlib.Core.Path.{_≡_};
 ghost use Prim.Native.Nat.{_*_, _≤_};
 ghost use lib.ListN.{length, take, drop};
 ghost use lib.Seq.{sets};
-ghost use Rattle.reader.specs.Reading.{Small};
+ghost use Rattle.reader.specs.Result.{Small};
 ghost use Rattle.rules.specs.Text.{same as sameNumbers};
 ghost use Rattle.program.specs.Lent.{ReadProgram, TablesLeft, copiedLinks, copiedNodes};
 

@@ -21,7 +21,8 @@ use Rattle.graph.specs.Lookups.{in-table, Edges, Procs, Degree, Dashed}
 use Rattle.lines.specs.Known.{Known}
 use Rattle.reader.specs.declared.Count.{Count}
 use Rattle.reader.specs.declared.Degrees.{Degrees}
-use Rattle.reader.specs.Reading.{linksOf, Reading, Holds, Small, DegreesOf, ofCurrent, kindCount, nodeFine, NodeFine, AllFine, FineTo, Completes}
+use Rattle.reader.specs.Result.{linksOf, Small, DegreesOf}
+use Rattle.reader.specs.Reading.{Reading, Holds, ofCurrent, kindCount, nodeFine, NodeFine, AllFine, FineTo, Completes}
 use Rattle.reader.proofs.Programs.{is-current}
 
 -- ---- what the table holds

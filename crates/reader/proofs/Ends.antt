@@ -24,7 +24,8 @@ use Rattle.graph.specs.Table.{At, firstNode, firstEdge, nodeRow, procRow, edgeR
 use Rattle.graph.specs.Lookups.{in-table, Procs, ProcNamed}
 use Rattle.lines.specs.Known.{Known}
 use Rattle.reader.specs.declared.Count.{Count}
-use Rattle.reader.specs.Reading.{linksOf, readingRow, Holds, Small, Completes, ofCurrent, wholeText, LinesDone, LinesRead, Partly, ResolvedNode, ResolvedTo, Resolved, calleeBytes, InTable, Told, Finished, ReadInto}
+use Rattle.reader.specs.Result.{linksOf, Small, InTable, Told, ReadInto}
+use Rattle.reader.specs.Reading.{readingRow, Holds, Completes, ofCurrent, wholeText, LinesDone, LinesRead, Partly, ResolvedNode, ResolvedTo, Resolved, calleeBytes, Finished}
 use Rattle.reader.proofs.Completeness.{procs-of, some-procs, number-kind, current-row}
 use Rattle.reader.proofs.Steps.{unless-stops, found-some, found-none}
 

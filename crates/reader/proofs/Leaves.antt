@@ -12,7 +12,8 @@ use Rattle.laws.specs.Tests.{choose}
 use Rattle.laws.specs.Lists.{choose-yes, choose-no}
 use Rattle.laws.specs.Slices.{sets-snoc}
 use Rattle.reader.specs.declared.Degrees.{Degrees}
-use Rattle.reader.specs.Reading.{DegreesOf, ofCurrent, marked, storedProc, storedNode, storedEdge}
+use Rattle.reader.specs.Result.{DegreesOf}
+use Rattle.reader.specs.Reading.{ofCurrent, marked, storedProc, storedNode, storedEdge}
 
 -- `degrees_of`: the constant table is the definition's, at each kind.
 abbrev table : List Degrees

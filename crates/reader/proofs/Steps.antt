@@ -27,7 +27,8 @@ use Rattle.lines.specs.Shape.{shape}
 use Rattle.lines.specs.Stands.{Stands}
 use Rattle.lines.specs.Known.{Known}
 use Rattle.reader.specs.declared.Count.{Count}
-use Rattle.reader.specs.Reading.{linksOf, Holds, Small, After, Stepped, Took, Opened, AddedNode, AddedEdge, Linked, inProcedure, spread, ofCurrent, Completes, storedProc, storedNode, storedEdge}
+use Rattle.reader.specs.Result.{linksOf, Small}
+use Rattle.reader.specs.Reading.{Holds, After, Stepped, Took, Opened, AddedNode, AddedEdge, Linked, inProcedure, spread, ofCurrent, Completes, storedProc, storedNode, storedEdge}
 use Rattle.reader.proofs.Programs.{has-edge, node-of}
 use Rattle.reader.proofs.Stores.{push-proc, push-node, push-edge}
 use Rattle.reader.proofs.Completeness.{edges-of, procs-of, some-procs, current-row}

@@ -25,7 +25,8 @@ use Rattle.graph.specs.Table.{At, nodeBase, procBase, edgeBase, headBase, procH
 use Rattle.graph.specs.Lookups.{in-table}
 use Rattle.lines.specs.Known.{Known}
 use Rattle.reader.specs.declared.Count.{Count}
-use Rattle.reader.specs.Reading.{linksOf, readingRow, Reading, Holds, storedProc, marked, storedNode, storedEdge}
+use Rattle.reader.specs.Result.{linksOf}
+use Rattle.reader.specs.Reading.{readingRow, Reading, Holds, storedProc, marked, storedNode, storedEdge}
 use Rattle.reader.proofs.Programs.{new-first-node, new-first-edge, node-first-node, node-first-edge, other-count, other-first, own-first, edge-source-old, edge-source-new, edge-first-edge}
 
 -- ---- rows and stores

@@ -22,7 +22,8 @@ use Rattle.lines.specs.Shape.{shape}
 use Rattle.lines.specs.Stands.{Stands, line-stands}
 use Rattle.lines.specs.Known.{Known, known-none, known-line}
 use Rattle.reader.specs.declared.Count.{Count}
-use Rattle.reader.specs.Reading.{linksOf, Reading, Holds, Small, After, Stepped, spread, wholeText, LinesDone, LinesRead}
+use Rattle.reader.specs.Result.{linksOf, Small}
+use Rattle.reader.specs.Reading.{Reading, Holds, After, Stepped, spread, wholeText, LinesDone, LinesRead}
 
 -- ---- a form reaches no further than its line
 

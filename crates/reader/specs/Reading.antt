@@ -1,4 +1,4 @@
--- What the reader of program files keeps while it reads, and what its functions claim. The rows go into one work table: the nodes from 0, the links from 2,048.
+-- What the reader of program files keeps while it reads, and what its inner functions claim.
 use mathlib.Core.Path.{_≡_}
 use mathlib.Core.Bool.{Bool, true, false}
 use mathlib.Core.Option.{Option, none, some}
@@ -9,10 +9,10 @@ use lib.ListN.{length, getD, take, drop, set}
 use lib.Seq.{sets}
 use Rattle.laws.specs.Tests.{_and_, _⇒_, every, first, count, choose}
 use Rattle.rules.specs.Text.{Bytes, value, Answer, refused, accepted, unless, readLines, linesOf as linesOfText}
-use Rattle.rules.specs.Graph.{Program, Kind, E, C, X, kindAt, labelAt, calleeAt, sourceAt, nodeCount, edgeCount, procCount, kindNumber, isOf, entry, exit, degrees, degree, worded, wordAt, ownerAt}
-use Rattle.rules.specs.ProgramFile.{Line, Listing, current, complete, takeProc, takeLine, stepProgram, finishProgram, nothingRead, readListing, hasWord, withEdge, degreeFine, lost}
+use Rattle.rules.specs.Graph.{Program, Kind, E, C, X, kindAt, labelAt, calleeAt, sourceAt, nodeCount, edgeCount, procCount, kindNumber, isOf, entry, exit, worded, wordAt, ownerAt}
+use Rattle.rules.specs.ProgramFile.{Line, Listing, current, complete, takeProc, takeLine, stepProgram, finishProgram, nothingRead, hasWord, withEdge, degreeFine, lost}
 use Rattle.rules.specs.Places.{Part}
-use Rattle.graph.specs.Table.{At, nodeBase, procBase, edgeBase, headBase, procHead, procRow, edgeRow, headOf, nodeRow}
+use Rattle.graph.specs.Table.{At, nodeBase, procBase, edgeBase, headBase, procHead, edgeRow, headOf, nodeRow}
 use Rattle.graph.specs.Lookups.{in-table}
 use Rattle.lines.specs.declared.Form.{Form}
 use Rattle.lines.specs.declared.Form.the-variants.{Malformed, Proc, Node, Edge}
@@ -20,11 +20,7 @@ use Rattle.lines.specs.Shape.{shape}
 use Rattle.lines.specs.Stands.{Stands}
 use Rattle.lines.specs.Known.{Known}
 use Rattle.reader.specs.declared.Count.{Count}
-use Rattle.reader.specs.declared.Degrees.{Degrees}
-
--- The links of a work table.
-abbrev pub linksOf : List ℕ → List ℕ
-linksOf w = drop 2048 w
+use Rattle.reader.specs.Result.{linksOf, Small, Told}
 
 -- ---- what the work table holds of a listing that is being read
 
@@ -49,12 +45,6 @@ pub record Holds (w : List ℕ) (c : Count) (s : Listing) : Type 0 where
   pub nodes-n : c .nodes ≡ nodeCount (s .program)
   pub edges-n : c .edges ≡ edgeCount (s .program)
   pub reading : Reading (in-table w) (in-table (linksOf w)) s
-
--- The counts are within their limits.
-pub record Small (c : Count) : Type 0 where
-  pub few-procs : c .procs ≤ 64
-  pub few-nodes : c .nodes ≤ 512
-  pub few-edges : c .edges ≤ 1024
 
 -- ---- a line
 
@@ -112,11 +102,6 @@ spread (Node kind label callee) = callee
 spread (Edge from len word to) = len
 
 -- ---- a procedure that is complete (8)
-
--- `degrees_of`: the bounds of a kind, by the constant table.
-pub record DegreesOf (kind : ℕ) (r : Degrees) : Type 0 where
-  pub fewest-is : r .fewest ≡ getD degrees kind (0, 0) .0
-  pub most-is : r .most ≡ getD degrees kind (0, 0) .1
 
 -- `of_current`: the number k of the last procedure's row.
 unfoldable pub ofCurrent : List ℕ → ℕ → ℕ → ℕ
@@ -212,26 +197,7 @@ Resolved text w₀ procs nodes r w =
 unfoldable pub calleeBytes : Bytes → ℕ → ℕ → ℕ → Bytes
 calleeBytes text start len size = take size (drop 1 (drop len (drop start text)))
 
--- The work table holds all that reading leaves.
-pub record InTable (w : List ℕ) (c : Count) (s : Listing) : Type 0 where
-  pub procs-n : c .procs ≡ procCount (s .program)
-  pub nodes-n : c .nodes ≡ nodeCount (s .program)
-  pub edges-n : c .edges ≡ edgeCount (s .program)
-  pub nodes : (n : ℕ) → n < nodeCount (s .program) → At (in-table w) (nodeBase n) (nodeRow s n)
-  pub procs : (q : ℕ) → q < procCount (s .program) → At (in-table (linksOf w)) (procBase q) (procRow s q)
-  pub edges : (e : ℕ) → e < edgeCount (s .program) → At (in-table (linksOf w)) (edgeBase e) (edgeRow s e)
-  pub heads : (n : ℕ) → n < nodeCount (s .program) → in-table (linksOf w) (headBase n) ≡ headOf s n
-
--- `read_into`: the answer is the definition's, and the work table holds what was read.
-abbrev pub Told : Answer Listing → Count → List ℕ → Type 0
-Told (refused k p) r w = (r .number ≡ k) × (r .place ≡ p) × (0 < k)
-Told (accepted s) r w = (r .number ≡ 0) × (r .place ≡ 0) × InTable w r s
-
 -- `finish`
 pub record Finished (text : Bytes) (c : Count) (w : List ℕ) (r : Count) (w′ : List ℕ) : Type 0 where
   pub told : (s : Listing) (n : ℕ) → Known text s → Holds w c s → Told (finishProgram n s) r w′
-  pub small : Small r
-
-pub record ReadInto (text : Bytes) (r : Count) (w : List ℕ) : Type 0 where
-  pub told : Told (readListing text) r w
   pub small : Small r

@@ -17,21 +17,17 @@ ghost use Rattle.reader.specs.Reading.{
   AddedNode,
   AllFine,
   Completes,
-  DegreesOf,
   Finished,
   LinesRead,
   LinkedEdge,
   NodeFine,
   OpenedProc,
-  ReadInto,
   Resolved,
   ResolvedNode,
-  Small,
   Took,
   calleeBytes,
   inProcedure,
   kindCount,
-  linksOf,
   marked,
   ofCurrent,
   spread,
@@ -39,6 +35,7 @@ ghost use Rattle.reader.specs.Reading.{
   storedNode,
   storedProc,
 };
+ghost use Rattle.reader.specs.Result.{DegreesOf, ReadInto, Small, linksOf};
 
 // What was read so far: a refusal by number and place, where the number is not 0, and the counts of procedures, nodes and edges.
 pub struct Count {
