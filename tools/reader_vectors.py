@@ -307,11 +307,8 @@ def head(name, old, new):
     return line.ljust(47) + b'\n'
 
 
-def main():
-    if len(sys.argv) != 2:
-        raise SystemExit('usage: reader_vectors.py SOURCE_DIR')
-    source = sys.argv[1]
-    cases, left_out = [], []
+def folders(source):
+    """The name of each case in the folder, and its files as bytes, by name."""
     for name in sorted(os.listdir(source)):
         folder = os.path.join(source, name)
         if not os.path.isdir(folder):
@@ -320,6 +317,15 @@ def main():
         for file in 'old', 'new', 'tests', 'out':
             with open(os.path.join(folder, file), 'rb') as f:
                 files[file] = f.read()
+        yield name, files
+
+
+def main():
+    if len(sys.argv) != 2:
+        raise SystemExit('usage: reader_vectors.py SOURCE_DIR')
+    source = sys.argv[1]
+    cases, left_out = [], []
+    for name, files in folders(source):
         answer = answer_of(**files)
         if answer is None:
             left_out.append(name)

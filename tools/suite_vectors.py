@@ -22,7 +22,7 @@ import os
 import re
 import sys
 
-from reader_vectors import LONGEST, REPOSITORY, T_LINE, answer_of, lift_faults, split, text_of
+from reader_vectors import LONGEST, REPOSITORY, T_LINE, answer_of, folders, lift_faults, split, text_of
 
 DIGITS = re.compile(rb'[0-9a-f]*')
 
@@ -212,14 +212,7 @@ def line_of(name, edges, text, answer):
 
 def given_cases(source):
     """The cases of the folders where both program files are read."""
-    for name in sorted(os.listdir(source)):
-        folder = os.path.join(source, name)
-        if not os.path.isdir(folder):
-            continue
-        files = {}
-        for file in 'old', 'new', 'tests', 'out':
-            with open(os.path.join(folder, file), 'rb') as f:
-                files[file] = f.read()
+    for name, files in folders(source):
         if answer_of(**files) == 'read':
             edges = sum(line.startswith(b'B,') for line in split(files['old'])[0])
             yield name, edges, files['tests'], given_answer(files['tests'], files['out'])
