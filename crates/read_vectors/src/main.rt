@@ -6,16 +6,11 @@
 // byte 10: the lengths of the two texts, of six digits each, and a name of at most 32 bytes without blanks.
 use libc::STDOUT_FILENO;
 
-fn number(n: usize) {
-    io::write_all(STDOUT_FILENO, b",");
-    io::print_decimal(STDOUT_FILENO, n as u64);
-}
-
 fn refused(name: &[u8], file: &[u8], r: reader::Count) {
     io::write_all(STDOUT_FILENO, name);
     io::write_all(STDOUT_FILENO, file);
-    number(r.number);
-    number(r.place);
+    files::print_field(r.number);
+    files::print_field(r.place);
     io::write_all(STDOUT_FILENO, b"\n");
 }
 
@@ -32,19 +27,6 @@ fn told(name: &[u8], old: reader::Count, new: reader::Count) {
     io::write_all(STDOUT_FILENO, b",read\n");
 }
 
-// The number that six digits spell, three by three: text::value goes only to 65,536, and a text may be longer.
-fn six_digits(s: &[u8]) -> usize {
-    1000 * text::value(text::front(s, 3)) + text::value(text::after(s, 3))
-}
-
-// Reads the next n bytes into the buffer, if it has room for them, and answers how many came.
-fn fill(fd: i32, buffer: &mut [u8], n: usize) -> usize {
-    if buffer.len() < n {
-        return 0;
-    }
-    io::read_full(fd, &mut buffer[..n])
-}
-
 // What the reader says of the text in the first n bytes.
 fn read_front(buffer: &[u8], n: usize) -> reader::Count {
     let mut work = [0usize; 8128];
@@ -54,7 +36,7 @@ fn read_front(buffer: &[u8], n: usize) -> reader::Count {
 // What the reader says of the text in the next n bytes. The buffer has one byte more than a program file may have.
 fn read_next(fd: i32, n: usize) -> reader::Count {
     let mut buffer = [0u8; 65537];
-    let came = fill(fd, &mut buffer, n);
+    let came = files::fill(fd, &mut buffer, n);
     read_front(&buffer, came)
 }
 
@@ -65,8 +47,8 @@ fn one_case(fd: i32) -> bool {
     if came < 48 {
         return false;
     }
-    let old = read_next(fd, six_digits(text::field(&head, b' ', 0)));
-    let new = read_next(fd, six_digits(text::field(&head, b' ', 1)));
+    let old = read_next(fd, files::six_digits(text::field(&head, b' ', 0)));
+    let new = read_next(fd, files::six_digits(text::field(&head, b' ', 1)));
     told(text::field(&head, b' ', 2), old, new);
     true
 }
@@ -83,8 +65,8 @@ fn all_cases(fd: i32) {
 fn degrees(kind: &[u8], k: usize) {
     let d = reader::degrees_of(k);
     io::write_all(STDOUT_FILENO, kind);
-    number(d.fewest);
-    number(d.most);
+    files::print_field(d.fewest);
+    files::print_field(d.most);
     io::write_all(STDOUT_FILENO, b"\n");
 }
 

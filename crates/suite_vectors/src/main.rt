@@ -5,11 +5,6 @@
 // edges of the old program and the length of the text, of six digits each, and a name of at most 32 bytes without blanks.
 use libc::STDOUT_FILENO;
 
-fn number(n: usize) {
-    io::write_all(STDOUT_FILENO, b",");
-    io::print_decimal(STDOUT_FILENO, n as u64);
-}
-
 // How many edges each of the first `count` tests covers. No test file that is read has more than 200.
 fn covered(rows: &[u64], count: usize) {
     if 200 < count {
@@ -17,19 +12,19 @@ fn covered(rows: &[u64], count: usize) {
     }
     let mut i = 0;
     while i < count {
-        number(suite::ones(rows, i));
+        files::print_field(suite::ones(rows, i));
         i += 1;
     }
 }
 
 fn told(r: suite::Read, rows: &[u64]) {
     if r.number != 0 {
-        number(r.number);
-        number(r.place);
+        files::print_field(r.number);
+        files::print_field(r.place);
         return;
     }
     io::write_all(STDOUT_FILENO, b",read");
-    number(r.count);
+    files::print_field(r.count);
     covered(rows, r.count);
 }
 
@@ -43,23 +38,10 @@ fn read_text(text: &[u8], edges: usize) {
     }
 }
 
-// The number that six digits spell, three by three: text::value goes only to 65,536, and a text may be longer.
-fn six_digits(s: &[u8]) -> usize {
-    1000 * text::value(text::front(s, 3)) + text::value(text::after(s, 3))
-}
-
-// Reads the next n bytes into the buffer, if it has room for them, and answers how many came.
-fn fill(fd: i32, buffer: &mut [u8], n: usize) -> usize {
-    if buffer.len() < n {
-        return 0;
-    }
-    io::read_full(fd, &mut buffer[..n])
-}
-
 // What the reader says of the text in the next n bytes. The buffer has one byte more than a test file may have.
 fn read_next(fd: i32, n: usize, edges: usize) {
     let mut buffer = [0u8; 65537];
-    let came = fill(fd, &mut buffer, n);
+    let came = files::fill(fd, &mut buffer, n);
     read_text(text::front(&buffer, came), edges);
 }
 
@@ -73,8 +55,8 @@ fn one_case(fd: i32) -> bool {
     io::write_all(STDOUT_FILENO, text::field(&head, b' ', 2));
     read_next(
         fd,
-        six_digits(text::field(&head, b' ', 1)),
-        six_digits(text::field(&head, b' ', 0)),
+        files::six_digits(text::field(&head, b' ', 1)),
+        files::six_digits(text::field(&head, b' ', 0)),
     );
     io::write_all(STDOUT_FILENO, b"\n");
     true

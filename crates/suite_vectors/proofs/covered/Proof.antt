@@ -19,8 +19,8 @@ loop-holds c = search needs
 ones-requires : tie.Need-ones-requires Inv-loop μ-loop
 ones-requires c κs = search needs
 
-number-requires : tie.Need-number-requires Inv-loop μ-loop
-number-requires c κs = search needs
+print-field-requires : tie.Need-print-field-requires Inv-loop μ-loop
+print-field-requires c κs = search needs
 
 add-i : tie.Need-add-i Inv-loop μ-loop
 add-i c = search needs
@@ -43,7 +43,7 @@ covered-spec =
     returns
     loop-holds
     ones-requires
-    number-requires
+    print-field-requires
     add-i
     loop-less
     loop-again
