@@ -8,7 +8,7 @@ use native.Mathlib.Nat.{add-assoc, add-zero, zero-add}
 use native.Mathlib.Numerals.{add-one}
 use native.Mathlib.Omega.{arith}
 use lib.Dec.{eqb}
-use lib.ListN.{length, getD, take, drop, List·getD-eq-default}
+use lib.ListN.{length, getD, take, drop}
 use borrow.Author.Tests.{eqb-true, eq-eqb, ne-eqb, le-leb, lt-leb}
 use Rattle.laws.specs.Tests.{_⇒_, every, first, count, found}
 use Rattle.laws.specs.TestLaws.{first-least, first-only, first-skip, count-skip, count-more, every-skip, every-at, both-ways, fails, implied, implies}
@@ -23,29 +23,24 @@ use Rattle.rules.specs.Proofs.TextLaws.{same-true, same-of}
 use Rattle.rules.specs.Proofs.GraphLaws.{leaves-true, leaves-of}
 use Rattle.graph.specs.Table.{procBase, edgeBase, headBase}
 use Rattle.graph.specs.Lookups.{in-table, Procs, Edges, ProcNamed, EdgeTaken, Degree, Dashed}
-use Rattle.graph.specs.Reads.{partAt, upTo}
+use Rattle.graph.specs.Reads.{partAt, upTo, past, part-past}
 
--- ---- `spells`, `name_is`, `word_is`
+-- ---- `part_at`, `spells`, `name_is`, `word_is`
 
--- Past the end every number is 0.
-past : (links : List ℕ) (i k : ℕ) → length links ≤ i → i ≤ k → getD links k 0 ≡ 0
-past links i k h l = List·getD-eq-default links 0 (omega arith)
+pub part-at-is : (text links place part : List ℕ) (i start len : ℕ) → place ≡ take 2 (drop i links) → start ≡ getD place 0 0 → len ≡ getD place 1 0 → part ≡ take len (drop start text)
+    → part ≡ partAt text links i
+unfolding partAt
+part-at-is text links place part i start len p a b q =
+    let x : start ≡ getD links i 0 = a ∙ ap (λ (l : List ℕ). getD l 0 0) p ∙ getD-part links i 2 0 0 (omega arith) ∙ ap (λ (k : ℕ). getD links k 0) (add-zero i) in
+    let y : len ≡ getD links (i + 1) 0 = b ∙ ap (λ (l : List ℕ). getD l 1 0) p ∙ getD-part links i 2 1 0 (omega arith) in
+    q ∙ ap₂ (λ (n : ℕ) (m : ℕ). take n (drop m text)) y x
 
 module _ (text links bytes : List ℕ) (i : ℕ) (t : Bool) where
-  pub spells-is : (place part : List ℕ) (start len : ℕ) → place ≡ take 2 (drop i links) → start ≡ getD place 0 0 → len ≡ getD place 1 0 → part ≡ take len (drop start text)
-      → t ≡ same part bytes → t ≡ same (partAt text links i) bytes
-  unfolding partAt
-  spells-is place part start len p a b q e =
-      let x : start ≡ getD links i 0 = a ∙ ap (λ (l : List ℕ). getD l 0 0) p ∙ getD-part links i 2 0 0 (omega arith) ∙ ap (λ (k : ℕ). getD links k 0) (add-zero i) in
-      let y : len ≡ getD links (i + 1) 0 = b ∙ ap (λ (l : List ℕ). getD l 1 0) p ∙ getD-part links i 2 1 0 (omega arith) in
-      e ∙ ap (λ (w : List ℕ). same w bytes) (q ∙ ap₂ (λ (n : ℕ) (m : ℕ). take n (drop m text)) y x)
+  pub spells-is : (part : List ℕ) → part ≡ partAt text links i → t ≡ same part bytes → t ≡ same (partAt text links i) bytes
+  spells-is part q e = e ∙ ap (λ (w : List ℕ). same w bytes) q
 
   spells-past : (k : ℕ) → length links ≤ i → i ≤ k → t ≡ same (partAt text links i) bytes → t ≡ same (partAt text links k) bytes
-  unfolding partAt
-  spells-past k h l e =
-      let x : getD links i 0 ≡ getD links k 0 = past links i i h (omega arith) ∙ sym (past links i k h l) in
-      let y : getD links (i + 1) 0 ≡ getD links (k + 1) 0 = past links i (i + 1) h (omega arith) ∙ sym (past links i (k + 1) h (omega arith)) in
-      e ∙ ap (λ (w : List ℕ). same w bytes) (ap₂ (λ (n : ℕ) (m : ℕ). take n (drop m text)) y x)
+  spells-past k h l e = e ∙ ap (λ (w : List ℕ). same w bytes) (part-past text links i k h l)
 
   pub name-past : length links ≤ i → t ≡ same (partAt text links i) bytes → t ≡ same (partAt text links (procBase i)) bytes
   name-past h e = spells-past (procBase i) h (omega arith) e
@@ -72,7 +67,7 @@ module _ (links : List ℕ) (e : ℕ) where
     unfolding upTo
     before-out h = rw (← p) (sym (choose-no place 0 (lt-leb place e h)))
 
-pub ruleset reads = (spells-is, name-past, word-past, head-past, before-past, before-in, before-out)
+pub ruleset reads = (part-at-is, spells-is, name-past, word-past, head-past, before-past, before-in, before-out)
 
 -- ---- what the links of a program hold
 

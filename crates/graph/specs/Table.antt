@@ -2,11 +2,12 @@
 use mathlib.Core.Path.{_≡_}
 use mathlib.Core.List.{List, [], _∷_, _++_}
 use mathlib.Core.Option.{Option, none, some}
-use Prim.Native.Nat.{ℕ, zero, suc, _+_, _*_, _<_}
+use Prim.Native.Nat.{ℕ, _+_, _*_, _<_}
 use lib.Dec.{ltb}
 use lib.ListN.{length, getD}
 use lib.Seq.{sets}
 use Rattle.laws.specs.Tests.{count}
+use Rattle.laws.specs.Tables.{rows}
 use Rattle.laws.specs.Chain.{latest}
 use Rattle.rules.specs.Graph.{Program, nameAt, ownerAt, kindAt, labelAt, sourceAt, wordAt, targetAt, procCount, nodeCount, edgeCount, kindNumber, entry, exit, called}
 use Rattle.rules.specs.ProgramFile.{Listing}
@@ -64,11 +65,6 @@ abbrev pub headOf : Listing → ℕ → ℕ
 headOf s n = latest (sourceAt (s .program)) n (edgeCount (s .program))
 
 -- ---- the tables that reading leaves
-
--- The first k rows, one after another.
-unfoldable pub rows : (ℕ → List ℕ) → ℕ → List ℕ
-rows f zero = []
-rows f (suc k) = rows f k ++ f k
 
 -- What reading leaves in tables that held t: the rows up to the counts; entries beyond them stay.
 unfoldable pub nodesAfter : Listing → List ℕ → List ℕ

@@ -8,14 +8,21 @@ ghost use Rattle.graph.specs.Table.{edgeBase, headBase, procBase};
 ghost use Rattle.graph.specs.Reads.{partAt, upTo};
 ghost use Rattle.graph.specs.Lookups.{Dashed, Degree, EdgeTaken, ProcNamed};
 
-// Whether the part of the text whose start stands at i in the links, and its length behind that, has these bytes.
+// The part of the text whose start stands at i in the table, and its length behind that.
+pub fn part_at<'a>(text: &'a [u8], table: &[usize], i: usize) -> &'a [u8]
+    ensures { λ r. ⌜ now r ≡ partAt (now (text .entry)) (now (table .entry)) i ⌝ }
+{
+    let place = text::run(table, i, 2);
+    let start = text::get(place, 0);
+    let len = text::get(place, 1);
+    text::part(text, start, len)
+}
+
+// Whether the part of the text whose place stands at i in the links has these bytes.
 fn spells(text: &[u8], links: &[usize], i: usize, bytes: &[u8]) -> bool
     ensures { λ r. ⌜ r ≡ sameBytes (partAt (now (text .entry)) (now (links .entry)) i) (now (bytes .entry)) ⌝ }
 {
-    let place = text::run(links, i, 2);
-    let start = text::get(place, 0);
-    let len = text::get(place, 1);
-    let part = text::part(text, start, len);
+    let part = part_at(text, links, i);
     text::same(part, bytes)
 }
 
@@ -44,7 +51,7 @@ pub fn proc_named(text: &[u8], links: &[usize], procs: usize, name: &[u8]) -> us
 }
 
 // The head of the node n's chain: 1 + its last edge, or 0.
-fn head(links: &[usize], n: usize) -> usize
+pub fn head(links: &[usize], n: usize) -> usize
     ensures { λ r. ⌜ r ≡ getD (now (links .entry)) (headBase n) 0 ⌝ }
 {
     if links.len() <= n {
@@ -54,7 +61,7 @@ fn head(links: &[usize], n: usize) -> usize
 }
 
 // 1 + the edge before e of the same node, or 0; 0 too where the links lead past e.
-fn before(links: &[usize], e: usize) -> usize
+pub fn before(links: &[usize], e: usize) -> usize
     ensures { λ r. ⌜ r ≡ upTo e (getD (now (links .entry)) (edgeBase e + 4) 0) ⌝ }
 {
     if links.len() <= e {

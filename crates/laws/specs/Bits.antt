@@ -11,9 +11,9 @@ use lib.Dec.{eqb}
 use lib.Arith.{le-zero, digits-mod}
 use lib.Bits.{bitAnd, and-step, and-shr}
 use lib.Count.{ones, ones-step, ones-le, under, trailingZeros}
-use lib.ListN.{length, getD, take, drop}
+use lib.ListN.{length, getD, take, drop, length-take, List·getD-eq-default}
 use lib.Pow.{shr-shr}
-use lib.Seq.{drop-drop}
+use lib.Seq.{drop-drop, getD-take, getD-drop}
 use borrow.Author.Tests.{eq-eqb, ne-eqb}
 use Rattle.laws.specs.Tests.{_and_, isnt, plus, count, first}
 use Rattle.laws.specs.TestLaws.{first-least, first-skip}
@@ -108,6 +108,14 @@ unfolding wordOf
 word-small [] = omega arith
 word-small (b ∷ l) = plus-small b (wordOf l) (length l) (word-small l)
 
+-- Lists that have the same bits make one number, however many spare zeros they end with.
+pub word-agree : (l m : List Bool) → ((j : ℕ) → getD l j false ≡ getD m j false) → wordOf l ≡ wordOf m
+unfolding wordOf plus
+word-agree [] [] h = refl
+word-agree [] (b ∷ m) h = ap₂ (λ (c : Bool) (n : ℕ). plus c (2 * n)) (h 0) (word-agree [] m (λ j. h (suc j)))
+word-agree (b ∷ l) [] h = ap₂ (λ (c : Bool) (n : ℕ). plus c (2 * n)) (h 0) (word-agree l [] (λ j. h (suc j)))
+word-agree (b ∷ l) (c ∷ m) h = ap₂ (λ (d : Bool) (n : ℕ). plus d (2 * n)) (h 0) (word-agree l m (λ j. h (suc j)))
+
 -- It is 0 exactly where no bit is 1.
 pub word-none : (b : Bool) (l : List Bool) → eqb (wordOf (b ∷ l)) 0 ≡ (isnt b and eqb (wordOf l) 0)
 unfolding wordOf plus isnt _and_
@@ -134,6 +142,20 @@ words-at (suc n) l zero h = refl
 words-at (suc n) l (suc k) h =
     let e : 64 + 64 * k ≡ 64 * suc k = omega arith in
     words-at n (drop 64 l) k (omega arith) ∙ ap (λ (r : List Bool). wordOf (take 64 r)) (drop-drop (64 * k) 64 l ∙ ap (λ (i : ℕ). drop i l) e)
+
+take-agree : (k : ℕ) (l m : List Bool) → ((j : ℕ) → getD l j false ≡ getD m j false) → (j : ℕ) → getD (take k l) j false ≡ getD (take k m) j false
+take-agree k l m h j =
+    below-or j k
+    (λ b. getD-take k l j false b ∙ h j ∙ sym (getD-take k m j false b))
+    (λ b. List·getD-eq-default (take k l) false (omega (arith, length-take k l)) ∙ sym (List·getD-eq-default (take k m) false (omega (arith, length-take k m))))
+
+-- Lists that have the same bits make the same words.
+pub words-agree : (n : ℕ) (l m : List Bool) → ((j : ℕ) → getD l j false ≡ getD m j false) → wordsOf n l ≡ wordsOf n m
+unfolding wordsOf
+words-agree zero l m h = refl
+words-agree (suc n) l m h =
+    ap₂ (λ (w : ℕ) (ws : List ℕ). w ∷ ws) (word-agree (take 64 l) (take 64 m) (take-agree 64 l m h))
+    (words-agree n (drop 64 l) (drop 64 m) (λ j. getD-drop 64 l j false ∙ h (64 + j) ∙ sym (getD-drop 64 m j false)))
 
 pub words-length : (n : ℕ) (l : List Bool) → length (wordsOf n l) ≡ n
 unfolding wordsOf

@@ -6,8 +6,8 @@ use native.Mathlib.Numerals.{add-one}
 use native.Mathlib.Nat.{zero-add, add-zero, add-suc, suc-add, add-assoc, sub-zero}
 use native.Mathlib.Decide.{decLt, ℕ-discrete}
 use native.Mathlib.Omega.{arith}
-use lib.ListN.{length, getD, take, drop, set, length-append, length-drop, length-take, drop-of-length-le}
-use lib.Seq.{sets, sets-eq, set-out, drop-cons, drop-drop, take-suc, take-at, take-nil, length-take-le, getD-take, getD-drop, getD-set-same, getD-set-other, take-set-le, take-take, drop-set-lt, drop-set-add}
+use lib.ListN.{length, getD, take, drop, set, length-append, length-drop, length-set, length-take, drop-of-length-le}
+use lib.Seq.{sets, sets-eq, set-out, drop-cons, drop-drop, take-suc, take-at, take-nil, length-take-le, getD-take, getD-drop, getD-set-same, getD-set-other, take-set-le, take-take, drop-set-lt, drop-set-add, set-getD, length-sets}
 
 -- ---- cases on numbers, each with its fact
 
@@ -197,6 +197,17 @@ module _ {A : Type 0} where
   pub getD-sets-in : (vs l : List A) (i k : ℕ) (d : A) → i + length vs ≤ length l → k < length vs → getD (sets l i vs) (i + k) d ≡ getD vs k d
   getD-sets-in vs l i k d h n =
       sym (getD-part (sets l i vs) i (length vs) k d n) ∙ ap (λ (r : List A). getD r k d) (part-sets vs l i h)
+
+  -- The same run stored again changes nothing.
+  pub sets-again : (vs l : List A) (i : ℕ) → sets (sets l i vs) i vs ≡ sets l i vs
+  sets-again [] l i = refl
+  sets-again (a ∷ vs) l i =
+      let s : List A = sets (set l i a) (suc i) vs in
+      let kept : set s i a ≡ s
+      = below-or i (length l)
+      (λ h. ap (λ (x : A). set s i x) (sym (getD-sets-before vs (set l i a) (suc i) i a (omega arith) ∙ getD-set-same l i a a h)) ∙ set-getD s i a)
+      (λ h. set-out s i a (omega (arith, length-sets (set l i a) (suc i) vs, length-set l i a))) in
+      ap (λ (x : List A). sets x (suc i) vs) kept ∙ sets-again vs (set l i a) (suc i)
 
   -- A loop that fills from the front: what is v below i is v below i + 1.
   pub filled-more : (l : List A) (i : ℕ) (v d : A) → i < length l → ((k : ℕ) → k < i → getD l k d ≡ v) → (k : ℕ) → k < i + 1 → getD (set l i v) k d ≡ v

@@ -1,44 +1,26 @@
--- The rows that a work table holds, one after another, are its windows; and the returns of the functions.
+-- What is copied from a work table is what reading leaves; and the returns of the functions.
 use mathlib.Core.Path.{_≡_, refl, sym, ap, ap₂, _∙_, subst}
 use mathlib.Core.Bool.{Bool, true, false}
 use mathlib.Core.List.{List, [], _∷_, _++_}
 use Prim.Native.Nat.{ℕ, zero, suc, _+_, _-_, _*_, _≤_, _<_}
-use native.Mathlib.Nat.{mul-zero, mul-suc}
 use native.Mathlib.Omega.{arith}
-use lib.ListN.{length, getD, take, drop, set, length-drop, length-set}
-use lib.Seq.{sets, ext-getD, take-add, drop-drop, length-sets, getD-set-same, set-getD}
+use lib.ListN.{length, getD, take, drop, length-drop}
+use lib.Seq.{sets, ext-getD, length-sets}
 use Rattle.laws.specs.Tests.{_and_, choose}
 use Rattle.laws.specs.TestLaws.{both-ways, fails}
-use Rattle.laws.specs.Slices.{below-or, same-or, drop-at, drop-end, length-part, part-short, getD-part, sets-out, sets-more, getD-sets-before, getD-sets-after}
-use Rattle.rules.specs.Text.{Bytes, same, Answer, refused, accepted}
-use Rattle.rules.specs.Proofs.TextLaws.{same-true, same-self, same-of, accepted-same}
+use Rattle.laws.specs.Tables.{rows, rows-window}
+use Rattle.laws.specs.Slices.{below-or, part-short, getD-sets-before, getD-sets-after}
+use Rattle.rules.specs.Text.{same, Answer, refused, accepted}
+use Rattle.rules.specs.Proofs.TextLaws.{same-true, same-of, accepted-same}
 use Rattle.rules.specs.Graph.{nodeCount, edgeCount, procCount}
 use Rattle.rules.specs.ProgramFile.{Listing, readListing}
-use Rattle.graph.specs.Table.{At, rows, nodeRow, procRow, edgeRow, headOf, nodesAfter, linksAfter}
+use Rattle.graph.specs.Table.{At, nodeRow, procRow, edgeRow, headOf, nodesAfter, linksAfter}
 use Rattle.graph.specs.Lookups.{in-table}
 use Rattle.reader.specs.declared.Count.{Count}
 use Rattle.reader.specs.Result.{linksOf, InTable, Told, Small, ReadInto}
 use Rattle.program.specs.Lent.{copiedNodes, copiedLinks, Counted, Leaves, ReadProgram, isLeft, leftNumber, TablesLeft}
 
--- ---- windows
-
--- A row that stands at j.
-row-window : (l : List ℕ) (j : ℕ) (row : List ℕ) → j + length row ≤ length l → At (in-table l) j row → take (length row) (drop j l) ≡ row
-row-window l j row h a =
-    let long : length (take (length row) (drop j l)) ≡ length row = length-part l j (length row) h in
-    ext-getD 0 (take (length row) (drop j l)) row long (λ i b. getD-part l j (length row) i 0 (omega arith) ∙ a i (omega arith))
-
--- Rows of k numbers, c of them from b on.
-rows-window : (l : List ℕ) (b k : ℕ) (f : ℕ → List ℕ) → ((i : ℕ) → length (f i) ≡ k) → (c : ℕ) → b + k * c ≤ length l → ((i : ℕ) → i < c → At (in-table l) (b + k * i) (f i))
-    → take (k * c) (drop b l) ≡ rows f c
-unfolding rows
-rows-window l b k f size zero h a = ap (λ (n : ℕ). take n (drop b l)) (mul-zero k)
-rows-window l b k f size (suc c) h a =
-    let e : k * suc c ≡ k * c + k = mul-suc k c in
-    let last : take k (drop (b + k * c) l) ≡ f c
-    = ap (λ (n : ℕ). take n (drop (b + k * c) l)) (sym (size c)) ∙ row-window l (b + k * c) (f c) (omega (arith, size c)) (a c (omega arith)) in
-    ap (λ (n : ℕ). take n (drop b l)) e ∙ take-add (k * c) k (drop b l)
-    ∙ ap₂ (λ (x y : List ℕ). x ++ y) (rows-window l b k f size c (omega arith) (λ i d. a i (omega arith))) (ap (take k) (drop-drop (k * c) b l) ∙ last)
+-- ---- what is copied
 
 module _ (w : List ℕ) (c : Count) (s : Listing) (h : InTable w c s) (sm : Small c) (room : 8128 ≤ length w) where
   long : length (linksOf w) ≡ length w - 2048
@@ -48,7 +30,7 @@ module _ (w : List ℕ) (c : Count) (s : Listing) (h : InTable w c s) (sm : Smal
   unfolding copiedNodes nodesAfter
   nodes-copied t =
       ap (sets t 0)
-      (rows-window w 0 4 (nodeRow s) (λ i. refl) (c .nodes) (omega (arith, sm .few-nodes)) (λ i l. subst (λ (j : ℕ). At (in-table w) j (nodeRow s i)) (let z : 4 * i ≡ 0 + 4 * i = omega arith in z) (h .nodes i (omega (arith, h .nodes-n))))
+      (rows-window 4 (nodeRow s) (λ i. refl) w 0 (c .nodes) (omega (arith, sm .few-nodes)) (λ i l. subst (λ (j : ℕ). At (in-table w) j (nodeRow s i)) (let z : 4 * i ≡ 0 + 4 * i = omega arith in z) (h .nodes i (omega (arith, h .nodes-n))))
       ∙ ap (rows (nodeRow s)) (h .nodes-n))
 
   head-at : (i : ℕ) → i < c .nodes → At (in-table (linksOf w)) (5568 + 1 * i) (headOf s i ∷ [])
@@ -59,13 +41,13 @@ module _ (w : List ℕ) (c : Count) (s : Listing) (h : InTable w c s) (sm : Smal
   unfolding copiedLinks linksAfter
   links-copied t =
       let a : take (7 * c .procs) (drop 0 (linksOf w)) ≡ rows (procRow s) (procCount (s .program))
-      = rows-window (linksOf w) 0 7 (procRow s) (λ i. refl) (c .procs) (omega (arith, sm .few-procs, long))
+      = rows-window 7 (procRow s) (λ i. refl) (linksOf w) 0 (c .procs) (omega (arith, sm .few-procs, long))
       (λ i l. subst (λ (j : ℕ). At (in-table (linksOf w)) j (procRow s i)) (let z : 7 * i ≡ 0 + 7 * i = omega arith in z) (h .procs i (omega (arith, h .procs-n)))) ∙ ap (rows (procRow s)) (h .procs-n) in
       let b : take (5 * c .edges) (drop 448 (linksOf w)) ≡ rows (edgeRow s) (edgeCount (s .program))
-      = rows-window (linksOf w) 448 5 (edgeRow s) (λ i. refl) (c .edges) (omega (arith, sm .few-edges, long)) (λ i l. h .edges i (omega (arith, h .edges-n))) ∙ ap (rows (edgeRow s)) (h .edges-n) in
+      = rows-window 5 (edgeRow s) (λ i. refl) (linksOf w) 448 (c .edges) (omega (arith, sm .few-edges, long)) (λ i l. h .edges i (omega (arith, h .edges-n))) ∙ ap (rows (edgeRow s)) (h .edges-n) in
       let d : take (c .nodes) (drop 5568 (linksOf w)) ≡ rows (λ n. headOf s n ∷ []) (nodeCount (s .program))
       = ap (λ (n : ℕ). take n (drop 5568 (linksOf w))) (let z : c .nodes ≡ 1 * c .nodes = omega arith in z)
-      ∙ rows-window (linksOf w) 5568 1 (λ n. headOf s n ∷ []) (λ i. refl) (c .nodes) (omega (arith, sm .few-nodes, long)) head-at ∙ ap (rows (λ n. headOf s n ∷ [])) (h .nodes-n) in
+      ∙ rows-window 1 (λ n. headOf s n ∷ []) (λ i. refl) (linksOf w) 5568 (c .nodes) (omega (arith, sm .few-nodes, long)) head-at ∙ ap (rows (λ n. headOf s n ∷ [])) (h .nodes-n) in
       rw (a, b, d)
 
 -- ---- the returns
@@ -99,29 +81,6 @@ program-read text w n n′ l l′ r h room z en el =
     (subst (λ (x : List ℕ). ReadProgram text r n (copiedNodes w (r .nodes) n) l x) (sym el) (record { leaves = told-leaves (readListing text) r w n l (h .told) (h .small) room z }))
 
 pub ruleset copies = (nodes-copy, links-copy, program-stop, program-read)
-
--- ---- `same_run`
-
-pub run-full : (t vs : List ℕ) (at k i : ℕ) → same (sets t at vs) t ≡ same (sets t k (drop i vs)) t → length t ≤ k → true ≡ same (sets t at vs) t
-run-full t vs at k i e h = sym (e ∙ ap (λ (l : List ℕ). same l t) (sets-out (drop i vs) t k h) ∙ same-self t)
-
-pub run-end : (t vs : List ℕ) (at k i : ℕ) → same (sets t at vs) t ≡ same (sets t k (drop i vs)) t → length vs ≤ i → true ≡ same (sets t at vs) t
-run-end t vs at k i e h = sym (e ∙ ap (λ (l : List ℕ). same (sets t k l) t) (drop-end vs i h) ∙ same-self t)
-
-pub run-on : (t vs : List ℕ) (at k i : ℕ) → same (sets t at vs) t ≡ same (sets t k (drop i vs)) t → k < length t → i < length vs → getD t k 0 ≡ getD vs i 0 → same (sets t at vs) t ≡ same (sets t (k + 1) (drop (i + 1) vs)) t
-run-on t vs at k i e h b q =
-    e ∙ ap (λ (l : List ℕ). same (sets t k l) t) (drop-at vs i 0 b) ∙ ap (λ (l : List ℕ). same l t) (sets-more t k (getD vs i 0) (drop (i + 1) vs))
-    ∙ ap (λ (l : List ℕ). same (sets l (k + 1) (drop (i + 1) vs)) t) (ap (set t k) (sym q) ∙ set-getD t k 0)
-
-pub run-not : (t vs : List ℕ) (at k i : ℕ) → same (sets t at vs) t ≡ same (sets t k (drop i vs)) t → k < length t → i < length vs → (getD t k 0 ≡ getD vs i 0 → ⊥) → false ≡ same (sets t at vs) t
-run-not t vs at k i e h b q =
-    sym (e ∙ ap (λ (l : List ℕ). same (sets t k l) t) (drop-at vs i 0 b)
-    ∙ fails _ (λ y. q (sym (ap (λ (l : List ℕ). getD l k 0) (same-true _ t y))
-    ∙ ap (λ (l : List ℕ). getD l k 0) (sets-more t k (getD vs i 0) (drop (i + 1) vs)) ∙ getD-sets-before (drop (i + 1) vs) (set t k (getD vs i 0)) (k + 1) k 0 (omega arith)
-    ∙ getD-set-same t k (getD vs i 0) 0 h)))
-
-pub run-start : (t vs : List ℕ) (at : ℕ) → same (sets t at vs) t ≡ same (sets t at (drop 0 vs)) t
-run-start t vs at = refl
 
 -- ---- `same_nodes`, `same_links`
 
@@ -229,6 +188,6 @@ module _ (text w n l : List ℕ) (c : Count) (h : ReadInto text c w) where
           told-place (refused k p) t = absurd (let o : ⊥ = omega (arith, t .0, t .2) in o)
           told-place (accepted s) t = t .1
 
-pub ruleset runs = (run-full, run-end, run-on, run-not, run-start, nodes-same, links-not, links-not-edges, links-same, left-refused, left-nodes, left-links, left-done)
+pub ruleset runs = (nodes-same, links-not, links-not-edges, links-same, left-refused, left-nodes, left-links, left-done)
 
 pub ruleset all = (copies, runs)

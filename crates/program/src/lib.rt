@@ -3,10 +3,10 @@
 use reader::Count;
 use text::copy;
 use text::run;
+use text::same_run;
 ghost use mathlib.Core.Path.{_≡_};
-ghost use Prim.Native.Nat.{_*_, _≤_};
-ghost use lib.ListN.{length, take, drop};
-ghost use lib.Seq.{sets};
+ghost use Prim.Native.Nat.{_≤_};
+ghost use lib.ListN.{length};
 ghost use Rattle.reader.specs.Result.{Small};
 ghost use Rattle.rules.specs.Text.{same as sameNumbers};
 ghost use Rattle.program.specs.Lent.{ReadProgram, TablesLeft, copiedLinks, copiedNodes};
@@ -55,26 +55,7 @@ pub fn read_program(
 
 // ---- are these tables what reading this text leaves
 
-// Whether storing vs from the place `at` on would change nothing in t.
-fn same_run(t: &[usize], at: usize, vs: &[usize]) -> bool
-    requires { ⌜ at ≤ 65536 ⌝ }
-    ensures { λ r. ⌜ r ≡ sameNumbers (sets (now (t .entry)) at (now (vs .entry))) (now (t .entry)) ⌝ }
-{
-    let mut k = at;
-    let mut i = 0;
-    while i < vs.len() {
-        if t.len() <= k {
-            return true;
-        }
-        if t[k] != vs[i] {
-            return false;
-        }
-        k += 1;
-        i += 1;
-    }
-    true
-}
-
+// Whether copying the rows of the nodes would change nothing.
 fn same_nodes(work: &[usize], count: usize, nodes: &[usize]) -> bool
     requires { ⌜ count ≤ 512 ⌝ }
     ensures { λ r. ⌜ r ≡ sameNumbers (copiedNodes (now (work .entry)) count (now (nodes .entry))) (now (nodes .entry)) ⌝ }
@@ -82,6 +63,7 @@ fn same_nodes(work: &[usize], count: usize, nodes: &[usize]) -> bool
     same_run(nodes, 0, run(work, 0, 4 * count))
 }
 
+// Whether copying the links would change nothing.
 fn same_links(work: &[usize], had: Count, lent: &[usize]) -> bool
     requires { ⌜ Small had ⌝ }
     ensures { λ r. ⌜ r ≡ sameNumbers (copiedLinks (now (work .entry)) had (now (lent .entry))) (now (lent .entry)) ⌝ }

@@ -5,15 +5,15 @@ use mathlib.Core.Bool.{Bool, true, false}
 use mathlib.Core.List.{List, []}
 use Prim.Native.Nat.{ℕ, suc, _+_, _-_, _*_, _/_, _%_, _≤_, _<_}
 use native.Mathlib.Omega.{arith}
-use lib.ListN.{length, getD, take, drop, set, length-set}
+use lib.ListN.{length, getD, take, drop, set, length-set, length-take, List·getD-eq-default}
 use lib.Seq.{getD-drop, getD-set-other, getD-set-same, getD-take}
 use borrow.Author.Tests.{le-leb, lt-leb, eqb-true}
 use Rattle.laws.specs.Tests.{any, isnt}
 use Rattle.laws.specs.TestLaws.{and-right}
 use Rattle.laws.specs.Lists.{snoc-cases, snoc-length, snoc-new, snoc-old}
 use Rattle.laws.specs.Counting.{any-agree}
-use Rattle.laws.specs.Slices.{getD-sets-before, getD-sets-in}
-use Rattle.laws.specs.Bits.{bitAt, bitIn, wordOf, wordsOf, bit-none, bit-word, bits-words, words-length}
+use Rattle.laws.specs.Slices.{below-or, getD-sets-before, getD-sets-in}
+use Rattle.laws.specs.Bits.{bitAt, bitIn, wordOf, wordsOf, bit-none, bit-word, bits-words, words-agree, words-length}
 use Rattle.rules.specs.Text.{Bytes, same, split, unless}
 use Rattle.rules.specs.Closing.{Coverage}
 use Rattle.rules.specs.SuiteFile.{TestListing, bitsOf, rowFine, stepSuite, takeTest, test-line, testCount, testForm, testName, tested, withTest}
@@ -54,6 +54,17 @@ module _ (w : List ℕ) (c : ℕ) (row : Bytes) where
       ap (λ (x : ℕ). bitAt x (e % 64)) (getD-sets-in (wordsOf 16 (bitsOf row)) w (16 * c) (e / 64) 0 (omega (arith, l)) (omega (arith, l)))
       ∙ bits-words 16 (bitsOf row) e (omega arith)
 
+  -- The same of their words.
+  word-old : (i k : ℕ) → i < c → k < 16 → getD (storedRow w c row) (16 * i + k) 0 ≡ getD w (16 * i + k) 0
+  unfolding storedRow
+  word-old i k h l = getD-sets-before (wordsOf 16 (bitsOf row)) w (16 * c) (16 * i + k) 0 (omega arith)
+
+  word-new : (k : ℕ) → 16 * c + 16 ≤ length w → k < 16 → getD (storedRow w c row) (16 * c + k) 0 ≡ getD (wordsOf 16 (bitsOf row)) k 0
+  unfolding storedRow
+  word-new k h l =
+      let e : length (wordsOf 16 (bitsOf row)) ≡ 16 = words-length 16 (bitsOf row) in
+      getD-sets-in (wordsOf 16 (bitsOf row)) w (16 * c) k 0 (omega (arith, e)) (omega (arith, e))
+
 -- The bits of a fine row past its edges are 0.
 past-none : (m : ℕ) (row : Bytes) → rowFine m row ≡ true → (e : ℕ) → m ≤ e → getD (bitsOf row) e false ≡ false
 unfolding rowFine
@@ -66,11 +77,21 @@ past-none m row h e k =
     ∙ ap (λ (x : ℕ). bitAt x (e - m)) z
     ∙ bit-none (e - m)
 
+-- So the words of its digits are those of its edges.
+fine-words : (m : ℕ) (row : Bytes) → rowFine m row ≡ true → wordsOf 16 (bitsOf row) ≡ wordsOf 16 (take m (bitsOf row))
+fine-words m row fine =
+    words-agree 16 (bitsOf row) (take m (bitsOf row))
+    (λ j.
+    below-or j m
+    (λ b. sym (getD-take m (bitsOf row) j false b))
+    (λ b. past-none m row fine j b ∙ sym (List·getD-eq-default (take m (bitsOf row)) false (omega (arith, length-take m (bitsOf row))))))
+
 row-old : (m : ℕ) (w : List ℕ) (c : ℕ) (row : Bytes) (i : ℕ) (coverage : Coverage) → m ≤ 1024 → i < c → Row m w i coverage → Row m (storedRow w c row) i coverage
 row-old m w c row i coverage few h r =
     record {
       edges = λ e k. bit-old w c row i e h (omega arith) ∙ r .edges e k;
       spare = λ e k l. bit-old w c row i e h l ∙ r .spare e k l;
+      words = λ k l. word-old w c row i k h l ∙ r .words k l;
     }
 
 row-new : (m : ℕ) (w : List ℕ) (c : ℕ) (row : Bytes) → m ≤ 1024 → 16 * c + 16 ≤ length w → rowFine m row ≡ true → Row m (storedRow w c row) c (take m (bitsOf row))
@@ -78,6 +99,7 @@ row-new m w c row few h fine =
     record {
       edges = λ e k. bit-new w c row e h (omega arith) ∙ sym (getD-take m (bitsOf row) e false k);
       spare = λ e k l. bit-new w c row e h l ∙ past-none m row fine e k;
+      words = λ k l. word-new w c row k h l ∙ ap (λ (v : List ℕ). getD v k 0) (fine-words m row fine);
     }
 
 -- ---- one test more

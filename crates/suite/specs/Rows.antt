@@ -16,10 +16,11 @@ use Rattle.rules.specs.SuiteFile.{TestListing, bitsOf, coverageAt, testCount, t
 unfoldable pub edgeBit : List ℕ → ℕ → ℕ → Bool
 edgeBit rows i e = bitAt (getD rows (16 * i + e / 64) 0) (e % 64)
 
--- The row of the test i holds the coverage of m edges, and its other bits are 0.
+-- The row of the test i holds the coverage of m edges, and its other bits are 0; so its 16 words are those of the coverage.
 pub record Row (m : ℕ) (rows : List ℕ) (i : ℕ) (coverage : Coverage) : Type 0 where
   pub edges : (e : ℕ) → e < m → edgeBit rows i e ≡ holds coverage e
   pub spare : (e : ℕ) → m ≤ e → e < 1024 → edgeBit rows i e ≡ false
+  pub words : (k : ℕ) → k < 16 → getD rows (16 * i + k) 0 ≡ getD (wordsOf 16 coverage) k 0
 
 -- The tables hold the tests that were read, where the old program has m edges.
 pub record Holds (m : ℕ) (tests rows : List ℕ) (n : ℕ) (l : TestListing) : Type 0 where

@@ -7,15 +7,15 @@ use native.Mathlib.Nat.{add-sub-cancel-left}
 use native.Mathlib.Omega.{arith}
 use lib.Dec.{eqb, leb}
 use lib.ListN.{length, getD, take, drop, set, replicate, length-drop, length-append, List·getD-eq-default}
-use lib.Seq.{length-take-le, take-all, take-nil, set-out, sets}
+use lib.Seq.{length-take-le, take-all, take-nil, set-out, sets, set-getD, getD-set-same}
 use borrow.Author.Fill.{fill-more}
 use borrow.Author.Tests.{eq-eqb, ne-eqb, le-leb, lt-leb}
 use Rattle.laws.specs.Tests.{_and_, _or_, isnt, choose}
 use Rattle.laws.specs.TestLaws.{and-right, false-isnt, fails, both-ways}
-use Rattle.laws.specs.Slices.{below-or, drop-at, drop-end, take-more, sets-more, sets-out}
+use Rattle.laws.specs.Slices.{below-or, drop-at, drop-end, take-more, sets-more, sets-out, getD-sets-before}
 use Rattle.rules.specs.Text.{Bytes, same, between, allBytes, nameByte, labelByte, wordByte, digitByte, isName, isLabel, isWord, isNumber, valueFrom, decimal}
 use Rattle.rules.specs.SuiteFile.{hexByte}
-use Rattle.rules.specs.Proofs.TextLaws.{decimal-small, decimal-more}
+use Rattle.rules.specs.Proofs.TextLaws.{decimal-small, decimal-more, same-self, same-true}
 use Rattle.text.specs.Scans.{span, plainByte, classByte, sized}
 use Rattle.text.specs.SplitLaws.{span-hit, span-miss, span-end, counts, fields}
 use Rattle.text.specs.Puts.{Puts, puts-none, puts-then, puts-length}
@@ -110,6 +110,29 @@ module _ (d₀ d s : List ℕ) (at k i : ℕ) (inv : sets d₀ at s ≡ sets d k
   copy-done h = sym (inv ∙ simp (drop-end s i h))
 
 pub ruleset stores = (get-out, put-out, clear-on, clear-done, copy-on, copy-full, copy-done)
+
+-- ---- `same_run`
+
+module _ (t vs : List ℕ) (at k i : ℕ) (inv : same (sets t at vs) t ≡ same (sets t k (drop i vs)) t) where
+  pub run-full : length t ≤ k → true ≡ same (sets t at vs) t
+  run-full h = sym (inv ∙ ap (λ (l : List ℕ). same l t) (sets-out (drop i vs) t k h) ∙ same-self t)
+
+  pub run-end : length vs ≤ i → true ≡ same (sets t at vs) t
+  run-end h = sym (inv ∙ ap (λ (l : List ℕ). same (sets t k l) t) (drop-end vs i h) ∙ same-self t)
+
+  pub run-on : i < length vs → getD t k 0 ≡ getD vs i 0 → same (sets t at vs) t ≡ same (sets t (k + 1) (drop (i + 1) vs)) t
+  run-on b q =
+      inv ∙ ap (λ (l : List ℕ). same (sets t k l) t) (drop-at vs i 0 b) ∙ ap (λ (l : List ℕ). same l t) (sets-more t k (getD vs i 0) (drop (i + 1) vs))
+      ∙ ap (λ (l : List ℕ). same (sets l (k + 1) (drop (i + 1) vs)) t) (ap (set t k) (sym q) ∙ set-getD t k 0)
+
+  pub run-not : k < length t → i < length vs → (getD t k 0 ≡ getD vs i 0 → ⊥) → false ≡ same (sets t at vs) t
+  run-not h b q =
+      sym (inv ∙ ap (λ (l : List ℕ). same (sets t k l) t) (drop-at vs i 0 b)
+      ∙ fails _ (λ y. q (sym (ap (λ (l : List ℕ). getD l k 0) (same-true _ t y))
+      ∙ ap (λ (l : List ℕ). getD l k 0) (sets-more t k (getD vs i 0) (drop (i + 1) vs)) ∙ getD-sets-before (drop (i + 1) vs) (set t k (getD vs i 0)) (k + 1) k 0 (omega arith)
+      ∙ getD-set-same t k (getD vs i 0) 0 h)))
+
+pub ruleset runs = (run-full, run-end, run-on, run-not)
 
 -- ---- the classes
 
@@ -336,4 +359,4 @@ module _ (at x : ℕ) (l : at + length (decimal x) < 2 ^ 64) where
 
 pub ruleset writes = (byte-past, bytes-none, bytes-room, bytes-on, bytes-done, decimal-one, decimal-on, room-one, room-before, room-last, puts-length)
 
-pub ruleset all = (finds, sames, parts, stores, classes, alls, sizes, numbers, counts, fields, values, writes)
+pub ruleset all = (finds, sames, parts, stores, runs, classes, alls, sizes, numbers, counts, fields, values, writes)

@@ -16,11 +16,15 @@ ghost use Rattle.rules.specs.Text.{
   isWord,
   nameByte,
   same as sameBytes,
+  same as sameNumbers,
   split,
   value as valueOf,
 };
 ghost use Rattle.text.specs.Puts.{Puts};
 ghost use Rattle.text.specs.Scans.{classByte, plainByte, sized as isSized, span};
+
+// The bytes of a sheet's first line.
+pub const SHEET_HEAD: [u8; 7] = *b"sheet,1";
 
 // How many bytes stand before the first b: all of them, where there is none.
 pub fn find(s: &[u8], b: u8) -> usize
@@ -146,6 +150,78 @@ pub fn copy(d: &mut [usize], at: usize, s: &[usize])
         i += 1;
     }
 }
+
+// Whether putting the numbers of s into d from at on would change nothing.
+pub fn same_run(d: &[usize], at: usize, s: &[usize]) -> bool
+    ensures { λ r. ⌜ r ≡ sameNumbers (sets (now (d .entry)) at (now (s .entry))) (now (d .entry)) ⌝ }
+{
+    let mut k = at;
+    let mut i = 0;
+    while i < s.len() {
+        if d.len() <= k {
+            return true;
+        }
+        if d[k] != s[i] {
+            return false;
+        }
+        k += 1;
+        i += 1;
+    }
+    true
+}
+
+// ---- the same of tables of words of 64 bits
+
+// The part of s from start, len words long, cut at the end of s.
+pub fn run_words(s: &[u64], start: usize, len: usize) -> &[u64]
+    ensures { λ r. ⌜ now r ≡ take len (drop start (now (s .entry))) ⌝ }
+{
+    if s.len() < start {
+        return &s[..0];
+    }
+    if s.len() - start < len {
+        return &s[start..];
+    }
+    let end = start + len;
+    &s[start..end]
+}
+
+// Puts the words of s into d from at on, as far as d goes.
+pub fn copy_words(d: &mut [u64], at: usize, s: &[u64])
+    ensures { λ _. ⌜ now (d .exit) ≡ sets (now (d .entry)) at (now (s .entry)) ⌝ }
+{
+    let mut k = at;
+    let mut i = 0;
+    while i < s.len() {
+        if d.len() <= k {
+            return;
+        }
+        d[k] = s[i];
+        k += 1;
+        i += 1;
+    }
+}
+
+// Whether putting the words of s into d from at on would change nothing.
+pub fn same_words(d: &[u64], at: usize, s: &[u64]) -> bool
+    ensures { λ r. ⌜ r ≡ sameNumbers (sets (now (d .entry)) at (now (s .entry))) (now (d .entry)) ⌝ }
+{
+    let mut k = at;
+    let mut i = 0;
+    while i < s.len() {
+        if d.len() <= k {
+            return true;
+        }
+        if d[k] != s[i] {
+            return false;
+        }
+        k += 1;
+        i += 1;
+    }
+    true
+}
+
+// ---- bytes and fields
 
 // Whether x is from a to b.
 fn between(a: u8, b: u8, x: u8) -> bool

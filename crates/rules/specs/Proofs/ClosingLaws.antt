@@ -1,15 +1,37 @@
 -- What `alike`, `sameWord` and `fits` give: the only proofs that look behind these names.
-use mathlib.Core.Path.{_≡_, sym, _∙_}
-use mathlib.Core.Bool.{true}
+use mathlib.Core.Path.{_≡_, refl, sym, ap, _∙_}
+use mathlib.Core.Bool.{Bool, true}
 use mathlib.Core.List.{[]}
 use Prim.Native.Nat.{ℕ}
-use Rattle.laws.specs.TestLaws.{and-both, and-left, and-right}
-use Rattle.rules.specs.Graph.{Program, calleeAt, kindAt, labelAt, targetAt, wordAt}
+use lib.Dec.{eqb}
+use Rattle.laws.specs.Tests.{_and_, first}
+use Rattle.laws.specs.TestLaws.{and-both, and-left, and-right, same-test}
+use Rattle.laws.specs.Counting.{first-agree}
+use Rattle.rules.specs.Text.{Bytes, same}
+use Rattle.rules.specs.Graph.{Program, calleeAt, edgeCount, edgeTaken, kindAt, labelAt, leaves, sameKind, sourceAt, targetAt, wordAt}
 use Rattle.rules.specs.Closing.{alike, fits, sameCallee, sameLabel, sameWord}
 use Rattle.rules.specs.Proofs.GraphLaws.{sameKind-of, sameKind-true}
 use Rattle.rules.specs.Proofs.TextLaws.{same-of, same-true}
 
+-- Labels and callee fields count as equal by their bytes.
+pub sameLabel-is : (l l′ : Bytes) → sameLabel l l′ ≡ same l l′
+unfolding sameLabel
+sameLabel-is l l′ = refl
+
+pub sameCallee-is : (c c′ : Bytes) → sameCallee c c′ ≡ same c c′
+unfolding sameCallee
+sameCallee-is c c′ = refl
+
 module _ (old new : Program) (n n′ : ℕ) where
+  -- Nodes are alike by their kinds, labels and callees. Two callee fields of no bytes count as equal.
+  pub alike-parts : alike old new n n′ ≡ (sameKind (kindAt old n) (kindAt new n′) and sameLabel (labelAt old n) (labelAt new n′) and sameCallee (calleeAt old n) (calleeAt new n′))
+  unfolding alike
+  alike-parts = refl
+
+  pub bare-callees : calleeAt old n ≡ [] → calleeAt new n′ ≡ [] → sameCallee (calleeAt old n) (calleeAt new n′) ≡ true
+  unfolding sameCallee
+  bare-callees c c′ = same-of (c ∙ sym c′)
+
   -- Alike nodes have equal kinds, and labels of one action.
   pub alike-kind : alike old new n n′ ≡ true → kindAt new n′ ≡ kindAt old n
   unfolding alike
@@ -44,3 +66,11 @@ module _ (old new : Program) (e e′ : ℕ) where
   pub fits-of : sameWord old new e e′ ≡ true → alike old new (targetAt old e) (targetAt new e′) ≡ true → fits old new e e′ ≡ true
   unfolding fits
   fits-of w a = and-both w a
+
+-- The edge that the new node m takes for the word of the old edge e.
+module _ (old new : Program) (e m : ℕ) where
+  pub taken-same : edgeTaken new m (wordAt old e) ≡ first (edgeCount new) (λ e′. eqb (sourceAt new e′) m and sameWord old new e e′)
+  unfolding edgeTaken leaves sameWord
+  taken-same =
+      first-agree (leaves new m (wordAt old e)) (λ e′. eqb (sourceAt new e′) m and sameWord old new e e′) (edgeCount new)
+      (λ i l. ap (λ (t : Bool). eqb (sourceAt new i) m and t) (same-test _ _ (λ t. same-of (sym (same-true _ _ t))) (λ t. same-of (sym (same-true _ _ t)))))

@@ -2,13 +2,13 @@
 use mathlib.Core.Path.{_≡_, refl, sym, ap, _∙_}
 use mathlib.Core.Logic.{_⊎_, inl, inr}
 use mathlib.Core.Bool.{Bool, true}
-use mathlib.Core.Option.{some}
+use mathlib.Core.Option.{Option, none, some}
 use Prim.Native.Nat.{ℕ, zero, suc, _≤_, _<_}
 use native.Mathlib.Omega.{arith}
 use lib.Dec.{eqb}
 use borrow.Author.Tests.{eqb-true, eq-eqb}
 use Rattle.laws.specs.Tests.{first, count}
-use Rattle.laws.specs.TestLaws.{and-left, and-right, and-both, eqb-self, first-at, first-only, count-one}
+use Rattle.laws.specs.TestLaws.{and-left, and-right, and-both, eqb-self, first-at, first-none, first-only, count-one}
 use Rattle.rules.specs.Text.{Bytes, same}
 use Rattle.rules.specs.Graph.{Kind, E, S, C, X, Program, WellFormed, nameAt, ownerAt, kindAt, calleeAt, sourceAt, wordAt, procCount, nodeCount, edgeCount, dash, kindNumber, sameKind, orZero, isOf, entry, exit, procOf, called, leaves, edgeTaken, degree, worded}
 use Rattle.rules.specs.Proofs.TextLaws.{same-of, same-true}
@@ -89,6 +89,26 @@ module _ (p : Program) (wf : WellFormed p) where
   exit-only q n h l a b =
       let r = first-found (nodeCount p) (isOf p q X) (wf .exits q h) in
       rw (r .4) (r .3 n l (isOf-of p q X n a b))
+
+  -- The procedure that is looked up for a node exists, also where the node calls none; that of a call has the name that the node gives.
+  pub called-below : (n : ℕ) → called p n < procCount p
+  unfolding called procOf orZero
+  called-below n = go (first (procCount p) (λ q. same (nameAt p q) (calleeAt p n))) refl
+    where
+      go : (o : Option ℕ) → first (procCount p) (λ q. same (nameAt p q) (calleeAt p n)) ≡ o → orZero o < procCount p
+      go none e = wf .begins
+      go (some q) e = first-at (λ q. same (nameAt p q) (calleeAt p n)) (procCount p) q e .0
+
+  pub called-name : (n : ℕ) → n < nodeCount p → kindAt p n ≡ C → nameAt p (called p n) ≡ calleeAt p n
+  unfolding called procOf orZero
+  called-name n h k =
+      let r = wf .callees n h k in
+      go (first (procCount p) (λ q. same (nameAt p q) (calleeAt p n))) refl (r .0) (r .1) (same-of (r .2))
+    where
+      go : (o : Option ℕ) → first (procCount p) (λ q. same (nameAt p q) (calleeAt p n)) ≡ o → (q : ℕ) → q < procCount p → same (nameAt p q) (calleeAt p n) ≡ true
+          → nameAt p (orZero o) ≡ calleeAt p n
+      go none e q l t = absurd (first-none (λ q. same (nameAt p q) (calleeAt p n)) (procCount p) e q l t)
+      go (some j) e q l t = same-true _ _ (first-at (λ q. same (nameAt p q) (calleeAt p n)) (procCount p) j e .1)
 
   -- A call's procedure exists.
   pub called-is : (n : ℕ) → n < nodeCount p → kindAt p n ≡ C → called p n < procCount p

@@ -1,18 +1,18 @@
 use borrow.Author.Needs.{needs}
-use Rattle.program.proofs.Laws.{all}
-use Prim.Native.Nat.{_≤_, _+_, _-_}
+use Rattle.text.proofs.Laws.{all}
+use Prim.Native.Nat.{_≤_, _-_}
 use mathlib.Core.Path.{_≡_}
 use lib.ListN.{length, drop}
 use lib.Seq.{sets}
-use Rattle.rules.specs.Text.{same}
-use Rattle.program.proofs.same_run.Statement.{statement}
-use Rattle.program.proofs.same_run.Tie as tie
+use Rattle.rules.specs.Text.{same as sameNumbers}
+use Rattle.text.proofs.same_run.Statement.{statement}
+use Rattle.text.proofs.same_run.Tie as tie
 
 abbrev Inv-loop : tie.InvT-loop
-Inv-loop t at vs k₀ i₀ k i = (i ≤ length vs) × (k ≡ at + i) × (same (sets t at vs) t ≡ same (sets t k (drop i vs)) t)
+Inv-loop d at s k₀ i₀ k i = (i ≤ length s) × (sameNumbers (sets d at s) d ≡ sameNumbers (sets d k (drop i s)) d)
 
 abbrev μ-loop : tie.MeasureT-loop
-μ-loop t at vs k₀ i₀ k i = length vs - i
+μ-loop d at s k₀ i₀ k i = length s - i
 
 loop-holds : tie.Need-loop-holds Inv-loop μ-loop
 loop-holds c = search (all, needs)

@@ -1,0 +1,64 @@
+-- A set of pairs of nodes in one table: 512 heads, one for each old node; then three numbers a pair: the old node, the new node, and 1 + the pair before it
+-- of the same old node, or 0. How many pairs there are stands outside the table.
+use mathlib.Core.Path.{_≡_}
+use mathlib.Core.Bool.{Bool}
+use mathlib.Core.List.{List, [], _∷_, _++_}
+use Prim.Native.Nat.{ℕ, zero, suc, _+_, _*_, _≤_, _<_}
+use lib.Dec.{ltb, leb}
+use lib.ListN.{length, getD}
+use Rattle.laws.specs.Tests.{_and_, choose, first, found, listed}
+use Rattle.laws.specs.Chain.{Chained}
+
+-- The head of the old node a; the two nodes and the link of the pair k.
+abbrev pub headAt : List ℕ → ℕ → ℕ
+headAt w a = getD w a 0
+
+abbrev pub oldAt : List ℕ → ℕ → ℕ
+oldAt w k = getD w (512 + 3 * k) 0
+
+abbrev pub newAt : List ℕ → ℕ → ℕ
+newAt w k = getD w (513 + 3 * k) 0
+
+abbrev pub linkAt : List ℕ → ℕ → ℕ
+linkAt w k = getD w (514 + 3 * k) 0
+
+-- The first c pairs, in the order in which they were added.
+unfoldable pub pairsIn : List ℕ → ℕ → List (ℕ × ℕ)
+pairsIn w zero = []
+pairsIn w (suc c) = pairsIn w c ++ ((oldAt w c, newAt w c) ∷ [])
+
+-- The table holds c pairs: there is room for them, their old nodes have heads, and the heads and links are the chains of their old nodes.
+pub record Store (w : List ℕ) (c : ℕ) : Type 0 where
+  pub room : 512 + 3 * c ≤ length w
+  pub inside : (k : ℕ) → k < c → oldAt w k < 512
+  pub chains : Chained (oldAt w) 512 c (headAt w) (linkAt w)
+
+-- 1 + the latest pair of the old node a, or 0; 1 + the pair before the pair k of the same old node, or 0, and 0 too where the link leads past k.
+unfoldable pub lastPair : List ℕ → ℕ → ℕ
+lastPair w a = choose (ltb a 512) (headAt w a) 0
+
+unfoldable pub pairBefore : List ℕ → ℕ → ℕ
+pairBefore w k = choose (leb (linkAt w k) k) (linkAt w k) 0
+
+-- `has`: whether (a, b) is one of the pairs, however many there are.
+unfoldable pub Has : List ℕ → ℕ → ℕ → Bool → Type 0
+Has w a b r = (c : ℕ) → Store w c → r ≡ listed (pairsIn w c) a b
+
+-- `append`: one pair more, where there is room for it; the table stays as long as it was.
+unfoldable pub Appends : List ℕ → ℕ → ℕ → ℕ → List ℕ → Type 0
+Appends w c a b v = Store w c → a < 512 → 512 + 3 * (c + 1) ≤ length w → Store v (c + 1) × (pairsIn v (c + 1) ≡ pairsIn w c ++ ((a, b) ∷ []))
+
+pub record Appended (w : List ℕ) (c a b : ℕ) (v : List ℕ) : Type 0 where
+  pub appends : Appends w c a b v
+  pub size : length v ≡ length w
+
+-- `next_partner`: 1 + the lowest new node from `from` on that is paired with a, or 0, where the new nodes are below n.
+unfoldable pub NextPartner : List ℕ → ℕ → ℕ → ℕ → Type 0
+NextPartner w a from r =
+    (c n : ℕ) → Store w c → n ≤ 512 → ((k : ℕ) → k < c → newAt w k < n) → r ≡ found (first n (λ b. leb from b and listed (pairsIn w c) a b))
+
+-- `lower`: of `best`, which is 1 + a node or 0 for none, and the node b, 1 + the lower one; b counts only from `from` on and below 512.
+pub record Lower (best from b r : ℕ) : Type 0 where
+  pub taken : b < 512 → from ≤ b → (0 < r) × (r ≤ b + 1)
+  pub kept : 0 < best → (0 < r) × (r ≤ best)
+  pub either : (r ≡ best → ⊥) → (r ≡ b + 1) × (from ≤ b)

@@ -1,0 +1,73 @@
+use borrow.Author.Needs.{needs}
+use Rattle.text.proofs.Laws.{all}
+use Prim.Native.Nat.{_≤_, _-_}
+use mathlib.Core.Path.{_≡_}
+use lib.ListN.{length, drop}
+use lib.Seq.{sets}
+use Rattle.text.proofs.copy_words.Statement.{statement}
+use Rattle.text.proofs.copy_words.Tie as tie
+
+abbrev Inv-loop : tie.InvT-loop
+Inv-loop d₀ at s k₀ i₀ d k i = (i ≤ length s) × (length d ≡ length d₀) × (sets d₀ at s ≡ sets d k (drop i s))
+
+abbrev μ-loop : tie.MeasureT-loop
+μ-loop d₀ at s k₀ i₀ d k i = length s - i
+
+loop-holds : tie.Need-loop-holds Inv-loop μ-loop
+loop-holds c = search (all, needs)
+
+same-length : tie.Need-same-length Inv-loop μ-loop
+same-length c = search (all, needs)
+
+returns : tie.Need-returns Inv-loop μ-loop
+returns c = search (all, needs)
+
+mul-d : tie.Need-mul-d Inv-loop μ-loop
+mul-d c = search (all, needs)
+
+shared-slice-read-d : tie.Need-shared-slice-read-d Inv-loop μ-loop
+shared-slice-read-d c = search (all, needs)
+
+mul-d-2 : tie.Need-mul-d-2 Inv-loop μ-loop
+mul-d-2 c = search (all, needs)
+
+slice-write-d : tie.Need-slice-write-d Inv-loop μ-loop
+slice-write-d c = search (all, needs)
+
+add-k : tie.Need-add-k Inv-loop μ-loop
+add-k c = search (all, needs)
+
+add-i : tie.Need-add-i Inv-loop μ-loop
+add-i c = search (all, needs)
+
+loop-less : tie.Need-loop-less Inv-loop μ-loop
+loop-less c = search (all, needs)
+
+loop-again : tie.Need-loop-again Inv-loop μ-loop
+loop-again c = search (all, needs)
+
+same-length-2 : tie.Need-same-length-2 Inv-loop μ-loop
+same-length-2 c = search (all, needs)
+
+returns-2 : tie.Need-returns-2 Inv-loop μ-loop
+returns-2 c = search (all, needs)
+
+pub copy-words-spec : {M : Type 1} → statement M
+copy-words-spec =
+    tie.close
+    (tie.spec
+    Inv-loop
+    μ-loop
+    loop-holds
+    same-length
+    returns
+    mul-d
+    shared-slice-read-d
+    mul-d-2
+    slice-write-d
+    add-k
+    add-i
+    loop-less
+    loop-again
+    same-length-2
+    returns-2)

@@ -1,0 +1,258 @@
+-- The turns and the returns of this crate's functions, as `search` finds them: the premises are what the code holds there.
+use mathlib.Core.Path.{_≡_, refl, sym, ap, ap₂, _∙_}
+use mathlib.Core.Bool.{Bool, true, false}
+use mathlib.Core.List.{List, []}
+use Prim.Native.Nat.{ℕ, suc, _+_, _-_, _≤_, _<_}
+use native.Mathlib.Omega.{arith}
+use lib.Dec.{eqb}
+use lib.ListN.{getD, length}
+use borrow.Author.Tests.{eqb-true, eq-eqb, ne-eqb}
+use Rattle.laws.specs.Tests.{_and_, _⇒_, found, listed}
+use Rattle.laws.specs.TestLaws.{and-both, and-left, and-right, both-ways, fails, first-only}
+use Rattle.rules.specs.Text.{Bytes, same}
+use Rattle.rules.specs.Graph.{C, Kind, E, S, X, called, calleeAt, edgeCount, edgeTaken, entry, exit, filled, kindAt, kindNumber, labelAt, nodeCount, sameKind, sourceAt, targetAt}
+use Rattle.rules.specs.Closing.{alike, bothCall, fits, goesOn, sameCallee, sameLabel, sameWord}
+use Rattle.rules.specs.ProgramFile.{Listing}
+use Rattle.rules.specs.Proofs.ClosingLaws.{alike-parts, bare-callees, fits-ends, fits-of, fits-word, same-word, sameCallee-is, sameLabel-is, taken-same}
+use Rattle.rules.specs.Proofs.GraphLaws.{called-below, called-name, sameKind-true}
+use Rattle.rules.specs.Proofs.TextLaws.{empty-true}
+use Rattle.graph.specs.Table.{edgeBase, nodeBase, procBase}
+use Rattle.graph.specs.Lookups.{EdgeTaken}
+use Rattle.graph.specs.Reads.{partAt, past, part-past}
+use Rattle.pairset.specs.Store.{Has, pairsIn}
+use Rattle.versions.specs.Memory.{InMemory, memory}
+use Rattle.versions.specs.MemoryLaws.{kind-is, label-is, callee-is, name-is, entry-is, exit-is, word-is, target-is, edges-in, well-formed}
+use Rattle.versions.specs.Found.{found-at, found-none, none-found}
+use Rattle.versions.specs.Claims.{Alike, BothCall, Entered, Fitting, GoesOn, Taken}
+
+-- ---- what the tables hold, past their ends
+
+module _ (t : List ℕ) (i : ℕ) (h : length t ≤ i) where
+  pub kind-past : 0 ≡ getD t (nodeBase i) 0
+  kind-past = sym (past t i (nodeBase i) h (omega arith))
+
+  pub callee-past : 0 ≡ getD t (nodeBase i + 3) 0
+  callee-past = sym (past t i (nodeBase i + 3) h (omega arith))
+
+  pub entry-past : 0 ≡ getD t (procBase i + 5) 0
+  entry-past = sym (past t i (procBase i + 5) h (omega arith))
+
+  pub exit-past : 0 ≡ getD t (procBase i + 6) 0
+  exit-past = sym (past t i (procBase i + 6) h (omega arith))
+
+  pub source-past : 0 ≡ getD t (edgeBase i) 0
+  source-past = sym (past t i (edgeBase i) h (omega arith))
+
+  pub target-past : 0 ≡ getD t (edgeBase i + 3) 0
+  target-past = sym (past t i (edgeBase i + 3) h (omega arith))
+
+  module _ (text r : List ℕ) (e : r ≡ partAt text t i) where
+    pub label-past : r ≡ partAt text t (nodeBase i + 1)
+    label-past = e ∙ part-past text t i (nodeBase i + 1) h (omega arith)
+
+    pub name-past : r ≡ partAt text t (procBase i)
+    name-past = e ∙ part-past text t i (procBase i) h (omega arith)
+
+    pub word-past : r ≡ partAt text t (edgeBase i + 1)
+    word-past = e ∙ part-past text t i (edgeBase i + 1) h (omega arith)
+
+pub ruleset reads = (kind-past, callee-past, entry-past, exit-past, source-past, target-past, label-past, name-past, word-past)
+
+-- ---- `same_label`, `same_name`
+
+module _ (a b x y : List ℕ) (r : Bool) (ea : a ≡ x) (eb : b ≡ y) (e : r ≡ same a b) where
+  pub labels-same : r ≡ sameLabel x y
+  labels-same = e ∙ ap₂ same ea eb ∙ sym (sameLabel-is x y)
+
+  pub names-same : r ≡ sameCallee x y
+  names-same = e ∙ ap₂ same ea eb ∙ sym (sameCallee-is x y)
+
+pub ruleset sames = (labels-same, names-same)
+
+-- ---- `alike`
+
+-- Only a call has a callee.
+bare : (k : Kind) (l c : Bytes) → (kindNumber k ≡ 2 → ⊥) → filled k l c ≡ true → c ≡ []
+unfolding filled
+bare E l c z f = empty-true c (and-right _ _ f)
+bare S l c z f = empty-true c (and-right _ _ f)
+bare C l c z f = absurd (z refl)
+bare X l c z f = empty-true c (and-right _ _ f)
+
+call-is : (k : Kind) → kindNumber k ≡ 2 → k ≡ C
+unfolding sameKind
+call-is k e = sameKind-true k C (eq-eqb _ _ e)
+
+module _ (ot on ol nt nn nl : List ℕ) (n m k l : ℕ) (ek : k ≡ getD on (nodeBase n) 0) (el : l ≡ getD nn (nodeBase m) 0) where
+  pub alike-kinds : (k ≡ l → ⊥) → Alike (memory ot on ol) (memory nt nn nl) n m false
+  unfolding Alike sameKind _and_
+  alike-kinds d o p h g i j =
+      let x : k ≡ kindNumber (kindAt (o .program) n) = ek ∙ kind-is _ o h n i in
+      let y : l ≡ kindNumber (kindAt (p .program) m) = el ∙ kind-is _ p g m j in
+      sym (alike-parts (o .program) (p .program) n m ∙ fails _ (λ t. d (x ∙ eqb-true _ _ (and-left _ _ t) ∙ sym y)))
+
+  module _ (q : k ≡ l) (u : Bool) (eu : u ≡ sameLabel (partAt ot on (nodeBase n + 1)) (partAt nt nn (nodeBase m + 1))) where
+    pub alike-labels : u ≡ false → Alike (memory ot on ol) (memory nt nn nl) n m false
+    unfolding Alike
+    alike-labels z o p h g i j =
+        sym (alike-parts (o .program) (p .program) n m
+        ∙ fails _ (λ t. both-ways (eu ∙ ap₂ sameLabel (label-is _ o h n i) (label-is _ p g m j) ∙ and-left _ _ (and-right _ _ t)) z))
+
+    kinds-are : (o p : Listing) → InMemory (memory ot on ol) o → InMemory (memory nt nn nl) p → n < nodeCount (o .program) → m < nodeCount (p .program)
+        → (kindNumber (kindAt (o .program) n) ≡ k) × (kindNumber (kindAt (p .program) m) ≡ k)
+    kinds-are o p h g i j = (sym (ek ∙ kind-is _ o h n i), sym (q ∙ el ∙ kind-is _ p g m j))
+
+    labels-are : (o p : Listing) → InMemory (memory ot on ol) o → InMemory (memory nt nn nl) p → n < nodeCount (o .program) → m < nodeCount (p .program)
+        → u ≡ true → sameLabel (labelAt (o .program) n) (labelAt (p .program) m) ≡ true
+    labels-are o p h g i j z = sym (ap₂ sameLabel (label-is _ o h n i) (label-is _ p g m j)) ∙ sym eu ∙ z
+
+    pub alike-bare : u ≡ true → (k ≡ 2 → ⊥) → Alike (memory ot on ol) (memory nt nn nl) n m true
+    unfolding Alike sameKind
+    alike-bare z d o p h g i j =
+        let ks = kinds-are o p h g i j in
+        let c : calleeAt (o .program) n ≡ [] = bare _ _ _ (λ e. d (sym (ks .0) ∙ e)) (well-formed _ o h .fields n i) in
+        let c′ : calleeAt (p .program) m ≡ [] = bare _ _ _ (λ e. d (sym (ks .1) ∙ e)) (well-formed _ p g .fields m j) in
+        sym (alike-parts (o .program) (p .program) n m
+        ∙ and-both (eq-eqb _ _ (ks .0 ∙ sym (ks .1))) (and-both (labels-are o p h g i j z) (bare-callees (o .program) (p .program) n m c c′)))
+
+    pub alike-calls : (a b : ℕ) (r : Bool) → u ≡ true → k ≡ 2 → a ≡ getD on (nodeBase n + 3) 0 → b ≡ getD nn (nodeBase m + 3) 0
+        → r ≡ sameCallee (partAt ot ol (procBase a)) (partAt nt nl (procBase b)) → Alike (memory ot on ol) (memory nt nn nl) n m r
+    unfolding Alike sameKind _and_
+    alike-calls a b r z d ea eb er o p h g i j =
+        let ks = kinds-are o p h g i j in
+        let w = well-formed _ o h in
+        let w′ = well-formed _ p g in
+        let x : a ≡ called (o .program) n = ea ∙ callee-is _ o h n i in
+        let y : b ≡ called (p .program) m = eb ∙ callee-is _ p g m j in
+        let c : partAt ot ol (procBase a) ≡ calleeAt (o .program) n
+        = ap (λ (v : ℕ). partAt ot ol (procBase v)) x ∙ name-is _ o h _ (called-below (o .program) w n) ∙ called-name (o .program) w n i (call-is _ (ks .0 ∙ d)) in
+        let c′ : partAt nt nl (procBase b) ≡ calleeAt (p .program) m
+        = ap (λ (v : ℕ). partAt nt nl (procBase v)) y ∙ name-is _ p g _ (called-below (p .program) w′ m) ∙ called-name (p .program) w′ m j (call-is _ (ks .1 ∙ d)) in
+        er ∙ ap₂ sameCallee c c′
+        ∙ sym (alike-parts (o .program) (p .program) n m
+        ∙ ap₂ (λ (s t : Bool). s and (t and sameCallee (calleeAt (o .program) n) (calleeAt (p .program) m))) (eq-eqb _ _ (ks .0 ∙ sym (ks .1))) (labels-are o p h g i j z))
+
+pub ruleset alikes = (alike-kinds, alike-labels, alike-bare, alike-calls)
+
+-- ---- `taken`
+
+pub taken-is : (ot ol nt nl word : List ℕ) (e m r : ℕ) → word ≡ partAt ot ol (edgeBase e + 1) → EdgeTaken nt nl m word r → Taken ot ol nt nl e m r
+unfolding Taken EdgeTaken
+taken-is ot ol nt nl word e m r ew t on nn o p h g i j =
+    t p (edges-in _ p g) j
+    ∙ ap found (ap (λ (x : Bytes). edgeTaken (p .program) m x) (ew ∙ word-is _ o h e i) ∙ taken-same (o .program) (p .program) e m)
+
+-- ---- `fitting`
+
+module _ (ot on ol nt nn nl : List ℕ) (e m t : ℕ) (et : Taken ot ol nt nl e m t) where
+  pub fitting-none : t ≡ 0 → Fitting (memory ot on ol) (memory nt nn nl) e m 0
+  unfolding Taken Fitting
+  fitting-none z o p h g i j =
+      sym (none-found _ _ (λ f l y.
+      found-none _ _ (sym (et on nn o p h g i j) ∙ z) f l (and-both (and-left _ _ y) (fits-word (o .program) (p .program) e f (and-right _ _ y)))))
+
+  module _ (d : t ≡ 0 → ⊥) where
+    -- The edge taken is one of the new node with the word of the old edge, and there is no other.
+    one-taken : (o p : Listing) → InMemory (memory ot on ol) o → InMemory (memory nt nn nl) p → e < edgeCount (o .program) → m < nodeCount (p .program)
+        → (t - 1 < edgeCount (p .program)) × (sourceAt (p .program) (t - 1) ≡ m) × (sameWord (o .program) (p .program) e (t - 1) ≡ true)
+        × ((f : ℕ) → f < edgeCount (p .program) → sourceAt (p .program) f ≡ m → sameWord (o .program) (p .program) e f ≡ true → f ≡ t - 1)
+    unfolding Taken
+    one-taken o p h g i j =
+        let q = et on nn o p h g i j in
+        let r = found-at (λ f. eqb (sourceAt (p .program) f) m and sameWord (o .program) (p .program) e f) (edgeCount (p .program)) (omega arith) in
+        let l : t - 1 < edgeCount (p .program) = omega (arith, r .0) in
+        let y : (eqb (sourceAt (p .program) (t - 1)) m and sameWord (o .program) (p .program) e (t - 1)) ≡ true
+        = ap (λ (x : ℕ). eqb (sourceAt (p .program) (x - 1)) m and sameWord (o .program) (p .program) e (x - 1)) q ∙ r .1 in
+        let s : sourceAt (p .program) (t - 1) ≡ m = eqb-true _ _ (and-left _ _ y) in (
+          l,
+          s,
+          and-right _ _ y,
+          λ f k a b. well-formed _ p g .words (t - 1) f l k (a ∙ sym s)
+              (sym (same-word (o .program) (p .program) e f b) ∙ same-word (o .program) (p .program) e (t - 1) (and-right _ _ y)),
+        )
+
+    module _ (a b x : ℕ) (u : Bool) (ea : a ≡ getD ol (edgeBase e + 3) 0) (ex : x ≡ t - 1) (eb : b ≡ getD nl (edgeBase x + 3) 0) (eu : Alike (memory ot on ol) (memory nt nn nl) a b u) where
+      ends-are : (o p : Listing) → InMemory (memory ot on ol) o → InMemory (memory nt nn nl) p → e < edgeCount (o .program) → t - 1 < edgeCount (p .program)
+          → u ≡ alike (o .program) (p .program) (targetAt (o .program) e) (targetAt (p .program) (t - 1))
+      unfolding Alike
+      ends-are o p h g i l =
+          let v : a ≡ targetAt (o .program) e = ea ∙ target-is _ o h e i in
+          let w : b ≡ targetAt (p .program) (t - 1) = eb ∙ ap (λ (y : ℕ). getD nl (edgeBase y + 3) 0) ex ∙ target-is _ p g (t - 1) l in
+          let c : a < nodeCount (o .program) = rw v (well-formed _ o h .targets e i) in
+          let c′ : b < nodeCount (p .program) = rw w (well-formed _ p g .targets (t - 1) l) in
+          eu o p h g c c′ ∙ ap₂ (alike (o .program) (p .program)) v w
+
+      pub fitting-ends : u ≡ true → Fitting (memory ot on ol) (memory nt nn nl) e m t
+      unfolding Fitting
+      fitting-ends z o p h g i j =
+          let r = one-taken o p h g i j in
+          let y : fits (o .program) (p .program) e (t - 1) ≡ true = fits-of (o .program) (p .program) e (t - 1) (r .2) (sym (ends-are o p h g i (r .0)) ∙ z) in
+          let f = first-only (λ f. eqb (sourceAt (p .program) f) m and fits (o .program) (p .program) e f) (edgeCount (p .program)) (t - 1) (r .0) (and-both (eq-eqb _ _ (r .1)) y)
+          (λ f l k. r .3 f l (eqb-true _ _ (and-left _ _ k)) (fits-word (o .program) (p .program) e f (and-right _ _ k))) in
+          let q : t ≡ suc (t - 1) = omega arith in
+          q ∙ sym (ap found f)
+
+      pub fitting-not : u ≡ false → Fitting (memory ot on ol) (memory nt nn nl) e m 0
+      unfolding Fitting
+      fitting-not z o p h g i j =
+          let r = one-taken o p h g i j in
+          sym (none-found _ _ (λ f l k.
+          let s : f ≡ t - 1 = r .3 f l (eqb-true _ _ (and-left _ _ k)) (fits-word (o .program) (p .program) e f (and-right _ _ k)) in
+          both-ways (ends-are o p h g i (r .0) ∙ ap (λ (x : ℕ). alike (o .program) (p .program) (targetAt (o .program) e) (targetAt (p .program) x)) (sym s)
+          ∙ fits-ends (o .program) (p .program) e f (and-right _ _ k)) z))
+
+pub ruleset fittings = (taken-is, fitting-none, fitting-ends, fitting-not)
+
+-- ---- `both_call`
+
+module _ (on nn : List ℕ) (n m k : ℕ) (ek : k ≡ getD on (nodeBase n) 0) where
+  pub calls-not : (k ≡ 2 → ⊥) → BothCall on nn n m false
+  unfolding BothCall bothCall sameKind
+  calls-not d ot nt ol nl o p h g i j = sym (fails _ (λ t. d (ek ∙ kind-is _ o h n i ∙ eqb-true _ _ (and-left _ _ t))))
+
+  pub calls-both : (l : ℕ) → k ≡ 2 → l ≡ getD nn (nodeBase m) 0 → BothCall on nn n m (eqb l 2)
+  unfolding BothCall bothCall sameKind _and_
+  calls-both l d el ot nt ol nl o p h g i j =
+      ap (λ (x : ℕ). eqb x 2) (el ∙ kind-is _ p g m j) ∙ sym (ap (λ (t : Bool). t and eqb (kindNumber (kindAt (p .program) m)) 2) (eq-eqb (kindNumber (kindAt (o .program) n)) 2 (sym (ek ∙ kind-is _ o h n i) ∙ d)))
+
+pub ruleset calls = (calls-not, calls-both)
+
+-- ---- `goes_on`, `entered`
+
+module _ (on ol nn nl w : List ℕ) (n m : ℕ) where
+  pub goes-free : (k : ℕ) → k ≡ getD on (nodeBase n) 0 → (k ≡ 2 → ⊥) → GoesOn on ol nn nl w n m true
+  unfolding GoesOn goesOn sameKind _⇒_
+  goes-free k ek d ot nt o p c h g st i j =
+      sym (ap (λ (t : Bool). t ⇒ listed (pairsIn w c) (exit (o .program) (called (o .program) n)) (exit (p .program) (called (p .program) m)))
+      (ne-eqb (kindNumber (kindAt (o .program) n)) 2 (λ e. d (ek ∙ kind-is _ o h n i ∙ e))))
+
+  pub entered-free : (u : Bool) → BothCall on nn n m u → u ≡ false → Entered on ol nn nl w n m true
+  unfolding Entered BothCall _⇒_
+  entered-free u b z ot nt o p c h g st i j =
+      sym (ap (λ (t : Bool). t ⇒ listed (pairsIn w c) (entry (o .program) (called (o .program) n)) (entry (p .program) (called (p .program) m))) (sym (b ot nt ol nl o p h g i j) ∙ z))
+
+  module _ (q q′ a b : ℕ) (r : Bool) (eq : q ≡ getD on (nodeBase n + 3) 0) (eq′ : q′ ≡ getD nn (nodeBase m + 3) 0) (has : Has w a b r) where
+    pub goes-exits : (k : ℕ) → k ≡ getD on (nodeBase n) 0 → k ≡ 2 → a ≡ getD ol (procBase q + 6) 0 → b ≡ getD nl (procBase q′ + 6) 0 → GoesOn on ol nn nl w n m r
+    unfolding GoesOn goesOn sameKind Has _⇒_
+    goes-exits k ek d ea eb ot nt o p c h g st i j =
+        let x : a ≡ exit (o .program) (called (o .program) n)
+        = ea ∙ ap (λ (v : ℕ). getD ol (procBase v + 6) 0) (eq ∙ callee-is _ o h n i) ∙ exit-is _ o h _ (called-below (o .program) (well-formed _ o h) n) in
+        let y : b ≡ exit (p .program) (called (p .program) m)
+        = eb ∙ ap (λ (v : ℕ). getD nl (procBase v + 6) 0) (eq′ ∙ callee-is _ p g m j) ∙ exit-is _ p g _ (called-below (p .program) (well-formed _ p g) m) in
+        has c st ∙ ap₂ (listed (pairsIn w c)) x y
+        ∙ sym (ap (λ (t : Bool). t ⇒ listed (pairsIn w c) (exit (o .program) (called (o .program) n)) (exit (p .program) (called (p .program) m)))
+        (eq-eqb (kindNumber (kindAt (o .program) n)) 2 (sym (ek ∙ kind-is _ o h n i) ∙ d)))
+
+    pub entered-entries : (u : Bool) → BothCall on nn n m u → u ≡ true → a ≡ getD ol (procBase q + 5) 0 → b ≡ getD nl (procBase q′ + 5) 0 → Entered on ol nn nl w n m r
+    unfolding Entered BothCall Has _⇒_
+    entered-entries u bc z ea eb ot nt o p c h g st i j =
+        let x : a ≡ entry (o .program) (called (o .program) n)
+        = ea ∙ ap (λ (v : ℕ). getD ol (procBase v + 5) 0) (eq ∙ callee-is _ o h n i) ∙ entry-is _ o h _ (called-below (o .program) (well-formed _ o h) n) in
+        let y : b ≡ entry (p .program) (called (p .program) m)
+        = eb ∙ ap (λ (v : ℕ). getD nl (procBase v + 5) 0) (eq′ ∙ callee-is _ p g m j) ∙ entry-is _ p g _ (called-below (p .program) (well-formed _ p g) m) in
+        has c st ∙ ap₂ (listed (pairsIn w c)) x y
+        ∙ sym (ap (λ (t : Bool). t ⇒ listed (pairsIn w c) (entry (o .program) (called (o .program) n)) (entry (p .program) (called (p .program) m))) (sym (bc ot nt ol nl o p h g i j) ∙ z))
+
+pub ruleset goes = (goes-free, goes-exits, entered-free, entered-entries)
+
+pub ruleset all = (reads, sames, alikes, fittings, calls, goes)

@@ -1,0 +1,37 @@
+use borrow.Author.Needs.{needs}
+use Rattle.versions.proofs.Laws.{all}
+use Rattle.versions.proofs.word.Statement.{statement}
+use Rattle.versions.proofs.word.Tie as tie
+
+part-at-requires : tie.Need-part-at-requires
+part-at-requires c κs = search needs
+
+returns : tie.Need-returns
+returns c = search (all, needs)
+
+mul-part-at : tie.Need-mul-part-at
+mul-part-at c = search needs
+
+add-part-at : tie.Need-add-part-at
+add-part-at c = search needs
+
+add-part-at-2 : tie.Need-add-part-at-2
+add-part-at-2 c = search needs
+
+part-at-requires-2 : tie.Need-part-at-requires-2
+part-at-requires-2 c κs = search needs
+
+returns-2 : tie.Need-returns-2
+returns-2 c = search needs
+
+pub word-spec : {M : Type 1} → statement M
+word-spec =
+    tie.close
+    (tie.spec
+    part-at-requires
+    returns
+    mul-part-at
+    add-part-at
+    add-part-at-2
+    part-at-requires-2
+    returns-2)

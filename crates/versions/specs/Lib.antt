@@ -1,0 +1,6 @@
+-- A program in memory, and what the functions over two versions answer.
+pub mod Memory
+pub mod MemoryLaws
+pub mod Found
+pub mod Claims
+pub mod Held

@@ -1,0 +1,250 @@
+// Two versions of a program in memory: the old text, nodes and links, and the new ones. Every function takes any slice and any number: what
+// stands past the end of a table is 0.
+ghost use mathlib.Core.Path.{_≡_};
+ghost use Prim.Native.Nat.{_+_};
+ghost use lib.ListN.{getD};
+ghost use Rattle.graph.specs.Table.{edgeBase, headBase, nodeBase, procBase};
+ghost use Rattle.graph.specs.Reads.{partAt, upTo};
+ghost use Rattle.rules.specs.Closing.{sameCallee, sameLabel};
+ghost use Rattle.versions.specs.Memory.{memory};
+ghost use Rattle.versions.specs.Claims.{Alike, BothCall, Entered, Fitting, GoesOn, Taken};
+
+// ---- what the tables hold
+
+// The number of the kind of the node n: 0 entry, 1 step, 2 call, 3 exit.
+pub fn kind(nodes: &[usize], n: usize) -> usize
+    ensures { λ r. ⌜ r ≡ getD (now (nodes .entry)) (nodeBase n) 0 ⌝ }
+{
+    if nodes.len() <= n {
+        return 0;
+    }
+    text::get(nodes, 4 * n)
+}
+
+// The procedure that the node n calls.
+pub fn callee(nodes: &[usize], n: usize) -> usize
+    ensures { λ r. ⌜ r ≡ getD (now (nodes .entry)) (nodeBase n + 3) 0 ⌝ }
+{
+    if nodes.len() <= n {
+        return 0;
+    }
+    text::get(nodes, 4 * n + 3)
+}
+
+// The label of the node n.
+pub fn label<'a>(text: &'a [u8], nodes: &[usize], n: usize) -> &'a [u8]
+    ensures { λ r. ⌜ now r ≡ partAt (now (text .entry)) (now (nodes .entry)) (nodeBase n + 1) ⌝ }
+{
+    if nodes.len() <= n {
+        return graph::part_at(text, nodes, n);
+    }
+    graph::part_at(text, nodes, 4 * n + 1)
+}
+
+// The name of the procedure q.
+pub fn name<'a>(text: &'a [u8], links: &[usize], q: usize) -> &'a [u8]
+    ensures { λ r. ⌜ now r ≡ partAt (now (text .entry)) (now (links .entry)) (procBase q) ⌝ }
+{
+    if links.len() <= q {
+        return graph::part_at(text, links, q);
+    }
+    graph::part_at(text, links, 7 * q)
+}
+
+// The entry of the procedure q.
+pub fn entry(links: &[usize], q: usize) -> usize
+    ensures { λ r. ⌜ r ≡ getD (now (links .entry)) (procBase q + 5) 0 ⌝ }
+{
+    if links.len() <= q {
+        return 0;
+    }
+    text::get(links, 7 * q + 5)
+}
+
+// The exit of the procedure q.
+pub fn exit(links: &[usize], q: usize) -> usize
+    ensures { λ r. ⌜ r ≡ getD (now (links .entry)) (procBase q + 6) 0 ⌝ }
+{
+    if links.len() <= q {
+        return 0;
+    }
+    text::get(links, 7 * q + 6)
+}
+
+// The node that the edge e leaves.
+pub fn source(links: &[usize], e: usize) -> usize
+    ensures { λ r. ⌜ r ≡ getD (now (links .entry)) (edgeBase e) 0 ⌝ }
+{
+    if links.len() <= e {
+        return 0;
+    }
+    text::get(links, 448 + 5 * e)
+}
+
+// The word of the edge e.
+pub fn word<'a>(text: &'a [u8], links: &[usize], e: usize) -> &'a [u8]
+    ensures { λ r. ⌜ now r ≡ partAt (now (text .entry)) (now (links .entry)) (edgeBase e + 1) ⌝ }
+{
+    if links.len() <= e {
+        return graph::part_at(text, links, e);
+    }
+    graph::part_at(text, links, 448 + 5 * e + 1)
+}
+
+// The node that the edge e ends on.
+pub fn target(links: &[usize], e: usize) -> usize
+    ensures { λ r. ⌜ r ≡ getD (now (links .entry)) (edgeBase e + 3) 0 ⌝ }
+{
+    if links.len() <= e {
+        return 0;
+    }
+    text::get(links, 448 + 5 * e + 3)
+}
+
+// 1 + the last edge of the node n, or 0.
+pub fn last_edge(links: &[usize], n: usize) -> usize
+    ensures { λ r. ⌜ r ≡ getD (now (links .entry)) (headBase n) 0 ⌝ }
+{
+    graph::head(links, n)
+}
+
+// 1 + the edge before e of the same node, or 0; never above e.
+pub fn edge_before(links: &[usize], e: usize) -> usize
+    ensures { λ r. ⌜ r ≡ upTo e (getD (now (links .entry)) (edgeBase e + 4) 0) ⌝ }
+{
+    graph::before(links, e)
+}
+
+// ---- two nodes, and an old edge at a new node
+
+// Whether the labels of the old node n and the new node m count as equal.
+fn same_label(ot: &[u8], on: &[usize], nt: &[u8], nn: &[usize], n: usize, m: usize) -> bool
+    ensures { λ r. ⌜ r ≡ sameLabel (partAt (now (ot .entry)) (now (on .entry)) (nodeBase n + 1)) (partAt (now (nt .entry)) (now (nn .entry)) (nodeBase m + 1)) ⌝ }
+{
+    let a = label(ot, on, n);
+    let b = label(nt, nn, m);
+    text::same(a, b)
+}
+
+// Whether the old procedure q and the new procedure k have names that count as equal callees.
+fn same_name(ot: &[u8], ol: &[usize], nt: &[u8], nl: &[usize], q: usize, k: usize) -> bool
+    ensures { λ r. ⌜ r ≡ sameCallee (partAt (now (ot .entry)) (now (ol .entry)) (procBase q)) (partAt (now (nt .entry)) (now (nl .entry)) (procBase k)) ⌝ }
+{
+    let a = name(ot, ol, q);
+    let b = name(nt, nl, k);
+    text::same(a, b)
+}
+
+// Whether the old node n and the new node m are alike. Only a call has a callee, the name of the procedure that it calls.
+pub fn alike(
+    ot: &[u8],
+    on: &[usize],
+    ol: &[usize],
+    nt: &[u8],
+    nn: &[usize],
+    nl: &[usize],
+    n: usize,
+    m: usize,
+) -> bool
+    ensures { λ r. ⌜ Alike (memory (now (ot .entry)) (now (on .entry)) (now (ol .entry))) (memory (now (nt .entry)) (now (nn .entry)) (now (nl .entry))) n m r ⌝ }
+{
+    let k = kind(on, n);
+    let l = kind(nn, m);
+    if k != l {
+        return false;
+    }
+    if same_label(ot, on, nt, nn, n, m) {
+        if k == 2 {
+            let q = callee(on, n);
+            let p = callee(nn, m);
+            return same_name(ot, ol, nt, nl, q, p);
+        }
+        return true;
+    }
+    false
+}
+
+// 1 + the edge that the new node m takes for the word of the old edge e, or 0.
+pub fn taken(ot: &[u8], ol: &[usize], nt: &[u8], nl: &[usize], e: usize, m: usize) -> usize
+    ensures { λ r. ⌜ Taken (now (ot .entry)) (now (ol .entry)) (now (nt .entry)) (now (nl .entry)) e m r ⌝ }
+{
+    let w = word(ot, ol, e);
+    graph::edge_taken(nt, nl, m, w)
+}
+
+// 1 + the edge of the new node m that fits the old edge e, or 0.
+pub fn fitting(
+    ot: &[u8],
+    on: &[usize],
+    ol: &[usize],
+    nt: &[u8],
+    nn: &[usize],
+    nl: &[usize],
+    e: usize,
+    m: usize,
+) -> usize
+    ensures { λ r. ⌜ Fitting (memory (now (ot .entry)) (now (on .entry)) (now (ol .entry))) (memory (now (nt .entry)) (now (nn .entry)) (now (nl .entry))) e m r ⌝ }
+{
+    let t = taken(ot, ol, nt, nl, e, m);
+    if t == 0 {
+        return 0;
+    }
+    let a = target(ol, e);
+    let b = target(nl, t - 1);
+    if alike(ot, on, ol, nt, nn, nl, a, b) {
+        return t;
+    }
+    0
+}
+
+// Whether the old node n and the new node m are calls.
+pub fn both_call(on: &[usize], nn: &[usize], n: usize, m: usize) -> bool
+    ensures { λ r. ⌜ BothCall (now (on .entry)) (now (nn .entry)) n m r ⌝ }
+{
+    if kind(on, n) == 2 {
+        return kind(nn, m) == 2;
+    }
+    false
+}
+
+// ---- a table of pairs
+
+// Whether the pair of the old node n and the new node m may go on by the pairs of the table: for a call, the exits of its callee are one of them.
+pub fn goes_on(
+    on: &[usize],
+    ol: &[usize],
+    nn: &[usize],
+    nl: &[usize],
+    w: &[usize],
+    n: usize,
+    m: usize,
+) -> bool
+    ensures { λ r. ⌜ GoesOn (now (on .entry)) (now (ol .entry)) (now (nn .entry)) (now (nl .entry)) (now (w .entry)) n m r ⌝ }
+{
+    if kind(on, n) == 2 {
+        let a = exit(ol, callee(on, n));
+        let b = exit(nl, callee(nn, m));
+        return pairset::has(w, a, b);
+    }
+    true
+}
+
+// Whether, where the old node n and the new node m are calls, the entries of their callees are a pair of the table.
+pub fn entered(
+    on: &[usize],
+    ol: &[usize],
+    nn: &[usize],
+    nl: &[usize],
+    w: &[usize],
+    n: usize,
+    m: usize,
+) -> bool
+    ensures { λ r. ⌜ Entered (now (on .entry)) (now (ol .entry)) (now (nn .entry)) (now (nl .entry)) (now (w .entry)) n m r ⌝ }
+{
+    if both_call(on, nn, n, m) {
+        let a = entry(ol, callee(on, n));
+        let b = entry(nl, callee(nn, m));
+        return pairset::has(w, a, b);
+    }
+    true
+}
