@@ -33,11 +33,11 @@ told-refused : (x : Answer Listing) (r : Count) (w : List ℕ) → Told x r w �
 told-refused (refused k p) r w t z = (λ i. refused (sym (t .0) i) (sym (t .1) i), omega (arith, t .0, t .2))
 told-refused (accepted s) r w t z = absurd (z (t .0))
 
-program-of : (text : Bytes) (s : Listing) → readListing text ≡ accepted s → readProgram text ≡ accepted (s .program)
+pub program-of : (text : Bytes) (s : Listing) → readListing text ≡ accepted s → readProgram text ≡ accepted (s .program)
 unfolding readProgram
 program-of text s e = then-passes (λ (x : Listing). accepted (x .program)) e
 
-program-refused : (text : Bytes) (k q : ℕ) → readListing text ≡ refused k q → readProgram text ≡ refused k q
+pub program-refused : (text : Bytes) (k q : ℕ) → readListing text ≡ refused k q → readProgram text ≡ refused k q
 unfolding readProgram
 program-refused text k q e = then-stops (λ (x : Listing). accepted (x .program)) e
 

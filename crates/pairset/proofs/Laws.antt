@@ -1,21 +1,21 @@
 -- The turns and the returns of this crate's functions, as `search` finds them: the premises are what the code holds there.
-use mathlib.Core.Path.{_≡_, refl, sym, ap, _∙_, subst}
+use mathlib.Core.Path.{_≡_, refl, sym, ap, _∙_}
 use mathlib.Core.Bool.{Bool, true, false}
 use mathlib.Core.List.{List, [], _∷_}
 use mathlib.Core.Option.{Option, none, some}
-use Prim.Native.Nat.{ℕ, zero, suc, _+_, _*_, _-_, _≤_, _<_}
+use Prim.Native.Nat.{ℕ, suc, _+_, _*_, _-_, _≤_, _<_}
 use native.Mathlib.Omega.{arith}
-use borrow.Author.Tests.{eqb-true, eq-eqb, ne-eqb, lt-ltb, le-ltb, le-leb, lt-leb, leb-true}
-use lib.Dec.{eqb, ltb, leb}
+use borrow.Author.Tests.{eqb-true, lt-ltb, le-ltb, le-leb, lt-leb, leb-true}
+use lib.Dec.{eqb, leb}
 use lib.ListN.{length, getD, set, List·getD-eq-default}
 use lib.Seq.{sets}
 use Rattle.laws.specs.Tests.{_and_, _or_, choose, first, found, listed}
-use Rattle.laws.specs.TestLaws.{and-left, and-right, and-both, or-left, or-right, first-least, first-none, first-at, both-ways, fails, passes?}
+use Rattle.laws.specs.TestLaws.{and-left, and-right, and-both, first-least, first-at, fails}
 use Rattle.laws.specs.Lists.{choose-yes, choose-no}
 use Rattle.laws.specs.Slices.{below-or, same-or, sets-three}
 use Rattle.laws.specs.Chain.{Blind, Left, left-start, left-step, Walk, walk-start, walk-step, walk-end}
-use Rattle.pairset.specs.Store.{headAt, oldAt, newAt, linkAt, pairsIn, Store, lastPair, pairBefore, Has, Appends, Appended, NextPartner, Lower}
-use Rattle.pairset.specs.StoreLaws.{listed-snoc, pair-listed, listed-of, listed-at, before-le, walked, more, more-length, store-more, pairs-more}
+use Rattle.pairset.specs.Store.{oldAt, newAt, linkAt, pairsIn, Store, lastPair, pairBefore, Has, Appends, Appended, NextPartner, Lower}
+use Rattle.pairset.specs.StoreLaws.{listed-snoc, listed-of, listed-at, before-le, walked, more, more-length, store-more, pairs-more}
 
 -- ---- `old_of`, `new_of`, `last_pair`, `pair_before`
 

@@ -1,20 +1,19 @@
 -- Laws of a set of pairs in a table: the pairs by index, the chains as the code walks them, the empty table, one pair more.
 use mathlib.Core.Path.{_≡_, refl, sym, ap, ap₂, _∙_, subst}
-use mathlib.Core.Logic.{_⊎_, inl, inr, ⊎-elim}
-use mathlib.Core.Bool.{Bool, true, false, false≢true}
+use mathlib.Core.Bool.{Bool, true, false}
 use mathlib.Core.List.{List, [], _∷_, _++_}
 use Prim.Native.Nat.{ℕ, zero, suc, _+_, _*_, _≤_, _<_}
 use native.Mathlib.Nat.{not-suc-le-zero}
 use native.Mathlib.Numerals.{add-one}
 use native.Mathlib.Omega.{arith}
-use borrow.Author.Tests.{eqb-true, eq-eqb, ne-eqb, lt-ltb, le-ltb, le-leb, lt-leb}
-use lib.Dec.{eqb, ltb, leb}
-use lib.ListN.{length, getD, set, replicate, length-set, length-append, length-replicate, getD-replicate}
+use borrow.Author.Tests.{eqb-true, eq-eqb, lt-ltb, le-ltb, le-leb, lt-leb}
+use lib.Dec.{eqb}
+use lib.ListN.{length, getD, set, replicate, length-set, length-replicate, getD-replicate}
 use lib.Seq.{sets, length-sets, getD-set-same, getD-set-other}
 use Rattle.laws.specs.Tests.{_and_, _or_, choose, every, any, listed, allPairs, anyPair}
-use Rattle.laws.specs.TestLaws.{and-left, and-right, and-both, or-cases, or-left, or-right, eqb-self, below-suc, fails, same-test, every-at, every-of, any-at, any-of}
+use Rattle.laws.specs.TestLaws.{and-left, and-right, and-both, any-at, any-of}
 use Rattle.laws.specs.Lists.{choose-yes, choose-no, snoc-length}
-use Rattle.laws.specs.Slices.{below-or, same-or, getD-sets-before, getD-sets-after, getD-sets-in}
+use Rattle.laws.specs.Slices.{below-or, same-or, getD-sets-before, getD-sets-in}
 use Rattle.laws.specs.Chain.{latest, latest-none, Chained, chain-none, chain-more, link-le}
 use Rattle.pairset.specs.Store.{headAt, oldAt, newAt, linkAt, pairsIn, Store, lastPair, pairBefore}
 

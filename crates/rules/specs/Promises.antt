@@ -140,9 +140,10 @@ module _ {ℓ κ} (St : Type ℓ) (Out : Type κ) where
 
 -- ---- answers
 
--- A call's answer has number 0 only where it succeeds, and its place fits beside the number.
+-- A call's answer has number 0 only where it succeeds, else one up to 16, and its place fits beside the number.
 pub record Plain (o : Outcome) : Type 0 where
   pub zero-succeeds : numberOf o ≡ 0 → (b : Bytes) × (o ≡ wrote b)
+  pub few-numbers : numberOf o ≤ 16
   pub fits-beside : placeOf o < 4294967296
 
 pub record AnswersPlain (old new tests : Bytes) : Type 0 where

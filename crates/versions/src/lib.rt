@@ -221,12 +221,12 @@ pub fn goes_on(
 ) -> bool
     ensures { λ r. ⌜ GoesOn (now (on .entry)) (now (ol .entry)) (now (nn .entry)) (now (nl .entry)) (now (w .entry)) n m r ⌝ }
 {
-    if kind(on, n) == 2 {
-        let a = exit(ol, callee(on, n));
-        let b = exit(nl, callee(nn, m));
-        return pairset::has(w, a, b);
+    if kind(on, n) != 2 {
+        return true;
     }
-    true
+    let a = exit(ol, callee(on, n));
+    let b = exit(nl, callee(nn, m));
+    pairset::has(w, a, b)
 }
 
 // Whether, where the old node n and the new node m are calls, the entries of their callees are a pair of the table.

@@ -1,4 +1,4 @@
--- Answers: a refusal's number is never 0, and its place and the bytes written are below 4,294,967,296, so that one number holds both.
+-- Answers: a refusal's number is 1 to 16, and its place and the bytes written are below 4,294,967,296, so that one number holds both.
 use mathlib.Core.Path.{_≡_, refl, sym, ap, subst}
 use mathlib.Core.Bool.{Bool, true, false}
 use mathlib.Core.Option.{Option, none, some}
@@ -30,9 +30,12 @@ use Rattle.rules.specs.Proofs.TextLaws.{decimal-most, split-cons}
 abbrev big : ℕ
 big = 4294967296
 
--- A number and a place of a refusal.
+-- The number of a refusal; with its place.
+abbrev Number : ℕ → Type 0
+Number k = (0 < k) × (k ≤ 16)
+
 abbrev Refusal : ℕ → ℕ → Type 0
-Refusal k p = (0 < k) × (p < big)
+Refusal k p = Number k × (p < big)
 
 -- An answer that refuses only so; what it accepts has P.
 abbrev Good : {A : Type 0} → (A → Type 0) → Answer A → Type 0
@@ -44,7 +47,7 @@ abbrev Any : {A : Type 0} → A → Type 0
 Any a = Unit {0}
 
 module _ {A : Type 0} (P : A → Type 0) where
-  unless-good : (b : Bool) (k p : ℕ) (a : Answer A) → 0 < k → p < big → (b ≡ false → Good P a) → Good P (unless b k p a)
+  unless-good : (b : Bool) (k p : ℕ) (a : Answer A) → Number k → p < big → (b ≡ false → Good P a) → Good P (unless b k p a)
   unfolding unless
   unless-good true k p a h l n = (h, l)
   unless-good false k p a h l n = n refl
@@ -84,15 +87,15 @@ module _ {S A : Type 0} (P : S → Type 0) (Q : A → Type 0) (step : ℕ → �
     (steps : (n at : ℕ) (st : S) (l : Bytes) → n < big → P st → Good P (step n at st l)) (ends : (n : ℕ) (st : S) → n < big → P st → Good Q (finish n st)) where
   lines-good : (ls : List Bytes) (n at : ℕ) (st : S) → n + length ls < big → P st → Good Q (readLines step finish n at st ls)
   unfolding readLines
-  lines-good [] n at st h p = (omega arith, omega arith)
-  lines-good (l ∷ []) n at st h p = unless-good Q _ _ _ _ (omega arith) (omega arith) (λ e. ends n st (omega arith) p)
+  lines-good [] n at st h p = ((omega arith, omega arith), omega arith)
+  lines-good (l ∷ []) n at st h p = unless-good Q _ _ _ _ (omega arith, omega arith) (omega arith) (λ e. ends n st (omega arith) p)
   lines-good (l ∷ m ∷ ls) n at st h p =
       then-good P Q _ _ (steps n at st l (omega arith) p) (λ s q. lines-good (m ∷ ls) (suc n) (at + length l + 1) s (omega arith) q)
 
   text-good : (st : S) (text : Bytes) → P st → Good Q (readText step finish st text)
   unfolding readText
   text-good st text p =
-      unless-good Q _ _ _ _ (omega arith) (omega arith) (λ e. lines-good (linesOf text) 1 0 st (omega (arith, ltb-false maxBytes (length text) e, split-length 10 text)) p)
+      unless-good Q _ _ _ _ (omega arith, omega arith) (omega arith) (λ e. lines-good (linesOf text) 1 0 st (omega (arith, ltb-false maxBytes (length text) e, split-length 10 text)) p)
 
 -- Line numbers that were stored.
 abbrev Small : List ℕ → Type 0
@@ -116,25 +119,25 @@ Kept s = Small (s .places .procLines) × Small (s .places .nodeLines)
 
 proc-good : (n at : ℕ) (name : Bytes) (s : Listing) → n < big → Kept s → Good Kept (takeProc n at name s)
 proc-good n at name s h k =
-    unless-good Kept _ _ _ _ (omega arith) h (λ e. unless-good Kept _ _ _ _ (omega arith) h (λ e. (small-more (s .places .procLines) n (k .0) h, k .1)))
+    unless-good Kept _ _ _ _ (omega arith, omega arith) h (λ e. unless-good Kept _ _ _ _ (omega arith, omega arith) h (λ e. (small-more (s .places .procLines) n (k .0) h, k .1)))
 
 line-good : (n at : ℕ) (s : Listing) (l : Line) → n < big → Kept s → Good Kept (takeLine n at s l)
 unfolding takeLine
 line-good n at s (proc-line name) h k =
-    choose-good Kept _ _ _ (unless-good Kept _ _ _ _ (omega arith) (k .0 (current (s .program))) (λ e. proc-good n at name s h k)) (proc-good n at name s h k)
+    choose-good Kept _ _ _ (unless-good Kept _ _ _ _ (omega arith, omega arith) (k .0 (current (s .program))) (λ e. proc-good n at name s h k)) (proc-good n at name s h k)
 line-good n at s (node-line kind label callee) h k =
-    unless-good Kept _ _ _ _ (omega arith) h (λ e. unless-good Kept _ _ _ _ (omega arith) h (λ e. (k .0, small-more (s .places .nodeLines) n (k .1) h)))
+    unless-good Kept _ _ _ _ (omega arith, omega arith) h (λ e. unless-good Kept _ _ _ _ (omega arith, omega arith) h (λ e. (k .0, small-more (s .places .nodeLines) n (k .1) h)))
 line-good n at s (edge-line from word to) h k =
-    unless-good Kept _ _ _ _ (omega arith) h (λ e.
-    unless-good Kept _ _ _ _ (omega arith) h (λ e. unless-good Kept _ _ _ _ (omega arith) h (λ e. unless-good Kept _ _ _ _ (omega arith) h (λ e. k))))
-line-good n at s malformed h k = (omega arith, h)
+    unless-good Kept _ _ _ _ (omega arith, omega arith) h (λ e.
+    unless-good Kept _ _ _ _ (omega arith, omega arith) h (λ e. unless-good Kept _ _ _ _ (omega arith, omega arith) h (λ e. unless-good Kept _ _ _ _ (omega arith, omega arith) h (λ e. k))))
+line-good n at s malformed h k = ((omega arith, omega arith), h)
 
 finish-good : (n : ℕ) (s : Listing) → n < big → Kept s → Good Any (finishProgram n s)
 unfolding finishProgram
 finish-good n s h k =
-    unless-good Any _ _ _ _ (omega arith) (omega arith) (λ e.
-    unless-good Any _ _ _ _ (omega arith) (k .0 (current (s .program))) (λ e.
-    after-good Any (first (nodeCount (s .program)) (lost (s .program))) _ _ tt (λ m. (omega arith, k .1 m))))
+    unless-good Any _ _ _ _ (omega arith, omega arith) (omega arith) (λ e.
+    unless-good Any _ _ _ _ (omega arith, omega arith) (k .0 (current (s .program))) (λ e.
+    after-good Any (first (nodeCount (s .program)) (lost (s .program))) _ _ tt (λ m. ((omega arith, omega arith), k .1 m))))
 
 program-good : (text : Bytes) → Good Any (readProgram text)
 unfolding readProgram readListing stepProgram
@@ -145,8 +148,8 @@ program-good text =
 test-good : (m n at : ℕ) (l : TestListing) (x : TestLine) → n < big → Good Any (takeTest m n at l x)
 unfolding takeTest
 test-good m n at l (test-line name row) h =
-    unless-good Any _ _ _ _ (omega arith) h (λ e. unless-good Any _ _ _ _ (omega arith) h (λ e. unless-good Any _ _ _ _ (omega arith) h (λ e. tt)))
-test-good m n at l no-test h = (omega arith, h)
+    unless-good Any _ _ _ _ (omega arith, omega arith) h (λ e. unless-good Any _ _ _ _ (omega arith, omega arith) h (λ e. unless-good Any _ _ _ _ (omega arith, omega arith) h (λ e. tt)))
+test-good m n at l no-test h = ((omega arith, omega arith), h)
 
 suite-good : (m : ℕ) (text : Bytes) → Good Any (readSuite m text)
 unfolding readSuite readTests stepSuite
@@ -155,19 +158,19 @@ suite-good m text =
 
 sheet-line-good : (old new : Program) (suite : Suite) (n : ℕ) (s : SheetRead) (x : SheetLine) → n < big → Good Any (takeSheetLine old new suite n s x)
 unfolding takeSheetLine
-sheet-line-good old new suite n s head-line h = unless-good Any _ _ _ _ (omega arith) h (λ e. tt)
-sheet-line-good old new suite n s (m-line a b) h = unless-good Any _ _ _ _ (omega arith) h (λ e. unless-good Any _ _ _ _ (omega arith) h (λ e. tt))
-sheet-line-good old new suite n s (d-line e) h = unless-good Any _ _ _ _ (omega arith) h (λ e. tt)
+sheet-line-good old new suite n s head-line h = unless-good Any _ _ _ _ (omega arith, omega arith) h (λ e. tt)
+sheet-line-good old new suite n s (m-line a b) h = unless-good Any _ _ _ _ (omega arith, omega arith) h (λ e. unless-good Any _ _ _ _ (omega arith, omega arith) h (λ e. tt))
+sheet-line-good old new suite n s (d-line e) h = unless-good Any _ _ _ _ (omega arith, omega arith) h (λ e. tt)
 sheet-line-good old new suite n s (r-line name) h =
-    after-good Any (testOf suite name) _ _ (let z : 0 < 11 = omega arith in z, h) (λ i. unless-good Any _ _ _ _ (omega arith) h (λ e. tt))
-sheet-line-good old new suite n s (end-line m d r) h = unless-good Any _ _ _ _ (omega arith) h (λ e. tt)
-sheet-line-good old new suite n s no-form h = (omega arith, h)
+    after-good Any (testOf suite name) _ _ ((let z : 0 < 11 = omega arith in z, let z : 11 ≤ 16 = omega arith in z), h) (λ i. unless-good Any _ _ _ _ (omega arith, omega arith) h (λ e. tt))
+sheet-line-good old new suite n s (end-line m d r) h = unless-good Any _ _ _ _ (omega arith, omega arith) h (λ e. tt)
+sheet-line-good old new suite n s no-form h = ((omega arith, omega arith), h)
 
 sheet-good : (old new : Program) (suite : Suite) (text : Bytes) → Good Any (readSheet old new suite text)
 unfolding readSheet stepSheet finishSheet
 sheet-good old new suite text =
     text-good Any Any (stepSheet old new suite) finishSheet (λ n at s l h k. sheet-line-good old new suite n s (sheetForm (fieldsOf l)) h)
-    (λ n s h k. unless-good Any _ _ _ _ (omega arith) h (λ e. tt)) noSheet text tt
+    (λ n s h k. unless-good Any _ _ _ _ (omega arith, omega arith) h (λ e. tt)) noSheet text tt
 
 job-good : (old new tests : Bytes) → Good Any (readJob old new tests)
 unfolding readJob
@@ -194,8 +197,8 @@ choose-told false x y h k = k
 writing-told : (g : Given) (room : ℕ) (b : Bytes) → Told (writing g room b)
 unfolding writing
 writing-told g room b =
-    choose-told _ _ _ (let z : 0 < 15 = omega arith in z, let z : 0 < big = omega arith in z)
-    (choose-told _ _ _ (let z : 0 < 16 = omega arith in z, let z : 0 < big = omega arith in z) tt)
+    choose-told _ _ _ ((let z : 0 < 15 = omega arith in z, let z : 15 ≤ 16 = omega arith in z), let z : 0 < big = omega arith in z)
+    (choose-told _ _ _ ((let z : 0 < 16 = omega arith in z, let z : 16 ≤ 16 = omega arith in z), let z : 0 < big = omega arith in z) tt)
 
 -- The place of a broken rule is at most 5.
 failed-few : (k : ℕ) (l : List Bool) → firstFailed k l ≤ k + length l
@@ -210,12 +213,12 @@ broken-few old new suite s = omega (arith, failed-few 1 (rule1 old new s ∷ rul
 
 judged-told : (g : Given) (s : Sheet) → Told (judged g s)
 unfolding judged
-judged-told g s = choose-told _ _ _ tt (let z : 0 < 12 = omega arith in z, broken-few (g .old) (g .new) (g .suite .coverages) s)
+judged-told g s = choose-told _ _ _ tt ((let z : 0 < 12 = omega arith in z, let z : 12 ≤ 16 = omega arith in z), broken-few (g .old) (g .new) (g .suite .coverages) s)
 
 -- What is told is plain, if what was written is short.
 plain : (o : Outcome) → Told o → ((b : Bytes) → o ≡ wrote b → length b < big) → Plain o
-plain (wrote b) t h = record { zero-succeeds = λ e. (b, refl); fits-beside = h b refl }
-plain (refusal k p) t h = record { zero-succeeds = λ e. absurd (let z : ⊥ = omega (arith, t .0) in z); fits-beside = t .1 }
+plain (wrote b) t h = record { zero-succeeds = λ e. (b, refl); few-numbers = omega arith; fits-beside = h b refl }
+plain (refusal k p) t h = record { zero-succeeds = λ e. absurd (let z : ⊥ = omega (arith, t .0 .0) in z); few-numbers = t .0 .1; fits-beside = t .1 }
 
 -- Where nothing is written, nothing long is.
 unwritten : (o : Outcome) → ((b : Bytes) → o ≡ wrote b → b ≡ []) → (b : Bytes) → o ≡ wrote b → length b < big
@@ -264,7 +267,7 @@ plain-answers old new tests =
       of-sheet = λ room.
           plain _ (outcome-told _ _ (job-good old new tests) (λ g. writing-told g room (sheetBytes g))) (λ b e. omega (arith, written-passes old new tests room b e .1));
       of-record = λ i room.
-          plain _ (outcome-told _ _ (job-good old new tests) (λ g. choose-told _ _ _ (writing-told g room (recordBytes g i)) (let z : 0 < 6 = omega arith in z, let z : 0 < big = omega arith in z)))
+          plain _ (outcome-told _ _ (job-good old new tests) (λ g. choose-told _ _ _ (writing-told g room (recordBytes g i)) ((let z : 0 < 6 = omega arith in z, let z : 6 ≤ 16 = omega arith in z), let z : 0 < big = omega arith in z)))
           (λ b e. record-short old new tests i room b e);
       of-check = λ sheet.
           plain _ (outcome-told _ _ (job-good old new tests) (λ g. outcome-told _ _ (sheet-good (g .old) (g .new) (g .suite) sheet) (judged-told g)))

@@ -6,6 +6,9 @@ use Rattle.versions.proofs.goes_on.Tie as tie
 kind-requires : tie.Need-kind-requires
 kind-requires c κs = search needs
 
+returns : tie.Need-returns
+returns c = search (all, needs)
+
 callee-requires : tie.Need-callee-requires
 callee-requires c κs = search needs
 
@@ -21,9 +24,6 @@ exit-requires-2 c κs = search needs
 has-requires : tie.Need-has-requires
 has-requires c κs = search needs
 
-returns : tie.Need-returns
-returns c = search (all, needs)
-
 returns-2 : tie.Need-returns-2
 returns-2 c = search (all, needs)
 
@@ -32,10 +32,10 @@ goes-on-spec =
     tie.close
     (tie.spec
     kind-requires
+    returns
     callee-requires
     exit-requires
     callee-requires-2
     exit-requires-2
     has-requires
-    returns
     returns-2)

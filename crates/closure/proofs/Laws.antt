@@ -1,0 +1,199 @@
+-- The returns of the functions that add a pair, as `search` finds them: the premises are what the code holds there.
+use mathlib.Core.Path.{_≡_, refl, sym, _∙_, subst}
+use mathlib.Core.Bool.{Bool, true, false}
+use mathlib.Core.List.{List}
+use Prim.Native.Nat.{ℕ, _+_, _-_, _≤_, _<_}
+use native.Mathlib.Omega.{arith}
+use borrow.Author.Tests.{eqb-true, eq-eqb}
+use lib.Dec.{eqb}
+use lib.ListN.{getD}
+use Rattle.laws.specs.Tests.{_and_, listed}
+use Rattle.laws.specs.TestLaws.{and-left, and-right, and-both, both-ways}
+use Rattle.rules.specs.Graph.{C, Program, WellFormed, called, edgeCount, entry, kindAt, nodeCount, sourceAt, targetAt}
+use Rattle.rules.specs.Closing.{Pair, bothCall, callee-entries, edge-ends, fits, sameWord}
+use Rattle.rules.specs.ProgramFile.{Listing}
+use Rattle.rules.specs.Proofs.GraphLaws.{called-is, sameKind-of, sameKind-true}
+use Rattle.rules.specs.Proofs.ClosingLaws.{fits-ends, fits-of, fits-word, same-word}
+use Rattle.graph.specs.Table.{edgeBase, nodeBase, procBase}
+use Rattle.pairset.specs.Store.{Appended, Has}
+use Rattle.versions.specs.Memory.{InMemory, Memory, memory}
+use Rattle.versions.specs.MemoryLaws.{callee-is, entry-is, sound, target-is, well-formed}
+use Rattle.versions.specs.Found.{found-at, found-none}
+use Rattle.versions.specs.Claims.{Alike, BothCall, Taken}
+use Rattle.closure.specs.State.{CallDone, EdgeDone, EntriesDone, Formed}
+use Rattle.closure.specs.Step.{pair-inside, step-map, step-more, step-none, step-over}
+use Rattle.closure.specs.Claims.{Adds, AddsEntries, Enters, Grows, Sized, TriesEdge}
+
+-- Programs in memory are well-formed, and the old nodes have heads.
+pub formed-in : (a b : Memory) (o p : Listing) → InMemory a o → InMemory b p → Formed (o .program) (p .program)
+formed-in a b o p h g = record { old-formed = well-formed a o h; new-formed = well-formed b p g; few = sound a o h .fewNodes }
+
+-- ---- `grow`, `add`
+
+module _ (limit : ℕ) (w : List ℕ) (c a b : ℕ) where
+  pub grow-full : limit ≤ c → Sized w w (Grows limit w c a b w (limit + 1))
+  unfolding Grows
+  grow-full h = record { size = refl; claim = λ old new f s p n. step-over f s p n h }
+
+  pub grow-more : (v : List ℕ) → c < limit → Appended w c a b v → Sized w v (Grows limit w c a b v (c + 1))
+  unfolding Grows
+  grow-more v h x = record { size = x .size; claim = λ old new f s p n. step-more f s p n h x }
+
+  module _ (t : Bool) (is : Has w a b t) where
+    pub add-there : t ≡ true → Sized w w (Adds limit w c a b w c)
+    unfolding Has Adds
+    add-there y = record { size = refl; claim = λ old new f s p. step-none s (λ h. sym (is c (s .kept h .store)) ∙ y) }
+
+    pub add-new : (v : List ℕ) (r : ℕ) → t ≡ false → Sized w v (Grows limit w c a b v r) → Sized w v (Adds limit w c a b v r)
+    unfolding Has Adds Grows
+    add-new v r y x = record { size = x .size; claim = λ old new f s p. x .claim old new f s p (λ h. sym (is c (s .kept h .store)) ∙ y) }
+
+pub ruleset adds = (grow-full, grow-more, add-there, add-new)
+
+-- ---- `add_entries`, `enter`
+
+module _ (ol nl : List ℕ) (limit : ℕ) (w : List ℕ) (c : ℕ) (v : List ℕ) (r : ℕ) where
+  pub entries-add : (q k a b : ℕ) → a ≡ getD ol (procBase q + 5) 0 → b ≡ getD nl (procBase k + 5) 0 → Sized w v (Adds limit w c a b v r)
+      → Sized w v (AddsEntries ol nl limit w c q k v r)
+  unfolding Adds AddsEntries EntriesDone
+  entries-add q k a b d e x =
+      record {
+        size = x .size;
+        claim = λ ot on nt nn o p h g s i j y.
+            let m : a ≡ entry (o .program) q = d ∙ entry-is (memory ot on ol) o h q i in
+            let n : b ≡ entry (p .program) k = e ∙ entry-is (memory nt nn nl) p g k j in
+            step-map (λ t. rw (← m, ← n) t) (x .claim (o .program) (p .program) (formed-in _ _ o p h g) s (rw (m, n) y));
+      }
+
+module _ (on ol nn nl : List ℕ) (limit : ℕ) (w : List ℕ) (c n m : ℕ) (t : Bool) (is : BothCall on nn n m t) where
+  pub enter-none : t ≡ false → Sized w w (Enters on ol nn nl limit w c n m w c)
+  unfolding BothCall Enters CallDone bothCall
+  enter-none y =
+      record {
+        size = refl;
+        claim = λ ot nt o p h g s r.
+            let i = pair-inside (formed-in _ _ o p h g) r in
+            step-none s (λ l k k′. absurd (both-ways (is ot nt ol nl o p h g (i .0) (i .1) ∙ and-both (sameKind-of k) (sameKind-of k′)) y));
+      }
+
+  pub enter-call : (q k : ℕ) (v : List ℕ) (r : ℕ) → t ≡ true → q ≡ getD on (nodeBase n + 3) 0 → k ≡ getD nn (nodeBase m + 3) 0 → Sized w v (AddsEntries ol nl limit w c q k v r)
+      → Sized w v (Enters on ol nn nl limit w c n m v r)
+  unfolding BothCall Enters CallDone bothCall AddsEntries EntriesDone
+  enter-call q k v r y d e x =
+      record {
+        size = x .size;
+        claim = λ ot nt o p h g s z.
+            let f = formed-in _ _ o p h g in
+            let i = pair-inside f z in
+            let b = sym (is ot nt ol nl o p h g (i .0) (i .1)) ∙ y in
+            let kn : kindAt (o .program) n ≡ C = sameKind-true _ _ (and-left _ _ b) in
+            let km : kindAt (p .program) m ≡ C = sameKind-true _ _ (and-right _ _ b) in
+            let qn : q ≡ called (o .program) n = d ∙ callee-is (memory ot on ol) o h n (i .0) in
+            let qm : k ≡ called (p .program) m = e ∙ callee-is (memory nt nn nl) p g m (i .1) in
+            step-map (λ u _ _. rw (← qn, ← qm) u)
+            (x .claim ot on nt nn o p h g s
+            (rw qn (called-is (o .program) (f .old-formed) n (i .0) kn))
+            (rw qm (called-is (p .program) (f .new-formed) m (i .1) km))
+            (rw (qn, qm) (callee-entries z kn km)));
+      }
+
+pub ruleset enters = (entries-add, enter-none, enter-call)
+
+-- ---- `try_edge`
+
+-- The new edge f of the node m is taken for the word of the old edge e.
+pub record Takes (old new : Program) (e m f : ℕ) : Type 0 where
+  pub below : f < edgeCount new
+  pub source : sourceAt new f ≡ m
+  pub word : sameWord old new e f ≡ true
+
+module _ {old new : Program} {e m : ℕ} where
+  -- A node takes one edge for a word.
+  takes-once : WellFormed new → {f g : ℕ} → Takes old new e m f → Takes old new e m g → g ≡ f
+  takes-once wf {f} {g} x y =
+      wf .words f g (x .below) (y .below) (y .source ∙ sym (x .source)) (sym (same-word old new e g (y .word)) ∙ same-word old new e f (x .word))
+
+  -- What fits is taken, so that it is enough to look at the edge that is.
+  edge-done : WellFormed new → {f : ℕ} (M : List (ℕ × ℕ)) → Takes old new e m f → (fits old new e f ≡ true → listed M (targetAt old e) (targetAt new f) ≡ true) → EdgeDone old new e m M
+  unfolding EdgeDone
+  edge-done wf {f} M x k g l s t =
+      let q : g ≡ f = takes-once wf x (record { below = l; source = s; word = fits-word old new e g t }) in
+      rw q (k (subst (λ (j : ℕ). fits old new e j ≡ true) q t))
+
+module _ (ot on ol nt nn nl : List ℕ) (limit : ℕ) (w : List ℕ) (c e m place : ℕ) (is : Taken ot ol nt nl e m place) where
+  -- The edge that is found.
+  takes : (o p : Listing) → InMemory (memory ot on ol) o → InMemory (memory nt nn nl) p → e < edgeCount (o .program) → m < nodeCount (p .program) → 0 < place
+      → Takes (o .program) (p .program) e m (place - 1)
+  unfolding Taken
+  takes o p h g i j pos =
+      let q = is on nn o p h g i j in
+      let r = found-at (λ f. eqb (sourceAt (p .program) f) m and sameWord (o .program) (p .program) e f) (edgeCount (p .program)) (omega arith) in
+      let s = rw (← q) at r in
+      record { below = s .0; source = eqb-true _ _ (and-left _ _ (s .1)); word = and-right _ _ (s .1) }
+
+  pub edge-none : place ≡ 0 → Sized w w (TriesEdge (memory ot on ol) (memory nt nn nl) limit w c e m w c)
+  unfolding TriesEdge EdgeDone Taken
+  edge-none z =
+      record {
+        size = refl;
+        claim = λ o p h g s i y x.
+            let j = pair-inside (formed-in _ _ o p h g) y in
+            step-none s
+            (λ _ f l t u. absurd (found-none (λ f. eqb (sourceAt (p .program) f) m and sameWord (o .program) (p .program) e f) (edgeCount (p .program))
+            (sym (is on nn o p h g i (j .1)) ∙ z) f l (and-both (eq-eqb _ _ t) (fits-word (o .program) (p .program) e f u))));
+      }
+
+  module _ (a b : ℕ) (t : Bool) (pos : place ≡ 0 → ⊥) (d : a ≡ getD ol (edgeBase e + 3) 0) (d′ : b ≡ getD nl (edgeBase (place - 1) + 3) 0) (has : Has w a b t) where
+    old-end : (o : Listing) → InMemory (memory ot on ol) o → e < edgeCount (o .program) → a ≡ targetAt (o .program) e
+    old-end o h i = d ∙ target-is (memory ot on ol) o h e i
+
+    new-end : (p : Listing) → InMemory (memory nt nn nl) p → place - 1 < edgeCount (p .program) → b ≡ targetAt (p .program) (place - 1)
+    new-end p g i = d′ ∙ target-is (memory nt nn nl) p g (place - 1) i
+
+    pub edge-there : t ≡ true → Sized w w (TriesEdge (memory ot on ol) (memory nt nn nl) limit w c e m w c)
+    unfolding TriesEdge Has
+    edge-there y =
+        record {
+          size = refl;
+          claim = λ o p h g s i z x.
+              let f = formed-in _ _ o p h g in
+              let k = takes o p h g i (pair-inside f z .1) (omega arith) in
+              let m = old-end o h i in
+              let n = new-end p g (k .below) in
+              step-none s (λ l. edge-done (f .new-formed) _ k (λ _. rw (← m, ← n) (sym (has c (s .kept l .store)) ∙ y)));
+        }
+
+    module _ (u : Bool) (like : Alike (memory ot on ol) (memory nt nn nl) a b u) where
+      pub edge-unlike : u ≡ false → Sized w w (TriesEdge (memory ot on ol) (memory nt nn nl) limit w c e m w c)
+      unfolding TriesEdge Alike
+      edge-unlike y =
+          record {
+            size = refl;
+            claim = λ o p h g s i z x.
+                let f = formed-in _ _ o p h g in
+                let k = takes o p h g i (pair-inside f z .1) (omega arith) in
+                let m = old-end o h i in
+                let n = new-end p g (k .below) in
+                let l = like o p h g (rw m (f .old-formed .targets e i)) (rw n (f .new-formed .targets (place - 1) (k .below))) in
+                step-none s (λ _. edge-done (f .new-formed) _ k (λ q. absurd (both-ways (l ∙ rw (m, n) (fits-ends (o .program) (p .program) e (place - 1) q)) y)));
+          }
+
+      pub edge-new : (v : List ℕ) (r : ℕ) → t ≡ false → u ≡ true → Sized w v (Grows limit w c a b v r) → Sized w v (TriesEdge (memory ot on ol) (memory nt nn nl) limit w c e m v r)
+      unfolding TriesEdge Alike Grows Has
+      edge-new v r y y′ q =
+          record {
+            size = q .size;
+            claim = λ o p h g s i z x.
+                let f = formed-in _ _ o p h g in
+                let k = takes o p h g i (pair-inside f z .1) (omega arith) in
+                let m = old-end o h i in
+                let n = new-end p g (k .below) in
+                let l = like o p h g (rw m (f .old-formed .targets e i)) (rw n (f .new-formed .targets (place - 1) (k .below))) in
+                let fit = fits-of (o .program) (p .program) e (place - 1) (k .word) (rw (← m, ← n) (sym l ∙ y′)) in
+                let ends : Pair (o .program) (p .program) (targetAt (o .program) e) (targetAt (p .program) (place - 1))
+                = edge-ends {e = e} {e′ = place - 1} (rw (k .source) z) (rw (k .source) x) i (k .below) fit in
+                step-map (λ j. edge-done (f .new-formed) _ k (λ _. rw (← m, ← n) j))
+                (q .claim (o .program) (p .program) f s (rw (m, n) ends) (λ j. sym (has c (s .kept j .store)) ∙ y));
+          }
+
+pub ruleset edges = (edge-none, edge-there, edge-unlike, edge-new)

@@ -1,0 +1,93 @@
+-- What the functions of the search promise: whatever programs the memories hold, for a table in a state of the search. Each adds pairs of the rules only, and
+-- where it adds none, the rules that it looks at hold within the list.
+use mathlib.Core.Path.{_≡_}
+use mathlib.Core.Bool.{false, true}
+use mathlib.Core.List.{List}
+use Prim.Native.Nat.{ℕ, suc, _+_, _*_, _≤_, _<_}
+use lib.Dec.{leb}
+use lib.ListN.{length}
+use Rattle.laws.specs.Tests.{choose, listed}
+use Rattle.rules.specs.Graph.{Program, edgeCount, entry, procCount, sourceAt}
+use Rattle.rules.specs.Closing.{MayGoOn, Pair, pairs}
+use Rattle.rules.specs.ProgramFile.{Listing}
+use Rattle.pairset.specs.Store.{newAt, oldAt, pairsIn}
+use Rattle.versions.specs.Memory.{InMemory, Memory, memory}
+use Rattle.versions.specs.Held.{PairsHeld}
+use Rattle.closure.specs.State.{AllDone, CallDone, EachDone, EdgeDone, EdgesDone, EntriesDone, Formed, OnDone, PairDone, State, Step}
+
+-- A claim, and the table as long as it was.
+pub record Sized (w v : List ℕ) (X : Type 0) : Type 0 where
+  pub size : length v ≡ length w
+  pub claim : X
+
+-- `grow`: a pair that is not there; `add`: a pair.
+unfoldable pub Grows : ℕ → List ℕ → ℕ → ℕ → ℕ → List ℕ → ℕ → Type 0
+Grows limit w c a b v r =
+    (old new : Program) → Formed old new → State old new limit w c → Pair old new a b → (c ≤ limit → listed (pairsIn w c) a b ≡ false)
+    → Step old new limit w c (λ M. listed M a b ≡ true) v r
+
+unfoldable pub Adds : ℕ → List ℕ → ℕ → ℕ → ℕ → List ℕ → ℕ → Type 0
+Adds limit w c a b v r =
+    (old new : Program) → Formed old new → State old new limit w c → Pair old new a b → Step old new limit w c (λ M. listed M a b ≡ true) v r
+
+-- `add_entries`: the entries of the old procedure q and the new procedure k.
+unfoldable pub AddsEntries : List ℕ → List ℕ → ℕ → List ℕ → ℕ → ℕ → ℕ → List ℕ → ℕ → Type 0
+AddsEntries ol nl limit w c q k v r =
+    (ot on nt nn : List ℕ) (o p : Listing) → InMemory (memory ot on ol) o → InMemory (memory nt nn nl) p → State (o .program) (p .program) limit w c
+    → q < procCount (o .program) → k < procCount (p .program) → Pair (o .program) (p .program) (entry (o .program) q) (entry (p .program) k)
+    → Step (o .program) (p .program) limit w c (EntriesDone (o .program) (p .program) q k) v r
+
+-- `enter`: rule 2 for the pair (n, m).
+unfoldable pub Enters : List ℕ → List ℕ → List ℕ → List ℕ → ℕ → List ℕ → ℕ → ℕ → ℕ → List ℕ → ℕ → Type 0
+Enters on ol nn nl limit w c n m v r =
+    (ot nt : List ℕ) (o p : Listing) → InMemory (memory ot on ol) o → InMemory (memory nt nn nl) p → State (o .program) (p .program) limit w c → Pair (o .program) (p .program) n m
+    → Step (o .program) (p .program) limit w c (CallDone (o .program) (p .program) n m) v r
+
+module _ (a b : Memory) (limit : ℕ) (w : List ℕ) where
+  -- `try_edge`: rule 3 for the old edge e and the new node m, where their pair may go on.
+  unfoldable pub TriesEdge : ℕ → ℕ → ℕ → List ℕ → ℕ → Type 0
+  TriesEdge c e m v r =
+      (o p : Listing) → InMemory a o → InMemory b p → State (o .program) (p .program) limit w c → e < edgeCount (o .program)
+      → Pair (o .program) (p .program) (sourceAt (o .program) e) m → MayGoOn (o .program) (p .program) (sourceAt (o .program) e) m
+      → Step (o .program) (p .program) limit w c (EdgeDone (o .program) (p .program) e m) v r
+
+  -- `follow`: rule 3 for the pair (n, m), which may go on; `go_on`: where it may.
+  unfoldable pub Follows : ℕ → ℕ → ℕ → List ℕ → ℕ → Type 0
+  Follows c n m v r =
+      (o p : Listing) → InMemory a o → InMemory b p → State (o .program) (p .program) limit w c → Pair (o .program) (p .program) n m → MayGoOn (o .program) (p .program) n m
+      → Step (o .program) (p .program) limit w c (EdgesDone (o .program) (p .program) n m) v r
+
+  unfoldable pub GoesOnWith : ℕ → ℕ → ℕ → List ℕ → ℕ → Type 0
+  GoesOnWith c n m v r =
+      (o p : Listing) → InMemory a o → InMemory b p → State (o .program) (p .program) limit w c → Pair (o .program) (p .program) n m
+      → Step (o .program) (p .program) limit w c (OnDone (o .program) (p .program) n m) v r
+
+  -- `visit`: rules 2 and 3 for the pair x of the table.
+  unfoldable pub Visits : ℕ → ℕ → List ℕ → ℕ → Type 0
+  Visits c x v r =
+      (o p : Listing) → InMemory a o → InMemory b p → State (o .program) (p .program) limit w c → c ≤ limit → x < c
+      → Step (o .program) (p .program) limit w c (PairDone (o .program) (p .program) (oldAt w x) (newAt w x)) v r
+
+  -- `visit_all`: rules 2 and 3 for each pair of the table; `pass`: the three rules.
+  unfoldable pub VisitsAll : ℕ → List ℕ → ℕ → Type 0
+  VisitsAll c v r =
+      (o p : Listing) → InMemory a o → InMemory b p → State (o .program) (p .program) limit w c → Step (o .program) (p .program) limit w c (EachDone (o .program) (p .program)) v r
+
+  unfoldable pub Passes : ℕ → List ℕ → ℕ → Type 0
+  Passes c v r =
+      (o p : Listing) → InMemory a o → InMemory b p → State (o .program) (p .program) limit w c → Step (o .program) (p .program) limit w c (AllDone (o .program) (p .program)) v r
+
+-- The number of pairs, or one more than the limit where there are more; within the limit, the table holds them.
+pub record Found (old new : Program) (limit : ℕ) (w : List ℕ) (r : ℕ) : Type 0 where
+  pub answer : r ≡ choose (leb (length (pairs old new)) limit) (length (pairs old new)) (suc limit)
+  pub held : r ≤ limit → PairsHeld old new w r
+
+-- `repeat`: from a state of the search.
+unfoldable pub Finds : Memory → Memory → ℕ → List ℕ → List ℕ → ℕ → Type 0
+Finds a b limit w v r =
+    (o p : Listing) → InMemory a o → InMemory b p → State (o .program) (p .program) limit w 0 → Found (o .program) (p .program) limit v r
+
+-- `close`: from a table that has room for as many pairs as the limit says.
+unfoldable pub Closes : Memory → Memory → ℕ → List ℕ → List ℕ → ℕ → Type 0
+Closes a b limit w v r =
+    (o p : Listing) → InMemory a o → InMemory b p → 512 + 3 * limit ≤ length w → Found (o .program) (p .program) limit v r

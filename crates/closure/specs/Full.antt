@@ -1,0 +1,38 @@
+-- A list of pairs that has the three rules lists all pairs.
+use mathlib.Core.Path.{_≡_, refl, subst}
+use mathlib.Core.Bool.{true}
+use mathlib.Core.List.{List}
+use Prim.Native.Nat.{ℕ, _≤_}
+use native.Mathlib.Nat.{le-antisymm}
+use lib.ListN.{length}
+use Rattle.laws.specs.Tests.{listed}
+use Rattle.laws.specs.TestLaws.{same-test}
+use Rattle.rules.specs.Graph.{Program, sourceAt}
+use Rattle.rules.specs.Closing.{Pair, goesOn, pairs}
+use Rattle.rules.specs.Proofs.Closure.{goesOn-of, least, pairs-ascend, pairs-complete, pairs-sound}
+use Rattle.pairset.specs.Store.{pairsIn}
+use Rattle.pairset.specs.StoreLaws.{pairs-count}
+use Rattle.closure.specs.Once.{once-ascending, pigeonhole}
+use Rattle.closure.specs.State.{AllDone, CallDone, EachDone, EdgeDone, EdgesDone, EntriesDone, Formed, Kept, OnDone}
+
+module _ {old new : Program} where
+  pub all-listed : {M : List (ℕ × ℕ)} → AllDone old new M → {a b : ℕ} → Pair old new a b → listed M a b ≡ true
+  unfolding EntriesDone EachDone CallDone OnDone EdgesDone EdgeDone
+  all-listed {M} d =
+      least old new (λ a b. listed M a b ≡ true) (d .start)
+      (λ n m l k k′. d .each n m l .call k k′)
+      (λ e f l x h h′ t. d .each (sourceAt old e) (sourceAt new f) l .on (goesOn-of old new M _ _ x) e h refl f h′ refl t)
+
+  module _ {w : List ℕ} {c : ℕ} (fm : Formed old new) (k : Kept old new w c) (d : AllDone old new (pairsIn w c)) where
+    -- As many pairs, and the same.
+    pub all-counted : c ≡ length (pairs old new)
+    all-counted =
+        le-antisymm
+        (subst (λ (n : ℕ). n ≤ length (pairs old new)) (pairs-count w c)
+        (pigeonhole (pairs old new) (k .once) (λ a b t. pairs-complete old new (fm .old-formed) (fm .new-formed) (k .sound a b t))))
+        (subst (λ (n : ℕ). length (pairs old new) ≤ n) (pairs-count w c)
+        (pigeonhole (pairsIn w c) (once-ascending (pairs-ascend old new)) (λ a b t. all-listed d (pairs-sound old new a b t))))
+
+    pub all-same : (a b : ℕ) → listed (pairsIn w c) a b ≡ listed (pairs old new) a b
+    all-same a b =
+        same-test _ _ (λ t. pairs-complete old new (fm .old-formed) (fm .new-formed) (k .sound a b t)) (λ t. all-listed d (pairs-sound old new a b t))

@@ -1,0 +1,5 @@
+pub mod Once
+pub mod State
+pub mod Step
+pub mod Full
+pub mod Claims

@@ -1,0 +1,324 @@
+// The pairs of two versions in memory: the smallest set with the closing rules, found by passes over the pairs found so far until one adds nothing.
+// A count above the limit says that there are more pairs than the limit; every function passes such a count on.
+ghost use Prim.Native.Nat.{_≤_};
+ghost use Rattle.versions.specs.Memory.{memory};
+ghost use Rattle.closure.specs.Claims.{
+  Adds,
+  AddsEntries,
+  Closes,
+  Enters,
+  Finds,
+  Follows,
+  GoesOnWith,
+  Grows,
+  Passes,
+  Sized,
+  TriesEdge,
+  Visits,
+  VisitsAll,
+};
+
+// Adds the pair (a, b), which is not there; at the limit only the count says so.
+fn grow(limit: usize, w: &mut [usize], count: usize, a: usize, b: usize) -> usize
+    requires { ⌜ limit ≤ 4096 ⌝ }
+    ensures { λ r. ⌜ Sized (now (w .entry)) (now (w .exit)) (Grows limit (now (w .entry)) count a b (now (w .exit)) r) ⌝ }
+{
+    if limit <= count {
+        return limit + 1;
+    }
+    pairset::append(w, count, a, b);
+    count + 1
+}
+
+// Adds the pair (a, b), where it is not there.
+fn add(limit: usize, w: &mut [usize], count: usize, a: usize, b: usize) -> usize
+    requires { ⌜ limit ≤ 4096 ⌝ }
+    ensures { λ r. ⌜ Sized (now (w .entry)) (now (w .exit)) (Adds limit (now (w .entry)) count a b (now (w .exit)) r) ⌝ }
+{
+    if pairset::has(w, a, b) {
+        return count;
+    }
+    grow(limit, w, count, a, b)
+}
+
+// Adds the entries of the old procedure q and the new procedure k.
+fn add_entries(
+    ol: &[usize],
+    nl: &[usize],
+    limit: usize,
+    w: &mut [usize],
+    count: usize,
+    q: usize,
+    k: usize,
+) -> usize
+    requires { ⌜ limit ≤ 4096 ⌝ }
+    ensures { λ r. ⌜ Sized (now (w .entry)) (now (w .exit))
+        (AddsEntries (now (ol .entry)) (now (nl .entry))
+        limit (now (w .entry)) count q k (now (w .exit)) r) ⌝ }
+{
+    let a = versions::entry(ol, q);
+    let b = versions::entry(nl, k);
+    add(limit, w, count, a, b)
+}
+
+// Rule 2 for the pair (n, m).
+fn enter(
+    on: &[usize],
+    ol: &[usize],
+    nn: &[usize],
+    nl: &[usize],
+    limit: usize,
+    w: &mut [usize],
+    count: usize,
+    n: usize,
+    m: usize,
+) -> usize
+    requires { ⌜ limit ≤ 4096 ⌝ }
+    ensures { λ r. ⌜ Sized (now (w .entry)) (now (w .exit))
+        (Enters (now (on .entry)) (now (ol .entry)) (now (nn .entry)) (now (nl .entry))
+        limit (now (w .entry)) count n m (now (w .exit)) r) ⌝ }
+{
+    if versions::both_call(on, nn, n, m) {
+        let q = versions::callee(on, n);
+        let k = versions::callee(nn, m);
+        return add_entries(ol, nl, limit, w, count, q, k);
+    }
+    count
+}
+
+// Rule 3 for the old edge e and the new node m, whose pair may go on. Ends that are a pair already are alike, and are not compared again.
+fn try_edge(
+    ot: &[u8],
+    on: &[usize],
+    ol: &[usize],
+    nt: &[u8],
+    nn: &[usize],
+    nl: &[usize],
+    limit: usize,
+    w: &mut [usize],
+    count: usize,
+    e: usize,
+    m: usize,
+) -> usize
+    requires { ⌜ limit ≤ 4096 ⌝ }
+    ensures { λ r. ⌜ Sized (now (w .entry)) (now (w .exit))
+        (TriesEdge
+        (memory (now (ot .entry)) (now (on .entry)) (now (ol .entry)))
+        (memory (now (nt .entry)) (now (nn .entry)) (now (nl .entry)))
+        limit (now (w .entry)) count e m (now (w .exit)) r) ⌝ }
+{
+    let place = versions::taken(ot, ol, nt, nl, e, m);
+    if place == 0 {
+        return count;
+    }
+    let a = versions::target(ol, e);
+    let b = versions::target(nl, place - 1);
+    if pairset::has(w, a, b) {
+        return count;
+    }
+    if versions::alike(ot, on, ol, nt, nn, nl, a, b) {
+        return grow(limit, w, count, a, b);
+    }
+    count
+}
+
+// Rule 3 for the pair (n, m), which may go on: each edge of the old node.
+fn follow(
+    ot: &[u8],
+    on: &[usize],
+    ol: &[usize],
+    nt: &[u8],
+    nn: &[usize],
+    nl: &[usize],
+    limit: usize,
+    w: &mut [usize],
+    count: usize,
+    n: usize,
+    m: usize,
+) -> usize
+    requires { ⌜ limit ≤ 4096 ⌝ }
+    ensures { λ r. ⌜ Sized (now (w .entry)) (now (w .exit))
+        (Follows
+        (memory (now (ot .entry)) (now (on .entry)) (now (ol .entry)))
+        (memory (now (nt .entry)) (now (nn .entry)) (now (nl .entry)))
+        limit (now (w .entry)) count n m (now (w .exit)) r) ⌝ }
+{
+    let mut total = count;
+    let mut place = versions::last_edge(ol, n);
+    while 0 < place {
+        let e = place - 1;
+        total = try_edge(ot, on, ol, nt, nn, nl, limit, w, total, e, m);
+        place = versions::edge_before(ol, e);
+    }
+    total
+}
+
+// Rule 3 for the pair (n, m), where it may go on by the pairs found so far.
+fn go_on(
+    ot: &[u8],
+    on: &[usize],
+    ol: &[usize],
+    nt: &[u8],
+    nn: &[usize],
+    nl: &[usize],
+    limit: usize,
+    w: &mut [usize],
+    count: usize,
+    n: usize,
+    m: usize,
+) -> usize
+    requires { ⌜ limit ≤ 4096 ⌝ }
+    ensures { λ r. ⌜ Sized (now (w .entry)) (now (w .exit))
+        (GoesOnWith
+        (memory (now (ot .entry)) (now (on .entry)) (now (ol .entry)))
+        (memory (now (nt .entry)) (now (nn .entry)) (now (nl .entry)))
+        limit (now (w .entry)) count n m (now (w .exit)) r) ⌝ }
+{
+    if limit < count {
+        return count;
+    }
+    if versions::goes_on(on, ol, nn, nl, w, n, m) {
+        return follow(ot, on, ol, nt, nn, nl, limit, w, count, n, m);
+    }
+    count
+}
+
+// Rules 2 and 3 for the pair x of the table.
+fn visit(
+    ot: &[u8],
+    on: &[usize],
+    ol: &[usize],
+    nt: &[u8],
+    nn: &[usize],
+    nl: &[usize],
+    limit: usize,
+    w: &mut [usize],
+    count: usize,
+    x: usize,
+) -> usize
+    requires { ⌜ limit ≤ 4096 ⌝ }
+    ensures { λ r. ⌜ Sized (now (w .entry)) (now (w .exit))
+        (Visits
+        (memory (now (ot .entry)) (now (on .entry)) (now (ol .entry)))
+        (memory (now (nt .entry)) (now (nn .entry)) (now (nl .entry)))
+        limit (now (w .entry)) count x (now (w .exit)) r) ⌝ }
+{
+    let n = pairset::old_of(w, x);
+    let m = pairset::new_of(w, x);
+    let entered = enter(on, ol, nn, nl, limit, w, count, n, m);
+    go_on(ot, on, ol, nt, nn, nl, limit, w, entered, n, m)
+}
+
+// Rules 2 and 3 for each pair of the table, with those that are added on the way.
+fn visit_all(
+    ot: &[u8],
+    on: &[usize],
+    ol: &[usize],
+    nt: &[u8],
+    nn: &[usize],
+    nl: &[usize],
+    limit: usize,
+    w: &mut [usize],
+    count: usize,
+) -> usize
+    requires { ⌜ limit ≤ 4096 ⌝ }
+    ensures { λ r. ⌜ Sized (now (w .entry)) (now (w .exit))
+        (VisitsAll
+        (memory (now (ot .entry)) (now (on .entry)) (now (ol .entry)))
+        (memory (now (nt .entry)) (now (nn .entry)) (now (nl .entry)))
+        limit (now (w .entry)) count (now (w .exit)) r) ⌝ }
+{
+    let mut total = count;
+    let mut x = 0;
+    while x < total {
+        if limit < total {
+            return total;
+        }
+        total = visit(ot, on, ol, nt, nn, nl, limit, w, total, x);
+        x += 1;
+    }
+    total
+}
+
+// One pass over the three rules: the entries of the first procedures, then each pair.
+fn pass(
+    ot: &[u8],
+    on: &[usize],
+    ol: &[usize],
+    nt: &[u8],
+    nn: &[usize],
+    nl: &[usize],
+    limit: usize,
+    w: &mut [usize],
+    count: usize,
+) -> usize
+    requires { ⌜ limit ≤ 4096 ⌝ }
+    ensures { λ r. ⌜ Sized (now (w .entry)) (now (w .exit))
+        (Passes
+        (memory (now (ot .entry)) (now (on .entry)) (now (ol .entry)))
+        (memory (now (nt .entry)) (now (nn .entry)) (now (nl .entry)))
+        limit (now (w .entry)) count (now (w .exit)) r) ⌝ }
+{
+    let total = add_entries(ol, nl, limit, w, count, 0, 0);
+    visit_all(ot, on, ol, nt, nn, nl, limit, w, total)
+}
+
+// Passes until one adds nothing.
+fn repeat(
+    ot: &[u8],
+    on: &[usize],
+    ol: &[usize],
+    nt: &[u8],
+    nn: &[usize],
+    nl: &[usize],
+    limit: usize,
+    w: &mut [usize],
+) -> usize
+    requires { ⌜ limit ≤ 4096 ⌝ }
+    ensures { λ r. ⌜ Sized (now (w .entry)) (now (w .exit))
+        (Finds
+        (memory (now (ot .entry)) (now (on .entry)) (now (ol .entry)))
+        (memory (now (nt .entry)) (now (nn .entry)) (now (nl .entry)))
+        limit (now (w .entry)) (now (w .exit)) r) ⌝ }
+{
+    let mut count = 0;
+    loop {
+        let next = pass(ot, on, ol, nt, nn, nl, limit, w, count);
+        if limit < next {
+            return limit + 1;
+        }
+        if next <= count {
+            return next;
+        }
+        count = next;
+    }
+}
+
+// Finds all pairs, and puts them into the table: how many there are, or limit + 1 where there are more than the limit.
+//
+// The worst case. A pass visits each pair once, and a visit tries the edges of the old node, at most 8. A try compares the edge's word with
+// those of the new node, at most 8, and looks the pair of ends up along the partners of the old end, at most as many as there are new nodes;
+// labels are compared only for ends that are no pair yet. There are at most two passes more than old procedures. A pass leaves out only what
+// stands behind calls that wait for their exits, so one that adds a pair, after the first, does so from a call whose exits became a pair in
+// the pass before; an exit pair is added once, and the callees of a pair have one name, so there are no more exit pairs of callees than old
+// procedures. A last pass adds nothing. At the limits of the files that is at most 66 * 4,096 * 8 tries, each of at most 512 steps along a chain.
+pub fn close(
+    ot: &[u8],
+    on: &[usize],
+    ol: &[usize],
+    nt: &[u8],
+    nn: &[usize],
+    nl: &[usize],
+    limit: usize,
+    w: &mut [usize],
+) -> usize
+    requires { ⌜ limit ≤ 4096 ⌝ }
+    ensures { λ r. ⌜ Sized (now (w .entry)) (now (w .exit))
+        (Closes
+        (memory (now (ot .entry)) (now (on .entry)) (now (ol .entry)))
+        (memory (now (nt .entry)) (now (nn .entry)) (now (nl .entry)))
+        limit (now (w .entry)) (now (w .exit)) r) ⌝ }
+{
+    text::clear(w);
+    repeat(ot, on, ol, nt, nn, nl, limit, w)
+}
