@@ -153,7 +153,7 @@ module _ (ot on ol nt nn nl : List ℕ) (e m t : ℕ) (et : Taken ot ol nt nl e 
 
   module _ (d : t ≡ 0 → ⊥) where
     -- The edge taken is one of the new node with the word of the old edge, and there is no other.
-    one-taken : (o p : Listing) → InMemory (memory ot on ol) o → InMemory (memory nt nn nl) p → e < edgeCount (o .program) → m < nodeCount (p .program)
+    pub one-taken : (o p : Listing) → InMemory (memory ot on ol) o → InMemory (memory nt nn nl) p → e < edgeCount (o .program) → m < nodeCount (p .program)
         → (t - 1 < edgeCount (p .program)) × (sourceAt (p .program) (t - 1) ≡ m) × (sameWord (o .program) (p .program) e (t - 1) ≡ true)
         × ((f : ℕ) → f < edgeCount (p .program) → sourceAt (p .program) f ≡ m → sameWord (o .program) (p .program) e f ≡ true → f ≡ t - 1)
     unfolding Taken

@@ -214,7 +214,7 @@ unfolding marksOf
 marks-length old new c zero = refl
 marks-length old new c (suc n) = snoc-length 0 (marksOf old new c n) (markByte (mark old new c n)) ∙ ap suc (marks-length old new c n)
 
-marks-at : (old new : Program) (c : Coverage) (n e : ℕ) → e < n → getD (marksOf old new c n) e 0 ≡ markByte (mark old new c e)
+pub marks-at : (old new : Program) (c : Coverage) (n e : ℕ) → e < n → getD (marksOf old new c n) e 0 ≡ markByte (mark old new c e)
 unfolding marksOf
 marks-at old new c zero e h = absurd (let z : ⊥ = omega arith in z)
 marks-at old new c (suc n) e h =

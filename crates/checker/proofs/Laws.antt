@@ -1,0 +1,297 @@
+-- The turns and the returns of the functions of the five rules, as `search` finds them: the premises are what the code holds there.
+use mathlib.Core.Path.{_≡_, refl, sym, ap, ap₂, _∙_, subst}
+use mathlib.Core.Bool.{Bool, true, false}
+use mathlib.Core.List.{List, []}
+use Prim.Native.Nat.{ℕ, _+_, _-_, _/_, _%_, _≤_, _<_}
+use native.Mathlib.Nat.{zero-add}
+use native.Mathlib.Numerals.{add-one}
+use native.Mathlib.Omega.{arith}
+use lib.Dec.{eqb, ltb}
+use lib.ListN.{getD, length}
+use borrow.Author.Tests.{eq-eqb, eqb-true, le-ltb, lt-ltb, ne-eqb}
+use Rattle.laws.specs.Tests.{_and_, _or_, _⇒_, allPairs, any, choose, every, found, first, has, listed}
+use Rattle.laws.specs.TestLaws.{and-both, and-left, and-right, any-at, any-of, both-ways, every-at, every-of, every-skip, fails, implied, implies, or-left, same-test}
+use Rattle.laws.specs.Chain.{Walk, walk-end, walk-start, walk-step}
+use Rattle.laws.specs.Bits.{bitAt, bitIn}
+use Rattle.rules.specs.Graph.{called, edgeCount, entry, nodeCount, sourceAt, targetAt}
+use Rattle.rules.specs.ProgramFile.{Listing}
+use Rattle.rules.specs.Closing.{Coverage, bothCall, goesOn, meets, sameWord}
+use Rattle.rules.specs.Sheet.{Sheet}
+use Rattle.rules.specs.Check.{edgeKept, edgesKept, entered, keeps, rule1, rule5}
+use Rattle.graph.specs.Table.{edgeBase, headBase, procBase}
+use Rattle.graph.specs.Reads.{upTo}
+use Rattle.graph.proofs.Laws.{before-less}
+use Rattle.pairset.specs.Store.{Has, newAt, oldAt}
+use Rattle.pairset.specs.StoreLaws.{all-pairs, listed-of}
+use Rattle.suite.specs.Rows.{edgeBit, rowCommon}
+use Rattle.suite.specs.RowLaws.{common-meets}
+use Rattle.versions.specs.Memory.{Memory, memory}
+use Rattle.versions.specs.MemoryLaws.{edges-chained, entry-is, sound, target-is, well-formed}
+use Rattle.versions.specs.Found.{found-none}
+use Rattle.versions.specs.Claims.{Alike, Entered, GoesOn, Taken}
+use Rattle.versions.proofs.Laws.{one-taken}
+use Rattle.checker.specs.Rules.{AllKeep, AllKept, Claimed, Covered, EdgeKept, EdgesKept, PairKeeps, Rule1, Rule5, TestKept, edgeAllowed, pairRule}
+
+-- ---- `has_bit`, `rule1`
+
+pub bit-is : (sets : List ℕ) (i : ℕ) (r : Bool) → r ≡ edgeBit sets 0 i → r ≡ bitIn sets i
+unfolding edgeBit bitIn
+bit-is sets i r e = e ∙ ap (λ (k : ℕ). bitAt (getD sets k 0) (i % 64)) (zero-add (i / 64))
+
+-- What the table of pairs answers, of the sheet's pairs.
+listed-is : (v v′ : Memory) (w sets : List ℕ) (m : ℕ) (o p : Listing) (s : Sheet) → Claimed v v′ w sets m o p s → (a b : ℕ) (r : Bool) → Has w a b r → r ≡ listed (s .M) a b
+unfolding Has
+listed-is v v′ w sets m o p s c a b r h = h m (c .held .store) ∙ ap (λ (l : List (ℕ × ℕ)). listed l a b) (c .held .pairs-are)
+
+pub rule1-is : (ol nl w : List ℕ) (a b : ℕ) (r : Bool) → a ≡ getD ol (procBase 0 + 5) 0 → b ≡ getD nl (procBase 0 + 5) 0 → Has w a b r → Rule1 ol nl w r
+unfolding Rule1 rule1
+rule1-is ol nl w a b r ea eb h ot nt on nn sets m o p s c =
+    listed-is _ _ w sets m o p s c a b r h
+    ∙ ap₂ (λ (x y : ℕ). listed (s .M) x y)
+    (ea ∙ entry-is (memory ot on ol) o (c .old-in) 0 (well-formed (memory ot on ol) o (c .old-in) .begins))
+    (eb ∙ entry-is (memory nt nn nl) p (c .new-in) 0 (well-formed (memory nt nn nl) p (c .new-in) .begins))
+
+pub ruleset leaves = (bit-is, rule1-is)
+
+-- ---- `edge_kept`
+
+module _ (ot ol nt nl w sets : List ℕ) (e k : ℕ) (t : Bool) (et : t ≡ bitIn sets e) where
+  -- The bit of the edge says whether it is listed under D.
+  bit-listed : (on nn : List ℕ) (m : ℕ) (o p : Listing) (s : Sheet) → Claimed (memory ot on ol) (memory nt nn nl) w sets m o p s → e < edgeCount (o .program) → has (s .D) e ≡ t
+  bit-listed on nn m o p s c i = sym (et ∙ c .held .edges-are e (omega (arith, sound (memory ot on ol) o (c .old-in) .fewEdges)))
+
+  pub kept-listed : t ≡ true → EdgeKept ot ol nt nl w sets e k true
+  unfolding EdgeKept edgeAllowed
+  kept-listed y on nn m o p s c i j = sym (or-left _ (bit-listed on nn m o p s c i ∙ y))
+
+  module _ (n : t ≡ false) (x : ℕ) (ex : Taken ot ol nt nl e k x) where
+    allowed-is : (on nn : List ℕ) (m : ℕ) (o p : Listing) (s : Sheet) → Claimed (memory ot on ol) (memory nt nn nl) w sets m o p s → e < edgeCount (o .program)
+        → edgeAllowed (o .program) (p .program) s k e ≡ any (edgeCount (p .program)) (keeps (o .program) (p .program) s k e)
+    unfolding edgeAllowed _or_
+    allowed-is on nn m o p s c i = ap (λ (b : Bool). b or any (edgeCount (p .program)) (keeps (o .program) (p .program) s k e)) (bit-listed on nn m o p s c i ∙ n)
+
+    -- The new node has no such word.
+    pub kept-none : x < 1 → EdgeKept ot ol nt nl w sets e k false
+    unfolding EdgeKept Taken keeps
+    kept-none z on nn m o p s c i j =
+        sym (allowed-is on nn m o p s c i
+        ∙ fails _ (λ a.
+        let r = any-at (keeps (o .program) (p .program) s k e) (edgeCount (p .program)) a in
+        let q : found (first (edgeCount (p .program)) (λ f. eqb (sourceAt (p .program) f) k and sameWord (o .program) (p .program) e f)) ≡ 0
+        = omega (arith, ex on nn o p (c .old-in) (c .new-in) i j) in
+        found-none (λ f. eqb (sourceAt (p .program) f) k and sameWord (o .program) (p .program) e f) (edgeCount (p .program)) q (r .0) (r .1)
+        (and-both (and-left _ _ (r .2)) (and-left _ _ (and-right _ _ (r .2))))))
+
+    -- It has one edge with the word: the ends of that one are listed, or none are.
+    pub kept-ends : (a b y : ℕ) (r : Bool) → 1 ≤ x → a ≡ getD ol (edgeBase e + 3) 0 → y ≡ x - 1 → b ≡ getD nl (edgeBase y + 3) 0 → Has w a b r → EdgeKept ot ol nt nl w sets e k r
+    unfolding EdgeKept keeps
+    kept-ends a b y r l ea ey eb h on nn m o p s c i j =
+        let q = one-taken ot on ol nt nn nl e k x ex (λ z. let b : ⊥ = omega arith in b) o p (c .old-in) (c .new-in) i j in
+        let is : r ≡ listed (s .M) (targetAt (o .program) e) (targetAt (p .program) (x - 1)) =
+        listed-is _ _ w sets m o p s c a b r h
+        ∙ ap₂ (λ (u v : ℕ). listed (s .M) u v)
+        (ea ∙ target-is (memory ot on ol) o (c .old-in) e i)
+        (eb ∙ ap (λ (u : ℕ). getD nl (edgeBase u + 3) 0) ey ∙ target-is (memory nt nn nl) p (c .new-in) (x - 1) (q .0)) in
+        let there : r ≡ true → any (edgeCount (p .program)) (keeps (o .program) (p .program) s k e) ≡ true
+        = λ u. any-of (keeps (o .program) (p .program) s k e) (edgeCount (p .program)) (x - 1) (q .0) (and-both (eq-eqb _ _ (q .1)) (and-both (q .2) (sym is ∙ u))) in
+        let back : any (edgeCount (p .program)) (keeps (o .program) (p .program) s k e) ≡ true → r ≡ true
+        = λ u.
+        let f = any-at (keeps (o .program) (p .program) s k e) (edgeCount (p .program)) u in
+        let only : f .0 ≡ x - 1 = q .3 (f .0) (f .1) (eqb-true _ _ (and-left _ _ (f .2))) (and-left _ _ (and-right _ _ (f .2))) in
+        is ∙ ap (λ (g : ℕ). listed (s .M) (targetAt (o .program) e) (targetAt (p .program) g)) (sym only) ∙ and-right _ _ (and-right _ _ (f .2)) in
+        same-test r _ there back ∙ sym (allowed-is on nn m o p s c i)
+
+pub ruleset kept = (kept-listed, kept-none, kept-ends)
+
+-- ---- `all_kept`
+
+-- The edges of the old node n from the place on are kept at the new node k.
+unfoldable pub KeptFrom : List ℕ → List ℕ → List ℕ → List ℕ → List ℕ → List ℕ → ℕ → ℕ → ℕ → Type 0
+KeptFrom ot ol nt nl w sets n k place =
+    (on nn : List ℕ) (m : ℕ) (o p : Listing) (s : Sheet) → Claimed (memory ot on ol) (memory nt nn nl) w sets m o p s → n < nodeCount (o .program) → k < nodeCount (p .program)
+    → Walk (λ e. edgeAllowed (o .program) (p .program) s k e ≡ true) (sourceAt (o .program)) n (edgeCount (o .program)) place
+
+module _ (ot ol nt nl w sets : List ℕ) (n k : ℕ) where
+  pub walk-first : (place : ℕ) → place ≡ getD ol (headBase n) 0 → KeptFrom ot ol nt nl w sets n k place
+  unfolding KeptFrom
+  walk-first place h on nn m o p s c i j =
+      subst (λ (x : ℕ). Walk (λ e. edgeAllowed (o .program) (p .program) s k e ≡ true) (sourceAt (o .program)) n (edgeCount (o .program)) x) (sym h)
+      (walk-start (edges-chained (memory ot on ol) o (c .old-in)) n i)
+
+  module _ (place : ℕ) (inv : KeptFrom ot ol nt nl w sets n k place) where
+    pub walk-last : place ≤ 0 → AllKept ot ol nt nl w sets n k true
+    unfolding AllKept KeptFrom edgeKept edgeAllowed
+    walk-last z on nn m o p s c i j =
+        sym (every-of (edgeKept (o .program) (p .program) s n k) (edgeCount (o .program))
+        (λ e l. implies _ _ (λ q. walk-end (inv on nn m o p s c i j) z e l (eqb-true _ _ q))))
+
+    module _ (e : ℕ) (t : Bool) (pos : 0 < place) (ee : e ≡ place - 1) (et : EdgeKept ot ol nt nl w sets e k t) where
+      -- The edge at the place is one of the node, and the test says whether it is kept.
+      at-place : (on nn : List ℕ) (m : ℕ) (o p : Listing) (s : Sheet) → Claimed (memory ot on ol) (memory nt nn nl) w sets m o p s → n < nodeCount (o .program) → k < nodeCount (p .program)
+          → (e < edgeCount (o .program)) × (sourceAt (o .program) e ≡ n) × (t ≡ edgeAllowed (o .program) (p .program) s k e)
+      unfolding KeptFrom EdgeKept
+      at-place on nn m o p s c i j =
+          let x = inv on nn m o p s c i j in
+          let l : e < edgeCount (o .program) = omega (arith, x .within) in
+          (l, ap (sourceAt (o .program)) ee ∙ x .owner pos, et on nn m o p s c l j)
+
+      pub walk-broken : t ≡ false → AllKept ot ol nt nl w sets n k false
+      unfolding AllKept edgeKept edgeAllowed
+      walk-broken f on nn m o p s c i j =
+          let x = at-place on nn m o p s c i j in
+          sym (fails _ (λ a.
+          let y : edgeKept (o .program) (p .program) s n k e ≡ true = every-at (edgeKept (o .program) (p .program) s n k) (edgeCount (o .program)) a e (x .0) in
+          both-ways (x .2 ∙ implied _ _ y (eq-eqb _ _ (x .1))) f))
+
+      pub walk-on : (next : ℕ) → t ≡ true → next ≡ upTo e (getD ol (edgeBase e + 4) 0) → KeptFrom ot ol nt nl w sets n k next
+      unfolding KeptFrom
+      walk-on next y en on nn m o p s c i j =
+          let x = at-place on nn m o p s c i j in
+          let P : ℕ → Type 0 = λ e. edgeAllowed (o .program) (p .program) s k e ≡ true in
+          subst (λ (u : ℕ). Walk P (sourceAt (o .program)) n (edgeCount (o .program)) u)
+          (sym (en ∙ ap (λ (u : ℕ). upTo u (getD ol (edgeBase u + 4) 0)) ee))
+          (walk-step (edges-chained (memory ot on ol) o (c .old-in)) {P = P} {Q = P} (inv on nn m o p s c i j) pos (λ u q. q) (subst P ee (sym (x .2) ∙ y)))
+
+pub ruleset walks = (walk-first, walk-last, walk-broken, walk-on, before-less)
+
+-- ---- `edges_kept`
+
+module _ (ot on ol nt nn nl w sets : List ℕ) (n k : ℕ) (t : Bool) (et : GoesOn on ol nn nl w n k t) where
+  goes-is : (m : ℕ) (o p : Listing) (s : Sheet) → Claimed (memory ot on ol) (memory nt nn nl) w sets m o p s → n < nodeCount (o .program) → k < nodeCount (p .program)
+      → goesOn (o .program) (p .program) (s .M) n k ≡ t
+  unfolding GoesOn
+  goes-is m o p s c i j =
+      sym (et ot nt o p m (c .old-in) (c .new-in) (c .held .store) i j ∙ ap (λ (l : List (ℕ × ℕ)). goesOn (o .program) (p .program) l n k) (c .held .pairs-are))
+
+  pub edges-stop : t ≡ false → EdgesKept (memory ot on ol) (memory nt nn nl) w sets n k true
+  unfolding EdgesKept edgesKept _⇒_
+  edges-stop f m o p s c i j = sym (ap (λ (b : Bool). b ⇒ every (edgeCount (o .program)) (edgeKept (o .program) (p .program) s n k)) (goes-is m o p s c i j ∙ f))
+
+  pub edges-all : (r : Bool) → t ≡ true → AllKept ot ol nt nl w sets n k r → EdgesKept (memory ot on ol) (memory nt nn nl) w sets n k r
+  unfolding EdgesKept edgesKept AllKept _⇒_
+  edges-all r y h m o p s c i j =
+      h on nn m o p s c i j
+      ∙ sym (ap (λ (b : Bool). b ⇒ every (edgeCount (o .program)) (edgeKept (o .program) (p .program) s n k)) (goes-is m o p s c i j ∙ y))
+
+pub ruleset edges = (edges-stop, edges-all)
+
+-- ---- `pair_keeps`
+
+module _ (rule : ℕ) (ot on ol nt nn nl w sets : List ℕ) (n k : ℕ) (r : Bool) where
+  pub pair-alike : rule ≡ 2 → Alike (memory ot on ol) (memory nt nn nl) n k r → PairKeeps rule (memory ot on ol) (memory nt nn nl) w sets n k r
+  unfolding PairKeeps pairRule Alike choose
+  pair-alike e h m o p s c i j = rw (eq-eqb rule 2 e) (h o p (c .old-in) (c .new-in) i j)
+
+  pub pair-entered : (rule ≡ 2 → ⊥) → rule ≡ 3 → Entered on ol nn nl w n k r → PairKeeps rule (memory ot on ol) (memory nt nn nl) w sets n k r
+  unfolding PairKeeps pairRule Entered choose entered
+  pair-entered d e h m o p s c i j =
+      rw (ne-eqb rule 2 d, eq-eqb rule 3 e)
+      (h ot nt o p m (c .old-in) (c .new-in) (c .held .store) i j
+      ∙ ap (λ (l : List (ℕ × ℕ)). bothCall (o .program) (p .program) n k ⇒ listed l (entry (o .program) (called (o .program) n)) (entry (p .program) (called (p .program) k))) (c .held .pairs-are))
+
+  pub pair-edges : (rule ≡ 2 → ⊥) → (rule ≡ 3 → ⊥) → EdgesKept (memory ot on ol) (memory nt nn nl) w sets n k r → PairKeeps rule (memory ot on ol) (memory nt nn nl) w sets n k r
+  unfolding PairKeeps pairRule EdgesKept choose
+  pair-edges d e h m o p s c i j = rw (ne-eqb rule 2 d, ne-eqb rule 3 e) (h m o p s c i j)
+
+pub ruleset pairs = (pair-alike, pair-entered, pair-edges)
+
+-- ---- `all_keep`
+
+-- The first i of m pairs keep the rule.
+unfoldable pub KeepTo : ℕ → Memory → Memory → List ℕ → List ℕ → ℕ → ℕ → Type 0
+KeepTo rule v v′ w sets m i =
+    (o p : Listing) (s : Sheet) → Claimed v v′ w sets m o p s → every i (λ j. pairRule rule (o .program) (p .program) s (oldAt w j) (newAt w j)) ≡ true
+
+module _ (rule : ℕ) (v v′ : Memory) (w sets : List ℕ) (m : ℕ) where
+  -- The pairs of the sheet are those of the table.
+  by-index : (o p : Listing) (s : Sheet) → Claimed v v′ w sets m o p s
+      → allPairs (pairRule rule (o .program) (p .program) s) (s .M) ≡ every m (λ j. pairRule rule (o .program) (p .program) s (oldAt w j) (newAt w j))
+  by-index o p s c =
+      ap (allPairs (pairRule rule (o .program) (p .program) s)) (sym (c .held .pairs-are)) ∙ all-pairs w (pairRule rule (o .program) (p .program) s) m
+
+  pub keep-start : KeepTo rule v v′ w sets m 0
+  unfolding KeepTo every
+  keep-start o p s c = refl
+
+  module _ (i n k : ℕ) (r : Bool) (l : i < m) (en : n ≡ oldAt w i) (ek : k ≡ newAt w i) (h : PairKeeps rule v v′ w sets n k r) where
+    here : (o p : Listing) (s : Sheet) → Claimed v v′ w sets m o p s → pairRule rule (o .program) (p .program) s (oldAt w i) (newAt w i) ≡ r
+    unfolding PairKeeps
+    here o p s c =
+        let q = c .nodes n k (subst (λ (x : List (ℕ × ℕ)). listed x n k ≡ true) (c .held .pairs-are) (listed-of w n k m i l (sym en) (sym ek))) in
+        ap₂ (pairRule rule (o .program) (p .program) s) (sym en) (sym ek) ∙ sym (h m o p s c (q .0) (q .1))
+
+    pub keep-broken : r ≡ false → AllKeep rule v v′ w sets m false
+    unfolding AllKeep
+    keep-broken f o p s c =
+        sym (by-index o p s c
+        ∙ fails _ (λ a. both-ways (every-at (λ j. pairRule rule (o .program) (p .program) s (oldAt w j) (newAt w j)) m a i l) (here o p s c ∙ f)))
+
+    pub keep-on : KeepTo rule v v′ w sets m i → r ≡ true → KeepTo rule v v′ w sets m (i + 1)
+    unfolding KeepTo
+    keep-on inv y o p s c =
+        ap (λ (x : ℕ). every x (λ j. pairRule rule (o .program) (p .program) s (oldAt w j) (newAt w j))) (add-one i)
+        ∙ every-skip (λ j. pairRule rule (o .program) (p .program) s (oldAt w j) (newAt w j)) i (here o p s c ∙ y)
+        ∙ inv o p s c
+
+  pub keep-all : (i : ℕ) → KeepTo rule v v′ w sets m i → i ≤ m → m ≤ i → AllKeep rule v v′ w sets m true
+  unfolding KeepTo AllKeep
+  keep-all i inv a b o p s c =
+      let q : i ≡ m = omega arith in
+      sym (by-index o p s c ∙ ap (λ (x : ℕ). every x (λ j. pairRule rule (o .program) (p .program) s (oldAt w j) (newAt w j))) (sym q) ∙ inv o p s c)
+
+pub ruleset keeping = (keep-start, keep-broken, keep-on, keep-all)
+
+-- ---- `test_kept`, `rule5`
+
+module _ (rows sets : List ℕ) (i x : ℕ) (ex : x ≡ rowCommon rows i sets) where
+  -- A common edge is found just where the coverage holds a D edge.
+  meets-is : (v v′ : Memory) (w : List ℕ) (m count : ℕ) (o p : Listing) (s : Sheet) (coverages : List Coverage) → Claimed v v′ w sets m o p s → Covered rows (edgeCount (o .program)) count coverages → i < count
+      → meets (s .D) (getD coverages i []) ≡ ltb 0 x
+  meets-is v v′ w m count o p s coverages c d l =
+      let few : edgeCount (o .program) ≤ 1024 = sound v o (c .old-in) .fewEdges in
+      sym (ap (ltb 0) ex
+      ∙ common-meets (edgeCount (o .program)) rows i (getD coverages i []) few (d .row i l) sets (s .D) (λ e h. c .held .edges-are e (omega arith)) (c .edges))
+
+  pub test-free : x < 1 → TestKept rows sets i true
+  unfolding TestKept _⇒_
+  test-free z v v′ w m count o p s coverages c d l =
+      sym (ap (λ (b : Bool). b ⇒ has (s .R) i) (meets-is v v′ w m count o p s coverages c d l ∙ le-ltb 0 x (omega arith)))
+
+  pub test-listed : (r : Bool) → 1 ≤ x → i < 200 → r ≡ bitIn sets (1024 + i) → TestKept rows sets i r
+  unfolding TestKept _⇒_
+  test-listed r h few e v v′ w m count o p s coverages c d l =
+      e ∙ c .held .tests-are i few
+      ∙ sym (ap (λ (b : Bool). b ⇒ has (s .R) i) (meets-is v v′ w m count o p s coverages c d l ∙ lt-ltb 0 x (omega arith)))
+
+-- The first i tests keep rule 5.
+unfoldable pub TestsTo : List ℕ → ℕ → List ℕ → ℕ → Type 0
+TestsTo rows count sets i =
+    (v v′ : Memory) (w : List ℕ) (m : ℕ) (o p : Listing) (s : Sheet) (coverages : List Coverage) → Claimed v v′ w sets m o p s → Covered rows (edgeCount (o .program)) count coverages
+    → every i (λ j. meets (s .D) (getD coverages j []) ⇒ has (s .R) j) ≡ true
+
+module _ (rows : List ℕ) (count : ℕ) (sets : List ℕ) where
+  pub tests-start : TestsTo rows count sets 0
+  unfolding TestsTo every
+  tests-start v v′ w m o p s coverages c d = refl
+
+  module _ (i : ℕ) (r : Bool) (l : i < count) (h : TestKept rows sets i r) where
+    pub tests-broken : r ≡ false → Rule5 rows count sets false
+    unfolding Rule5 TestKept rule5
+    tests-broken f v v′ w m o p s coverages c d =
+        sym (fails _ (λ a.
+        both-ways (every-at (λ j. meets (s .D) (getD coverages j []) ⇒ has (s .R) j) (length coverages) a i (omega (arith, d .counted))) (sym (h v v′ w m count o p s coverages c d l) ∙ f)))
+
+    pub tests-on : TestsTo rows count sets i → r ≡ true → TestsTo rows count sets (i + 1)
+    unfolding TestsTo TestKept
+    tests-on inv y v v′ w m o p s coverages c d =
+        ap (λ (x : ℕ). every x (λ j. meets (s .D) (getD coverages j []) ⇒ has (s .R) j)) (add-one i)
+        ∙ every-skip (λ j. meets (s .D) (getD coverages j []) ⇒ has (s .R) j) i (sym (h v v′ w m count o p s coverages c d l) ∙ y)
+        ∙ inv v v′ w m o p s coverages c d
+
+  pub tests-all : (i : ℕ) → TestsTo rows count sets i → i ≤ count → count ≤ i → Rule5 rows count sets true
+  unfolding TestsTo Rule5 rule5
+  tests-all i inv a b v v′ w m o p s coverages c d =
+      let q : i ≡ length coverages = omega (arith, d .counted) in
+      sym (ap (λ (x : ℕ). every x (λ j. meets (s .D) (getD coverages j []) ⇒ has (s .R) j)) (sym q) ∙ inv v v′ w m o p s coverages c d)
+
+pub ruleset tests = (test-free, test-listed, tests-start, tests-broken, tests-on, tests-all)

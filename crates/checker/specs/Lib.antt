@@ -1,0 +1,3 @@
+-- What the check of a sheet claims.
+pub mod Rules
+pub mod Checking

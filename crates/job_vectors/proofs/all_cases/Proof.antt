@@ -1,0 +1,47 @@
+use borrow.Author.Needs.{needs}
+use native.Mathlib.Omega.{arith}
+use Prim.Native.Nat.{_-_}
+use lib.ListN.{length}
+use Rattle.job_vectors.proofs.all_cases.Statement.{statement}
+use Rattle.job_vectors.proofs.all_cases.Tie as tie
+
+abbrev Inv-loop : tie.InvT-loop
+Inv-loop fd left₀ left = Unit {0}
+
+abbrev μ-loop : tie.MeasureT-loop
+μ-loop fd left₀ left = left
+
+loop-holds : tie.Need-loop-holds Inv-loop μ-loop
+loop-holds c = search needs
+
+one-case-requires : tie.Need-one-case-requires Inv-loop μ-loop
+one-case-requires c κs = search needs
+
+sub-left : tie.Need-sub-left Inv-loop μ-loop
+sub-left c = search needs
+
+loop-less : tie.Need-loop-less Inv-loop μ-loop
+loop-less c = search needs
+
+loop-again : tie.Need-loop-again Inv-loop μ-loop
+loop-again c = search needs
+
+returns : tie.Need-returns Inv-loop μ-loop
+returns c = search needs
+
+returns-2 : tie.Need-returns-2 Inv-loop μ-loop
+returns-2 c = search needs
+
+pub all-cases-spec : {M : Type 1} → statement M
+all-cases-spec =
+    tie.close
+    (tie.spec
+    Inv-loop
+    μ-loop
+    loop-holds
+    one-case-requires
+    sub-left
+    loop-less
+    loop-again
+    returns
+    returns-2)

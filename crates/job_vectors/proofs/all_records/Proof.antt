@@ -1,0 +1,56 @@
+use mathlib.Core.Path.{_≡_}
+use borrow.Author.Needs.{needs}
+use native.Mathlib.Omega.{arith}
+use Prim.Native.Nat.{_-_}
+use lib.ListN.{length}
+use Rattle.job_vectors.proofs.all_records.Statement.{statement}
+use Rattle.job_vectors.proofs.all_records.Tie as tie
+
+abbrev Inv-loop : tie.InvT-loop
+Inv-loop old new tests out₀ i₀ out i = length out ≡ length out₀
+
+abbrev μ-loop : tie.MeasureT-loop
+μ-loop old new tests out₀ i₀ out i = 201 - i
+
+loop-holds : tie.Need-loop-holds Inv-loop μ-loop
+loop-holds c = search needs
+
+one-record-requires : tie.Need-one-record-requires Inv-loop μ-loop
+one-record-requires c κs = search needs
+
+add-i : tie.Need-add-i Inv-loop μ-loop
+add-i c = search needs
+
+loop-less : tie.Need-loop-less Inv-loop μ-loop
+loop-less c = search needs
+
+loop-again : tie.Need-loop-again Inv-loop μ-loop
+loop-again c = search needs
+
+same-length : tie.Need-same-length Inv-loop μ-loop
+same-length c = search needs
+
+returns : tie.Need-returns Inv-loop μ-loop
+returns c = search needs
+
+same-length-2 : tie.Need-same-length-2 Inv-loop μ-loop
+same-length-2 c = search needs
+
+returns-2 : tie.Need-returns-2 Inv-loop μ-loop
+returns-2 c = search needs
+
+pub all-records-spec : {M : Type 1} → statement M
+all-records-spec =
+    tie.close
+    (tie.spec
+    Inv-loop
+    μ-loop
+    loop-holds
+    one-record-requires
+    add-i
+    loop-less
+    loop-again
+    same-length
+    returns
+    same-length-2
+    returns-2)

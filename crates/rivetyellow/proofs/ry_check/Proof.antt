@@ -1,0 +1,16 @@
+use borrow.Author.Needs.{needs}
+use Rattle.rivetyellow.proofs.Laws.{all}
+use Rattle.rivetyellow.proofs.ry_check.Statement.{statement}
+use Rattle.rivetyellow.proofs.ry_check.Tie as tie
+
+check-job-requires : tie.Need-check-job-requires
+check-job-requires c κs = search needs
+
+pack-requires : tie.Need-pack-requires
+pack-requires c κs = search (all, needs)
+
+returns : tie.Need-returns
+returns c = search (all, needs)
+
+pub ry-check-spec : {M : Type 1} → statement M
+ry-check-spec = tie.close (tie.spec check-job-requires pack-requires returns)

@@ -1,0 +1,4 @@
+pub mod Dangers
+pub mod Counterparts
+pub mod Marks
+pub mod All

@@ -1,0 +1,66 @@
+use borrow.Author.Needs.{needs}
+use Rattle.selection.proofs.All.{all}
+use mathlib.Core.Path.{_≡_}
+use Prim.Native.Nat.{_≤_, _-_}
+use lib.ListN.{length}
+use Rattle.versions.specs.Memory.{memory}
+use Rattle.selection.proofs.Dangers.{MarkedTo}
+use Rattle.selection.proofs.mark_dangers.Statement.{statement}
+use Rattle.selection.proofs.mark_dangers.Tie as tie
+
+abbrev Inv-loop : tie.InvT-loop
+Inv-loop ot on ol nt nn nl w edges set₀ k₀ set k = (k ≤ 16) × (length set ≡ length set₀) × MarkedTo (memory ot on ol) (memory nt nn nl) w edges set₀ set k
+
+abbrev μ-loop : tie.MeasureT-loop
+μ-loop ot on ol nt nn nl w edges set₀ k₀ set k = 16 - k
+
+loop-holds : tie.Need-loop-holds Inv-loop μ-loop
+loop-holds c = search (all, needs)
+
+danger-word-requires : tie.Need-danger-word-requires Inv-loop μ-loop
+danger-word-requires c κs = search (all, needs)
+
+same-length : tie.Need-same-length Inv-loop μ-loop
+same-length c = search (all, needs)
+
+returns : tie.Need-returns Inv-loop μ-loop
+returns c = search (all, needs)
+
+mul-set : tie.Need-mul-set Inv-loop μ-loop
+mul-set c = search (all, needs)
+
+slice-write-set : tie.Need-slice-write-set Inv-loop μ-loop
+slice-write-set c = search (all, needs)
+
+add-k : tie.Need-add-k Inv-loop μ-loop
+add-k c = search (all, needs)
+
+loop-less : tie.Need-loop-less Inv-loop μ-loop
+loop-less c = search (all, needs)
+
+loop-again : tie.Need-loop-again Inv-loop μ-loop
+loop-again c = search (all, needs)
+
+same-length-2 : tie.Need-same-length-2 Inv-loop μ-loop
+same-length-2 c = search (all, needs)
+
+returns-2 : tie.Need-returns-2 Inv-loop μ-loop
+returns-2 c = search (all, needs)
+
+pub mark-dangers-spec : {M : Type 1} → statement M
+mark-dangers-spec =
+    tie.close
+    (tie.spec
+    Inv-loop
+    μ-loop
+    loop-holds
+    danger-word-requires
+    same-length
+    returns
+    mul-set
+    slice-write-set
+    add-k
+    loop-less
+    loop-again
+    same-length-2
+    returns-2)

@@ -1,0 +1,69 @@
+use borrow.Author.Needs.{needs}
+use Rattle.selection.proofs.All.{all}
+use mathlib.Core.Path.{_≡_}
+use lib.ListN.{length}
+use Rattle.versions.specs.Memory.{memory}
+use Rattle.selection.proofs.Marks.{RaisedFrom}
+use Rattle.selection.proofs.raise_all.Statement.{statement}
+use Rattle.selection.proofs.raise_all.Tie as tie
+
+abbrev Inv-loop : tie.InvT-loop
+Inv-loop ot on ol nt nn nl w e marks₀ n place₀ marks place = (length marks ≡ length marks₀) × RaisedFrom (memory ot on ol) (memory nt nn nl) w e n marks₀ marks place
+
+abbrev μ-loop : tie.MeasureT-loop
+μ-loop ot on ol nt nn nl w e marks₀ n place₀ marks place = place
+
+source-requires : tie.Need-source-requires Inv-loop μ-loop
+source-requires c κs = search (all, needs)
+
+last-pair-requires : tie.Need-last-pair-requires Inv-loop μ-loop
+last-pair-requires c κs = search (all, needs)
+
+loop-holds : tie.Need-loop-holds Inv-loop μ-loop
+loop-holds c = search (all, needs)
+
+sub-k : tie.Need-sub-k Inv-loop μ-loop
+sub-k c = search (all, needs)
+
+new-of-requires : tie.Need-new-of-requires Inv-loop μ-loop
+new-of-requires c κs = search (all, needs)
+
+joins-requires : tie.Need-joins-requires Inv-loop μ-loop
+joins-requires c κs = search (all, needs)
+
+raise-requires : tie.Need-raise-requires Inv-loop μ-loop
+raise-requires c κs = search (all, needs)
+
+pair-before-requires : tie.Need-pair-before-requires Inv-loop μ-loop
+pair-before-requires c κs = search (all, needs)
+
+loop-less : tie.Need-loop-less Inv-loop μ-loop
+loop-less c = search (all, needs)
+
+loop-again : tie.Need-loop-again Inv-loop μ-loop
+loop-again c = search (all, needs)
+
+same-length : tie.Need-same-length Inv-loop μ-loop
+same-length c = search (all, needs)
+
+returns : tie.Need-returns Inv-loop μ-loop
+returns c = search (all, needs)
+
+pub raise-all-spec : {M : Type 1} → statement M
+raise-all-spec =
+    tie.close
+    (tie.spec
+    Inv-loop
+    μ-loop
+    source-requires
+    last-pair-requires
+    loop-holds
+    sub-k
+    new-of-requires
+    joins-requires
+    raise-requires
+    pair-before-requires
+    loop-less
+    loop-again
+    same-length
+    returns)

@@ -1,0 +1,359 @@
+// What the pairs of two versions say of the tests: which old edges are dangerous, which tests are repeated, and the marks of a test.
+ghost use mathlib.Core.Path.{_≡_};
+ghost use Prim.Native.Nat.{_≤_, _<_, _*_};
+ghost use lib.ListN.{replicate};
+ghost use lib.Seq.{sets};
+ghost use Rattle.laws.specs.Tests.{plus};
+ghost use Rattle.versions.specs.Memory.{memory};
+ghost use Rattle.selection.specs.Dangers.{DangerWord, DangersMarked, Endangers, IsDangerous, Repeats};
+ghost use Rattle.selection.specs.Marks.{AllCarried, AllRaised, Carried, Joins, MarksFound, Only, differs, eitherOf, markedOne, raised};
+
+// ---- dangerous edges
+
+// Whether the old edge e, which leaves the node n, is dangerous for the pair of n and m: the pair may go on, and no edge of m fits e.
+fn endangers(
+    ot: &[u8],
+    on: &[usize],
+    ol: &[usize],
+    nt: &[u8],
+    nn: &[usize],
+    nl: &[usize],
+    w: &[usize],
+    e: usize,
+    n: usize,
+    m: usize,
+) -> bool
+    ensures { λ r. ⌜ Endangers (memory (now (ot .entry)) (now (on .entry)) (now (ol .entry))) (memory (now (nt .entry)) (now (nn .entry)) (now (nl .entry))) (now (w .entry)) e n m r ⌝ }
+{
+    if versions::goes_on(on, ol, nn, nl, w, n, m) {
+        return versions::fitting(ot, on, ol, nt, nn, nl, e, m) == 0;
+    }
+    false
+}
+
+// Whether the edge e is dangerous: for one of the partners of the node that it leaves.
+fn dangerous(
+    ot: &[u8],
+    on: &[usize],
+    ol: &[usize],
+    nt: &[u8],
+    nn: &[usize],
+    nl: &[usize],
+    w: &[usize],
+    edges: usize,
+    e: usize,
+) -> bool
+    ensures { λ r. ⌜ IsDangerous (memory (now (ot .entry)) (now (on .entry)) (now (ol .entry))) (memory (now (nt .entry)) (now (nn .entry)) (now (nl .entry))) (now (w .entry)) edges e r ⌝ }
+{
+    if edges <= e {
+        return false;
+    }
+    let n = versions::source(ol, e);
+    let mut place = pairset::last_pair(w, n);
+    while 0 < place {
+        let pair = place - 1;
+        let m = pairset::new_of(w, pair);
+        if endangers(ot, on, ol, nt, nn, nl, w, e, n, m) {
+            return true;
+        }
+        place = pairset::pair_before(w, pair);
+    }
+    false
+}
+
+// A word with one bit more below its bits.
+fn with_bit(x: u64, bit: bool) -> u64
+    requires { ⌜ x < 9223372036854775808 ⌝ }
+    ensures { λ r. ⌜ r ≡ plus bit (2 * x) ⌝ }
+{
+    if bit {
+        return 2 * x + 1;
+    }
+    2 * x
+}
+
+// The word k of the set of dangerous edges.
+fn danger_word(
+    ot: &[u8],
+    on: &[usize],
+    ol: &[usize],
+    nt: &[u8],
+    nn: &[usize],
+    nl: &[usize],
+    w: &[usize],
+    edges: usize,
+    k: usize,
+) -> u64
+    requires { ⌜ k < 16 ⌝ }
+    ensures { λ r. ⌜ DangerWord (memory (now (ot .entry)) (now (on .entry)) (now (ol .entry))) (memory (now (nt .entry)) (now (nn .entry)) (now (nl .entry))) (now (w .entry)) edges k r ⌝ }
+{
+    let mut x: u64 = 0;
+    let mut j = 64;
+    while 0 < j {
+        let i = j - 1;
+        let bit = dangerous(ot, on, ol, nt, nn, nl, w, edges, 64 * k + i);
+        x = with_bit(x, bit);
+        j = i;
+    }
+    x
+}
+
+// Makes the set that of the dangerous edges, of so many old edges.
+pub fn mark_dangers(
+    ot: &[u8],
+    on: &[usize],
+    ol: &[usize],
+    nt: &[u8],
+    nn: &[usize],
+    nl: &[usize],
+    w: &[usize],
+    edges: usize,
+    set: &mut [u64],
+)
+    ensures { λ _. ⌜ DangersMarked (memory (now (ot .entry)) (now (on .entry)) (now (ol .entry))) (memory (now (nt .entry)) (now (nn .entry)) (now (nl .entry))) (now (w .entry)) edges (now (set .entry)) (now (set .exit)) ⌝ }
+{
+    let mut k = 0;
+    while k < 16 {
+        let x = danger_word(ot, on, ol, nt, nn, nl, w, edges, k);
+        if set.len() <= k {
+            return;
+        }
+        set[k] = x;
+        k += 1;
+    }
+}
+
+// Whether the test is repeated: its row has an edge of the set of dangerous edges.
+pub fn repeated(rows: &[u64], test: usize, set: &[u64]) -> bool
+    requires { ⌜ test ≤ 200 ⌝ }
+    ensures { λ r. ⌜ Repeats (now (rows .entry)) test (now (set .entry)) r ⌝ }
+{
+    0 < suite::first_common(rows, test, set)
+}
+
+// ---- counterparts
+
+// 1 + the edge of the new node m that is joined with the old edge e, which leaves the node n, for the pair of n and m, or 0.
+fn joins(
+    ot: &[u8],
+    on: &[usize],
+    ol: &[usize],
+    nt: &[u8],
+    nn: &[usize],
+    nl: &[usize],
+    w: &[usize],
+    e: usize,
+    n: usize,
+    m: usize,
+) -> usize
+    ensures { λ r. ⌜ Joins (memory (now (ot .entry)) (now (on .entry)) (now (ol .entry))) (memory (now (nt .entry)) (now (nn .entry)) (now (nl .entry))) (now (w .entry)) e n m r ⌝ }
+{
+    if versions::goes_on(on, ol, nn, nl, w, n, m) {
+        return versions::fitting(ot, on, ol, nt, nn, nl, e, m);
+    }
+    0
+}
+
+// Whether both are edges found, and not the same one.
+fn differ(a: usize, b: usize) -> bool
+    ensures { λ r. ⌜ r ≡ differs a b ⌝ }
+{
+    if a == 0 {
+        return false;
+    }
+    if b == 0 {
+        return false;
+    }
+    if a == b {
+        return false;
+    }
+    true
+}
+
+// The edge found first, or the second where there is none.
+fn either(a: usize, b: usize) -> usize
+    ensures { λ r. ⌜ r ≡ eitherOf a b ⌝ }
+{
+    if a == 0 {
+        return b;
+    }
+    a
+}
+
+// 1 + the only counterpart of the old edge e, or 0 where it has none or several.
+fn only_counterpart(
+    ot: &[u8],
+    on: &[usize],
+    ol: &[usize],
+    nt: &[u8],
+    nn: &[usize],
+    nl: &[usize],
+    w: &[usize],
+    e: usize,
+) -> usize
+    ensures { λ r. ⌜ Only (memory (now (ot .entry)) (now (on .entry)) (now (ol .entry))) (memory (now (nt .entry)) (now (nn .entry)) (now (nl .entry))) (now (w .entry)) e r ⌝ }
+{
+    let n = versions::source(ol, e);
+    let mut seen = 0;
+    let mut place = pairset::last_pair(w, n);
+    while 0 < place {
+        let k = place - 1;
+        let m = pairset::new_of(w, k);
+        let f = joins(ot, on, ol, nt, nn, nl, w, e, n, m);
+        if differ(seen, f) {
+            return 0;
+        }
+        seen = either(seen, f);
+        place = pairset::pair_before(w, k);
+    }
+    seen
+}
+
+// ---- marks
+
+// Makes a mark `0` of the edge f - 1 a `?`.
+fn raise(marks: &mut [u8], f: usize)
+    ensures { λ _. ⌜ now (marks .exit) ≡ raised (now (marks .entry)) f ⌝ }
+{
+    if f == 0 {
+        return;
+    }
+    let x = f - 1;
+    if marks.len() <= x {
+        return;
+    }
+    if marks[x] == 48 {
+        marks[x] = 63;
+    }
+}
+
+// Makes each mark `0` of a counterpart of the old edge e a `?`.
+fn raise_all(
+    ot: &[u8],
+    on: &[usize],
+    ol: &[usize],
+    nt: &[u8],
+    nn: &[usize],
+    nl: &[usize],
+    w: &[usize],
+    e: usize,
+    marks: &mut [u8],
+)
+    ensures { λ _. ⌜ AllRaised (memory (now (ot .entry)) (now (on .entry)) (now (ol .entry))) (memory (now (nt .entry)) (now (nn .entry)) (now (nl .entry))) (now (w .entry)) e (now (marks .entry)) (now (marks .exit)) ⌝ }
+{
+    let n = versions::source(ol, e);
+    let mut place = pairset::last_pair(w, n);
+    while 0 < place {
+        let k = place - 1;
+        let m = pairset::new_of(w, k);
+        let f = joins(ot, on, ol, nt, nn, nl, w, e, n, m);
+        raise(marks, f);
+        place = pairset::pair_before(w, k);
+    }
+}
+
+// Makes the mark of the edge f - 1 a `1`; past the end, nothing.
+fn mark_one(marks: &mut [u8], f: usize)
+    ensures { λ _. ⌜ now (marks .exit) ≡ markedOne (now (marks .entry)) f ⌝ }
+{
+    if f == 0 {
+        return;
+    }
+    let x = f - 1;
+    if x < marks.len() {
+        marks[x] = 49;
+    }
+}
+
+// Marks the counterparts of the old edge e, if the test covers it: its only one with `1`, several with `?` where they have `0`.
+fn carry(
+    ot: &[u8],
+    on: &[usize],
+    ol: &[usize],
+    nt: &[u8],
+    nn: &[usize],
+    nl: &[usize],
+    w: &[usize],
+    rows: &[u64],
+    test: usize,
+    e: usize,
+    marks: &mut [u8],
+)
+    requires { ⌜ test ≤ 200 ⌝ }
+    ensures { λ _. ⌜ Carried (memory (now (ot .entry)) (now (on .entry)) (now (ol .entry))) (memory (now (nt .entry)) (now (nn .entry)) (now (nl .entry))) (now (w .entry)) (now (rows .entry)) test e (now (marks .entry)) (now (marks .exit)) ⌝ }
+{
+    if suite::covers(rows, test, e) {
+        let f = only_counterpart(ot, on, ol, nt, nn, nl, w, e);
+        if f == 0 {
+            raise_all(ot, on, ol, nt, nn, nl, w, e, marks);
+            return;
+        }
+        mark_one(marks, f);
+        return;
+    }
+}
+
+// Carries the test over every old edge.
+fn carry_all(
+    ot: &[u8],
+    on: &[usize],
+    ol: &[usize],
+    nt: &[u8],
+    nn: &[usize],
+    nl: &[usize],
+    w: &[usize],
+    rows: &[u64],
+    test: usize,
+    edges: usize,
+    marks: &mut [u8],
+)
+    requires { ⌜ test ≤ 200 ⌝ }
+    ensures { λ _. ⌜ AllCarried (memory (now (ot .entry)) (now (on .entry)) (now (ol .entry))) (memory (now (nt .entry)) (now (nn .entry)) (now (nl .entry))) (now (w .entry)) (now (rows .entry)) test edges edges (now (marks .entry)) (now (marks .exit)) ⌝ }
+{
+    let mut e = 0;
+    while e < edges {
+        carry(ot, on, ol, nt, nn, nl, w, rows, test, e, marks);
+        e += 1;
+    }
+}
+
+// Puts the byte b at the first n places, as far as the slice goes.
+fn fill(marks: &mut [u8], n: usize, b: u8)
+    ensures { λ _. ⌜ now (marks .exit) ≡ sets (now (marks .entry)) 0 (replicate n b) ⌝ }
+{
+    let mut i = 0;
+    while i < n {
+        if marks.len() <= i {
+            return;
+        }
+        marks[i] = b;
+        i += 1;
+    }
+}
+
+// Finds the marks of a test, where the versions have so many edges: all are `?` if it is repeated.
+pub fn find_marks(
+    ot: &[u8],
+    on: &[usize],
+    ol: &[usize],
+    nt: &[u8],
+    nn: &[usize],
+    nl: &[usize],
+    w: &[usize],
+    rows: &[u64],
+    test: usize,
+    olds: usize,
+    news: usize,
+    again: bool,
+    marks: &mut [u8],
+)
+    requires { ⌜ test ≤ 200 ⌝ }
+    ensures { λ _. ⌜ MarksFound (memory (now (ot .entry)) (now (on .entry)) (now (ol .entry))) (memory (now (nt .entry)) (now (nn .entry)) (now (nl .entry))) (now (w .entry)) (now (rows .entry)) test olds news again (now (marks .entry)) (now (marks .exit)) ⌝ }
+{
+    if again {
+        fill(marks, news, 63);
+        return;
+    }
+    fill(marks, news, 48);
+    carry_all(ot, on, ol, nt, nn, nl, w, rows, test, olds, marks);
+}

@@ -1,0 +1,497 @@
+-- The returns of the functions that take a line: the state and the tables hold what was read with the line more.
+use mathlib.Core.Path.{_≡_, refl, sym, ap, ap₂, _∙_, subst}
+use mathlib.Core.Bool.{Bool, true, false}
+use mathlib.Core.Option.{Option, none, some}
+use mathlib.Core.List.{List, [], _∷_, _++_}
+use Prim.Native.Nat.{ℕ, _+_, _-_, _*_, _≤_, _<_}
+use native.Mathlib.Omega.{arith}
+use lib.Dec.{eqb, leb, ltb}
+use lib.ListN.{length}
+use borrow.Author.Tests.{eq-eqb, le-leb, leb-true, lt-leb, ltb-true, ne-eqb}
+use Rattle.laws.specs.Tests.{_and_, _or_, found, has, isnt, none?}
+use Rattle.laws.specs.TestLaws.{and-left, and-right, false-isnt, true-isnt}
+use Rattle.laws.specs.Lists.{snoc-length}
+use Rattle.laws.specs.Slices.{same-or}
+use Rattle.laws.specs.Bits.{bitIn}
+use Rattle.rules.specs.Text.{Answer, Bytes, accepted, unless, value}
+use Rattle.rules.specs.Graph.{Program, edgeCount, nodeCount}
+use Rattle.rules.specs.Sheet.{SheetRead, addD, addM, addR, allBelow, going, openSheet, pairsBefore, takeSheetLine, testOf}
+use Rattle.pairset.specs.Store.{Appended, Appends}
+use Rattle.sheet_reader.specs.declared.State.{State}
+use Rattle.sheet_reader.specs.BitLaws.{bit-with}
+use Rattle.sheet_reader.specs.Forms.{kept}
+use Rattle.sheet_reader.specs.Reading.{AddsEdge, AddsPair, AddsTest, After, Ends, Holds, Opens, PairsUpTo, Refusal, Small, UpTo, edgeFits, endFits, pairFits, testFits, underway, withBit}
+use Rattle.sheet_reader.proofs.Orders.{and-when, has-snoc, kept-below, kept-is, kept-same, none-is, pairs-up-more, up-more}
+
+-- ---- a test that refuses, and one that passes
+
+module _ (r : State) (w sets : List ℕ) where
+  stop : {t : Bool} (k n : ℕ) (x : Answer SheetRead) → t ≡ true → Refusal k n r → 0 < k → After (unless t k n x) r w sets
+  unfolding unless
+  stop k n x e q p = rw e (q .number-is, q .place-is, p)
+
+  go-on : {t : Bool} (k n : ℕ) (x : Answer SheetRead) → t ≡ false → After x r w sets → After (unless t k n x) r w sets
+  unfolding unless
+  go-on k n x e a = rw e a
+
+-- ---- what the state says of what was read
+
+module _ (w sets : List ℕ) (c : State) (s : SheetRead) (hold : Holds w sets c s) where
+  way-is : underway c ≡ going s
+  unfolding underway
+  way-is = ap₂ (λ (x y : Bool). x and isnt y) (hold .opened-is) (hold .shut-is)
+
+  no-edges : eqb (c .edges) 0 ≡ none? (s .claims .D)
+  no-edges = ap (λ (k : ℕ). eqb k 0) (hold .edges-n) ∙ none-is (s .claims .D)
+
+  no-tests : eqb (c .tests) 0 ≡ none? (s .claims .R)
+  no-tests = ap (λ (k : ℕ). eqb k 0) (hold .tests-n) ∙ none-is (s .claims .R)
+
+  -- The tests of the code are those of the definition.
+  pair-fits-is : (olds news : ℕ) (x y : Bytes) → olds ≤ 512 → news ≤ 512
+      → pairFits olds news (kept x) (kept y) c
+      ≡ (going s and none? (s .claims .D) and none? (s .claims .R) and ltb (value x) olds and ltb (value y) news and pairsBefore (s .claims .M) (value x) (value y))
+  unfolding pairFits PairsUpTo
+  pair-fits-is olds news x y ho hn =
+      ap₂ (λ (p q : Bool). p and q) way-is
+      (ap₂ (λ (p q : Bool). p and q) no-edges
+      (ap₂ (λ (p q : Bool). p and q) no-tests
+      (and-when (ltb (kept x) olds) _ _
+      (λ a.
+      let xs : kept x ≡ value x = kept-is (value x) olds (omega arith) (ltb-true (kept x) olds a) in
+      and-when (ltb (kept y) news) _ _
+      (λ b.
+      let small : kept y < news = ltb-true (kept y) news b in
+      let ys : kept y ≡ value y = kept-is (value y) news (omega arith) small in
+      sym (hold .pair-next (kept x) (kept y) (omega arith)) ∙ ap₂ (λ (i j : ℕ). pairsBefore (s .claims .M) i j) xs ys)
+      ∙ ap (λ (p : Bool). p and pairsBefore (s .claims .M) (value x) (value y)) (kept-below (value y) news (omega arith)))
+      ∙ ap (λ (p : Bool). p and (ltb (value y) news and pairsBefore (s .claims .M) (value x) (value y))) (kept-below (value x) olds (omega arith)))))
+
+  edge-fits-is : (edges : ℕ) (x : Bytes) → edges ≤ 1024
+      → edgeFits edges (kept x) c ≡ (going s and none? (s .claims .R) and ltb (value x) edges and allBelow (s .claims .D) (value x))
+  unfolding edgeFits UpTo
+  edge-fits-is edges x h =
+      ap₂ (λ (p q : Bool). p and q) way-is
+      (ap₂ (λ (p q : Bool). p and q) no-tests
+      (and-when (ltb (kept x) edges) _ _
+      (λ a.
+      let xs : kept x ≡ value x = kept-is (value x) edges (omega arith) (ltb-true (kept x) edges a) in
+      sym (hold .edge-next (kept x)) ∙ ap (allBelow (s .claims .D)) xs)
+      ∙ ap (λ (p : Bool). p and allBelow (s .claims .D) (value x)) (kept-below (value x) edges (omega arith))))
+
+  test-fits-is : (i : ℕ) → testFits i c ≡ (going s and allBelow (s .claims .R) i)
+  unfolding testFits UpTo
+  test-fits-is i = ap₂ (λ (p q : Bool). p and q) way-is (sym (hold .test-next i))
+
+  end-fits-is : (x y z : Bytes) → Small c
+      → endFits (kept x) (kept y) (kept z) c
+      ≡ (going s and eqb (value x) (length (s .claims .M)) and eqb (value y) (length (s .claims .D)) and eqb (value z) (length (s .claims .R)))
+  unfolding endFits
+  end-fits-is x y z h =
+      let a = h .few-pairs in
+      let b = h .few-edges in
+      let d = h .low-edge in
+      let e = h .few-tests in
+      let f = h .low-test in
+      ap₂ (λ (p q : Bool). p and q) way-is
+      (ap₂ (λ (p q : Bool). p and q) (kept-same (value x) (c .pairs) (omega arith) ∙ ap (eqb (value x)) (hold .pairs-n))
+      (ap₂ (λ (p q : Bool). p and q) (kept-same (value y) (c .edges) (omega arith) ∙ ap (eqb (value y)) (hold .edges-n))
+      (kept-same (value z) (c .tests) (omega arith) ∙ ap (eqb (value z)) (hold .tests-n))))
+
+-- ---- `open`
+
+module _ (n : ℕ) (c : State) where
+  pub open-twice : (r : State) → c .opened ≡ true → Refusal 11 n r → Opens n c r
+  unfolding Opens takeSheetLine
+  open-twice r e q old new suite s w sets hold = stop r w sets 11 n (accepted (openSheet s)) (sym (hold .opened-is) ∙ e) q (omega arith)
+
+  -- The state with the first line more.
+  abbrev withHead : State
+  withHead =
+      record { number = 0; place = 0; opened = true; shut = c .shut; pairs = c .pairs; edges = c .edges; tests = c .tests; pair = c .pair; edge = c .edge; test = c .test }
+
+  pub open-first : c .opened ≡ false → Opens n c withHead
+  unfolding Opens takeSheetLine
+  open-first e old new suite s w sets hold =
+      go-on withHead w sets 11 n (accepted (openSheet s)) (sym (hold .opened-is) ∙ e) (
+        refl,
+        refl,
+        record {
+          opened-is = refl;
+          shut-is = hold .shut-is;
+          pairs-n = hold .pairs-n;
+          edges-n = hold .edges-n;
+          tests-n = hold .tests-n;
+          pair-next = hold .pair-next;
+          edge-next = hold .edge-next;
+          test-next = hold .test-next;
+          held = hold .held;
+        },
+      )
+
+  pub open-small : Small c → Small withHead
+  open-small h =
+      record { few-pairs = h .few-pairs; low-pair = h .low-pair; few-edges = h .few-edges; low-edge = h .low-edge; few-tests = h .few-tests; low-test = h .low-test }
+
+pub ruleset opens = (open-twice, open-first, open-small)
+
+-- ---- `add_pair`
+
+module _ (olds news n a b : ℕ) (c : State) (w : List ℕ) where
+  pub pair-full : (r : State) (w′ : List ℕ) → 4096 ≤ c .pairs → Refusal 4 n r → AddsPair olds news n a b c w r w′
+  unfolding AddsPair takeSheetLine
+  pair-full r w′ h q old new suite s sets x y eo en ea eb hold =
+      stop r w′ sets 4 n _ (le-leb 4096 (length (s .claims .M)) (omega (arith, hold .pairs-n))) q (omega arith)
+
+  module _ (t : Bool) (ho : olds ≤ 512) (hn : news ≤ 512) (room : c .pairs < 4096) (et : t ≡ pairFits olds news a b c) where
+    -- The definition's test, by the code's.
+    fits-are : (old new : Program) (s : SheetRead) (sets : List ℕ) (x y : Bytes) → olds ≡ nodeCount old → news ≡ nodeCount new → a ≡ kept x → b ≡ kept y → Holds w sets c s
+        → (going s and none? (s .claims .D) and none? (s .claims .R) and ltb (value x) (nodeCount old) and ltb (value y) (nodeCount new) and pairsBefore (s .claims .M) (value x) (value y)) ≡ t
+    fits-are old new s sets x y eo en ea eb hold =
+        ap₂ (λ (i j : ℕ). going s and none? (s .claims .D) and none? (s .claims .R) and ltb (value x) i and ltb (value y) j and pairsBefore (s .claims .M) (value x) (value y)) (sym eo) (sym en)
+        ∙ sym (pair-fits-is w sets c s hold olds news x y ho hn)
+        ∙ ap₂ (λ (i j : ℕ). pairFits olds news i j c) (sym ea) (sym eb)
+        ∙ sym et
+
+    few-are : (s : SheetRead) (sets : List ℕ) → Holds w sets c s → leb 4096 (length (s .claims .M)) ≡ false
+    few-are s sets hold = lt-leb 4096 (length (s .claims .M)) (omega (arith, hold .pairs-n))
+
+    pub pair-unfit : (r : State) (w′ : List ℕ) → t ≡ false → Refusal 11 n r → AddsPair olds news n a b c w r w′
+    unfolding AddsPair takeSheetLine
+    pair-unfit r w′ y q old new suite s sets x z eo en ea eb hold =
+        go-on r w′ sets 4 n _ (few-are s sets hold)
+        (stop r w′ sets 11 n _ (true-isnt (fits-are old new s sets x z eo en ea eb hold ∙ y)) q (omega arith))
+
+    module _ (y : t ≡ true) where
+      -- What the test says of the pair.
+      pub pair-old : a < olds
+      unfolding pairFits
+      pair-old = ltb-true a olds (and-left _ _ (and-right _ _ (and-right _ _ (and-right _ _ (sym et ∙ y)))))
+
+      pub pair-new : b < news
+      unfolding pairFits
+      pair-new = ltb-true b news (and-left _ _ (and-right _ _ (and-right _ _ (and-right _ _ (and-right _ _ (sym et ∙ y))))))
+
+      pair-behind : c .pair ≤ 512 * a + b
+      unfolding pairFits
+      pair-behind = leb-true (c .pair) (512 * a + b) (and-right _ _ (and-right _ _ (and-right _ _ (and-right _ _ (and-right _ _ (sym et ∙ y))))))
+
+      pub pair-mul : 512 * a < 18446744073709551616
+      pair-mul = omega (arith, pair-old)
+
+      pub pair-sum : 512 * a + b < 18446744073709551616
+      pair-sum = omega (arith, pair-old, pair-new)
+
+      pub pair-next : 512 * a + b + 1 < 18446744073709551616
+      pair-next = omega (arith, pair-old, pair-new)
+
+      -- The state with the pair more.
+      abbrev withPair : State
+      withPair =
+          record {
+            number = 0;
+            place = 0;
+            opened = c .opened;
+            shut = c .shut;
+            pairs = c .pairs + 1;
+            edges = c .edges;
+            tests = c .tests;
+            pair = 512 * a + b + 1;
+            edge = c .edge;
+            test = c .test;
+          }
+
+      held-pair : (s : SheetRead) (sets w′ : List ℕ) → 12800 ≤ length w → Appended w (c .pairs) a b w′ → Holds w sets c s → Holds w′ sets withPair (addM a b s)
+      unfolding Appends
+      held-pair s sets w′ long ap hold =
+          let p = ap .appends (hold .held .store) (omega (arith, pair-old)) (omega arith) in
+          record {
+            opened-is = hold .opened-is;
+            shut-is = hold .shut-is;
+            pairs-n = omega (arith, hold .pairs-n, snoc-length (0, 0) (s .claims .M) (a, b));
+            edges-n = hold .edges-n;
+            tests-n = hold .tests-n;
+            pair-next = pairs-up-more (s .claims .M) (c .pair) a b (hold .pair-next) (omega (arith, pair-new)) pair-behind;
+            edge-next = hold .edge-next;
+            test-next = hold .test-next;
+            held = record {
+              store = p .0;
+              pairs-are = p .1 ∙ ap₂ (λ (l k : List (ℕ × ℕ)). l ++ k) (hold .held .pairs-are) refl;
+              edges-are = hold .held .edges-are;
+              tests-are = hold .held .tests-are;
+            };
+          }
+
+      pub pair-more : (w′ : List ℕ) → 12800 ≤ length w → Appended w (c .pairs) a b w′ → AddsPair olds news n a b c w withPair w′
+      unfolding AddsPair takeSheetLine
+      pair-more w′ long ap old new suite s sets x z eo en ea eb hold =
+          let xs : a ≡ value x = ea ∙ kept-is (value x) olds (omega arith) (subst (λ (i : ℕ). i < olds) ea pair-old) in
+          let zs : b ≡ value z = eb ∙ kept-is (value z) news (omega arith) (subst (λ (i : ℕ). i < news) eb pair-new) in
+          go-on withPair w′ sets 4 n _ (few-are s sets hold)
+          (go-on withPair w′ sets 11 n _ (false-isnt (fits-are old new s sets x z eo en ea eb hold ∙ y))
+          (refl, refl, subst (λ (k : SheetRead). Holds w′ sets withPair k) (ap₂ (λ (i j : ℕ). addM i j s) xs zs) (held-pair s sets w′ long ap hold)))
+
+      pub pair-small : Small c → Small withPair
+      pair-small h =
+          record {
+            few-pairs = omega (arith, h .few-pairs);
+            low-pair = omega (arith, pair-old, pair-new);
+            few-edges = h .few-edges;
+            low-edge = h .low-edge;
+            few-tests = h .few-tests;
+            low-test = h .low-test;
+          }
+
+pub ruleset pairs = (pair-full, pair-unfit, pair-old, pair-new, pair-mul, pair-sum, pair-next, pair-more, pair-small)
+
+-- ---- a bit more
+
+-- The bits of the edges and those of the tests, with the edge e more, and with the test i more.
+module _ (sets : List ℕ) (long : 20 ≤ length sets) (l : List ℕ) where
+  bit-edge : (e : ℕ) → e < 1024 → ((j : ℕ) → j < 1024 → bitIn sets j ≡ has l j) → (j : ℕ) → j < 1024 → bitIn (withBit sets e) j ≡ has (l ++ (e ∷ [])) j
+  bit-edge e h is j k = bit-with sets e j (omega arith) ∙ ap (λ (t : Bool). eqb e j or t) (is j k) ∙ sym (has-snoc l e j)
+
+  bit-edge-kept : (i : ℕ) → i < 200 → ((j : ℕ) → j < 1024 → bitIn sets j ≡ has l j) → (j : ℕ) → j < 1024 → bitIn (withBit sets (1024 + i)) j ≡ has l j
+  unfolding _or_
+  bit-edge-kept i h is j k =
+      bit-with sets (1024 + i) j (omega arith) ∙ ap (λ (t : Bool). t or bitIn sets j) (ne-eqb (1024 + i) j (λ q. let z : ⊥ = omega arith in z)) ∙ is j k
+
+  bit-test : (i : ℕ) → i < 200 → ((j : ℕ) → j < 200 → bitIn sets (1024 + j) ≡ has l j) → (j : ℕ) → j < 200 → bitIn (withBit sets (1024 + i)) (1024 + j) ≡ has (l ++ (i ∷ [])) j
+  bit-test i h is j k =
+      let q : eqb (1024 + i) (1024 + j) ≡ eqb i j =
+      same-or i j
+      (λ e. eq-eqb (1024 + i) (1024 + j) (omega arith) ∙ sym (eq-eqb i j e))
+      (λ e. ne-eqb (1024 + i) (1024 + j) (λ d. e (omega arith)) ∙ sym (ne-eqb i j e)) in
+      bit-with sets (1024 + i) (1024 + j) (omega arith) ∙ ap₂ (λ (x y : Bool). x or y) q (is j k) ∙ sym (has-snoc l i j)
+
+  bit-test-kept : (e : ℕ) → e < 1024 → ((j : ℕ) → j < 200 → bitIn sets (1024 + j) ≡ has l j) → (j : ℕ) → j < 200 → bitIn (withBit sets e) (1024 + j) ≡ has l j
+  unfolding _or_
+  bit-test-kept e h is j k =
+      bit-with sets e (1024 + j) (omega arith) ∙ ap (λ (t : Bool). t or bitIn sets (1024 + j)) (ne-eqb e (1024 + j) (λ q. let z : ⊥ = omega arith in z)) ∙ is j k
+
+-- ---- `add_edge`
+
+module _ (edges n e : ℕ) (c : State) (sets : List ℕ) (t : Bool) (few : edges ≤ 1024) (et : t ≡ edgeFits edges e c) where
+  edge-are : (old : Program) (s : SheetRead) (w : List ℕ) (x : Bytes) → edges ≡ edgeCount old → e ≡ kept x → Holds w sets c s
+      → (going s and none? (s .claims .R) and ltb (value x) (edgeCount old) and allBelow (s .claims .D) (value x)) ≡ t
+  edge-are old s w x eo ee hold =
+      ap (λ (i : ℕ). going s and none? (s .claims .R) and ltb (value x) i and allBelow (s .claims .D) (value x)) (sym eo)
+      ∙ sym (edge-fits-is w sets c s hold edges x few)
+      ∙ ap (λ (i : ℕ). edgeFits edges i c) (sym ee)
+      ∙ sym et
+
+  pub edge-unfit : (r : State) (sets′ : List ℕ) → t ≡ false → Refusal 11 n r → AddsEdge edges n e c sets r sets′
+  unfolding AddsEdge takeSheetLine
+  edge-unfit r sets′ y q old new suite s w x eo ee hold = stop r w sets′ 11 n _ (true-isnt (edge-are old s w x eo ee hold ∙ y)) q (omega arith)
+
+  module _ (y : t ≡ true) where
+    edge-in : e < edges
+    unfolding edgeFits
+    edge-in = ltb-true e edges (and-left _ _ (and-right _ _ (and-right _ _ (sym et ∙ y))))
+
+    edge-behind : c .edge ≤ e
+    unfolding edgeFits
+    edge-behind = leb-true (c .edge) e (and-right _ _ (and-right _ _ (and-right _ _ (sym et ∙ y))))
+
+    pub edge-count : Small c → c .edges + 1 < 18446744073709551616
+    edge-count h = omega (arith, h .few-edges, h .low-edge)
+
+    pub edge-next : e + 1 < 18446744073709551616
+    edge-next = omega (arith, edge-in)
+
+    -- The state with the edge more.
+    abbrev withEdge : State
+    withEdge =
+        record {
+          number = 0;
+          place = 0;
+          opened = c .opened;
+          shut = c .shut;
+          pairs = c .pairs;
+          edges = c .edges + 1;
+          tests = c .tests;
+          pair = c .pair;
+          edge = e + 1;
+          test = c .test;
+        }
+
+    held-edge : (s : SheetRead) (w : List ℕ) → 20 ≤ length sets → Holds w sets c s → Holds w (withBit sets e) withEdge (addD e s)
+    held-edge s w long hold =
+        record {
+          opened-is = hold .opened-is;
+          shut-is = hold .shut-is;
+          pairs-n = hold .pairs-n;
+          edges-n = omega (arith, hold .edges-n, snoc-length 0 (s .claims .D) e);
+          tests-n = hold .tests-n;
+          pair-next = hold .pair-next;
+          edge-next = up-more (s .claims .D) (c .edge) e (hold .edge-next) edge-behind;
+          test-next = hold .test-next;
+          held = record {
+            store = hold .held .store;
+            pairs-are = hold .held .pairs-are;
+            edges-are = bit-edge sets long (s .claims .D) e (omega (arith, edge-in)) (hold .held .edges-are);
+            tests-are = bit-test-kept sets long (s .claims .R) e (omega (arith, edge-in)) (hold .held .tests-are);
+          };
+        }
+
+    pub edge-more : (sets′ : List ℕ) → 20 ≤ length sets → sets′ ≡ withBit sets e → AddsEdge edges n e c sets withEdge sets′
+    unfolding AddsEdge takeSheetLine
+    edge-more sets′ long es old new suite s w x eo ee hold =
+        let xs : e ≡ value x = ee ∙ kept-is (value x) edges (omega arith) (subst (λ (i : ℕ). i < edges) ee edge-in) in
+        go-on withEdge w sets′ 11 n _ (false-isnt (edge-are old s w x eo ee hold ∙ y)) (
+          refl,
+          refl,
+          subst (λ (k : List ℕ). Holds w k withEdge (addD (value x) s)) (sym es)
+              (subst (λ (i : ℕ). Holds w (withBit sets e) withEdge (addD i s)) xs (held-edge s w long hold)),
+        )
+
+    pub edge-small : Small c → Small withEdge
+    edge-small h =
+        record {
+          few-pairs = h .few-pairs;
+          low-pair = h .low-pair;
+          few-edges = omega (arith, h .few-edges, edge-behind);
+          low-edge = omega (arith, edge-in);
+          few-tests = h .few-tests;
+          low-test = h .low-test;
+        }
+
+pub ruleset edges = (edge-unfit, edge-count, edge-next, edge-more, edge-small)
+
+-- ---- `add_test`
+
+found-none : (o : Option ℕ) (t : ℕ) → t ≡ found o → t < 1 → o ≡ none
+found-none none t e h = refl
+found-none (some i) t e h = absurd (let z : ⊥ = omega arith in z)
+
+found-some : (o : Option ℕ) (t : ℕ) → t ≡ found o → 1 ≤ t → o ≡ some (t - 1)
+found-some none t e h = absurd (let z : ⊥ = omega arith in z)
+found-some (some i) t e h = let q : i ≡ t - 1 = omega arith in ap {B = Option ℕ} some q
+
+module _ (n t : ℕ) (c : State) (sets : List ℕ) where
+  pub test-unknown : (r : State) (sets′ : List ℕ) → t < 1 → Refusal 11 n r → AddsTest n t c sets r sets′
+  unfolding AddsTest takeSheetLine
+  test-unknown r sets′ h q old new suite s w name et hold = rw (found-none (testOf suite name) t et h) (q .number-is, q .place-is, omega arith)
+
+  module _ (f : Bool) (some-test : 1 ≤ t) (few : t ≤ 200) (ef : f ≡ testFits (t - 1) c) where
+    pub test-unfit : (r : State) (sets′ : List ℕ) → f ≡ false → Refusal 11 n r → AddsTest n t c sets r sets′
+    unfolding AddsTest takeSheetLine
+    test-unfit r sets′ y q old new suite s w name et hold =
+        rw (found-some (testOf suite name) t et some-test)
+        (stop r w sets′ 11 n _ (true-isnt (sym (test-fits-is w sets c s hold (t - 1)) ∙ sym ef ∙ y)) q (omega arith))
+
+    module _ (y : f ≡ true) where
+      test-behind : c .test ≤ t - 1
+      unfolding testFits
+      test-behind = leb-true (c .test) (t - 1) (and-right _ _ (sym ef ∙ y))
+
+      -- The state with the test more.
+      abbrev withTest : State
+      withTest =
+          record {
+            number = 0;
+            place = 0;
+            opened = c .opened;
+            shut = c .shut;
+            pairs = c .pairs;
+            edges = c .edges;
+            tests = c .tests + 1;
+            pair = c .pair;
+            edge = c .edge;
+            test = t;
+          }
+
+      held-test : (s : SheetRead) (w : List ℕ) → 20 ≤ length sets → Holds w sets c s → Holds w (withBit sets (1024 + (t - 1))) withTest (addR (t - 1) s)
+      held-test s w long hold =
+          let q : t - 1 + 1 ≡ t = omega arith in
+          record {
+            opened-is = hold .opened-is;
+            shut-is = hold .shut-is;
+            pairs-n = hold .pairs-n;
+            edges-n = hold .edges-n;
+            tests-n = omega (arith, hold .tests-n, snoc-length 0 (s .claims .R) (t - 1));
+            pair-next = hold .pair-next;
+            edge-next = hold .edge-next;
+            test-next = subst (λ (k : ℕ). UpTo (s .claims .R ++ ((t - 1) ∷ [])) k) q (up-more (s .claims .R) (c .test) (t - 1) (hold .test-next) test-behind);
+            held = record {
+              store = hold .held .store;
+              pairs-are = hold .held .pairs-are;
+              edges-are = bit-edge-kept sets long (s .claims .D) (t - 1) (omega arith) (hold .held .edges-are);
+              tests-are = bit-test sets long (s .claims .R) (t - 1) (omega arith) (hold .held .tests-are);
+            };
+          }
+
+      pub test-more : (sets′ : List ℕ) → 20 ≤ length sets → sets′ ≡ withBit sets (1024 + (t - 1)) → AddsTest n t c sets withTest sets′
+      unfolding AddsTest takeSheetLine
+      test-more sets′ long es old new suite s w name et hold =
+          rw (found-some (testOf suite name) t et some-test)
+          (go-on withTest w sets′ 11 n _ (false-isnt (sym (test-fits-is w sets c s hold (t - 1)) ∙ sym ef ∙ y))
+          (refl, refl, subst (λ (k : List ℕ). Holds w k withTest (addR (t - 1) s)) (sym es) (held-test s w long hold)))
+
+      pub test-small : Small c → Small withTest
+      test-small h =
+          record {
+            few-pairs = h .few-pairs;
+            low-pair = h .low-pair;
+            few-edges = h .few-edges;
+            low-edge = h .low-edge;
+            few-tests = omega (arith, h .few-tests, test-behind);
+            low-test = omega arith;
+          }
+
+pub test-count : (c : State) → Small c → c .tests + 1 < 18446744073709551616
+test-count c h = omega (arith, h .few-tests, h .low-test)
+
+pub ruleset tests = (test-unknown, test-unfit, test-more, test-small, test-count)
+
+-- ---- `end`
+
+module _ (n a b d : ℕ) (c : State) (t : Bool) (small : Small c) (et : t ≡ endFits a b d c) where
+  end-are : (s : SheetRead) (w sets : List ℕ) (x y z : Bytes) → a ≡ kept x → b ≡ kept y → d ≡ kept z → Holds w sets c s
+      → (going s and eqb (value x) (length (s .claims .M)) and eqb (value y) (length (s .claims .D)) and eqb (value z) (length (s .claims .R))) ≡ t
+  end-are s w sets x y z ea eb ed hold =
+      sym (end-fits-is w sets c s hold x y z small)
+      ∙ ap₂ (λ (i j : ℕ). endFits i j (kept z) c) (sym ea) (sym eb)
+      ∙ ap (λ (k : ℕ). endFits a b k c) (sym ed)
+      ∙ sym et
+
+  pub end-unfit : (r : State) → t ≡ false → Refusal 11 n r → Ends n a b d c r
+  unfolding Ends takeSheetLine
+  end-unfit r y q old new suite s w sets x z v ea eb ed hold = stop r w sets 11 n _ (true-isnt (end-are s w sets x z v ea eb ed hold ∙ y)) q (omega arith)
+
+  -- The state with the last line more.
+  abbrev withEnd : State
+  withEnd =
+      record { number = 0; place = 0; opened = c .opened; shut = true; pairs = c .pairs; edges = c .edges; tests = c .tests; pair = c .pair; edge = c .edge; test = c .test }
+
+  pub end-last : t ≡ true → Ends n a b d c withEnd
+  unfolding Ends takeSheetLine
+  end-last y old new suite s w sets x z v ea eb ed hold =
+      go-on withEnd w sets 11 n _ (false-isnt (end-are s w sets x z v ea eb ed hold ∙ y)) (
+        refl,
+        refl,
+        record {
+          opened-is = hold .opened-is;
+          shut-is = refl;
+          pairs-n = hold .pairs-n;
+          edges-n = hold .edges-n;
+          tests-n = hold .tests-n;
+          pair-next = hold .pair-next;
+          edge-next = hold .edge-next;
+          test-next = hold .test-next;
+          held = hold .held;
+        },
+      )
+
+  pub end-small : Small withEnd
+  end-small =
+      record {
+        few-pairs = small .few-pairs;
+        low-pair = small .low-pair;
+        few-edges = small .few-edges;
+        low-edge = small .low-edge;
+        few-tests = small .few-tests;
+        low-test = small .low-test;
+      }
+
+pub ruleset ends = (end-unfit, end-last, end-small)

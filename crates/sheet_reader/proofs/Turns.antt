@@ -1,0 +1,401 @@
+-- The returns of `step`, the turns of `read_lines`, and the returns of `read_sheet`. `So` is what holds at the head of the loop, in the form of a continuation: what the
+-- whole sheet reads to is what its rest from `at` on reads to after what the state and the tables hold.
+use mathlib.Core.Path.{_≡_, refl, sym, ap, ap₂, _∙_, subst}
+use mathlib.Core.Bool.{Bool, true, false, true≢false}
+use mathlib.Core.Option.{Option, none, some}
+use mathlib.Core.List.{List, [], _∷_}
+use Prim.Native.Nat.{ℕ, suc, _+_, _-_, _/_, _%_, _≤_, _<_}
+use native.Mathlib.Numerals.{add-one}
+use native.Mathlib.Omega.{arith}
+use lib.ListN.{length, getD, take, drop, length-drop, replicate, length-replicate, getD-replicate, List·getD-eq-default}
+use lib.Seq.{length-take-le}
+use borrow.Author.Tests.{le-ltb, lt-ltb}
+use Rattle.laws.specs.Tests.{_and_, choose, first, found, has, isnt}
+use Rattle.laws.specs.TestLaws.{first-at, true-isnt, false-isnt}
+use Rattle.laws.specs.Counting.{first-agree}
+use Rattle.laws.specs.Slices.{below-or, drop-end}
+use Rattle.laws.specs.Bits.{bitAt, bitIn, bit-none}
+use Rattle.rules.specs.Text.{Answer, Bytes, accepted, bytes, empty, isName, isNumber, readLines, readText, refused, same, split, then, unless}
+use Rattle.rules.specs.Graph.{Program}
+use Rattle.rules.specs.SuiteFile.{Suite, testCount, testName}
+use Rattle.rules.specs.Sheet.{Sheet, SheetLine, SheetRead, d-line, end-line, finishSheet, head-line, m-line, noSheet, no-form, r-line, readSheet, sheetForm, stepSheet, takeSheetLine, testOf}
+use Rattle.rules.specs.Proofs.TextLaws.{split-cons}
+use Rattle.text.specs.Scans.{span}
+use Rattle.text.specs.SplitLaws.{cut-at, uncut-at}
+use Rattle.pairset.specs.Store.{Store}
+use Rattle.pairset.specs.StoreLaws.{no-pairs, store-clear}
+use Rattle.suite.specs.Reading.{nameAt}
+use Rattle.sheet_reader.specs.declared.Form.{Form}
+use Rattle.sheet_reader.specs.declared.Form.the-variants.{Edge, End, Head as First, Nothing, Pair, Test}
+use Rattle.sheet_reader.specs.declared.State.{State}
+use Rattle.sheet_reader.specs.declared.SheetRead.{SheetRead as Result}
+use Rattle.sheet_reader.specs.Forms.{kept, shape}
+use Rattle.sheet_reader.specs.Claims.{For, Reads}
+use Rattle.sheet_reader.specs.Reading.{AddsEdge, AddsPair, AddsTest, After, Ends, Finishes, Fresh, Holds, Lines, Opens, Refusal, Small, Stepped, Steps, nothingRead, testIn}
+use Rattle.sheet_reader.proofs.Orders.{pairs-up-none, up-none}
+
+-- ---- the form of a line, by what is kept of it
+
+module _ (x : SheetLine) where
+  form-none : shape x ≡ Nothing → x ≡ no-form
+  unfolding shape
+  form-none = go x
+    where
+      go : (x : SheetLine) → shape x ≡ Nothing → x ≡ no-form
+      go head-line e = absurd (true≢false (let z : true ≡ false = cc in z))
+      go (m-line a b) e = absurd (true≢false (let z : true ≡ false = cc in z))
+      go (d-line a) e = absurd (true≢false (let z : true ≡ false = cc in z))
+      go (r-line a) e = absurd (true≢false (let z : true ≡ false = cc in z))
+      go (end-line a b c) e = absurd (true≢false (let z : true ≡ false = cc in z))
+      go no-form e = refl
+
+  form-head : shape x ≡ First → x ≡ head-line
+  unfolding shape
+  form-head = go x
+    where
+      go : (x : SheetLine) → shape x ≡ First → x ≡ head-line
+      go head-line e = refl
+      go (m-line a b) e = absurd (true≢false (let z : true ≡ false = cc in z))
+      go (d-line a) e = absurd (true≢false (let z : true ≡ false = cc in z))
+      go (r-line a) e = absurd (true≢false (let z : true ≡ false = cc in z))
+      go (end-line a b c) e = absurd (true≢false (let z : true ≡ false = cc in z))
+      go no-form e = absurd (true≢false (let z : true ≡ false = cc in z))
+
+  form-pair : (i j : ℕ) → shape x ≡ Pair i j → (a b : Bytes) × (x ≡ m-line a b) × (i ≡ kept a) × (j ≡ kept b)
+  unfolding shape
+  form-pair i j = go x
+    where
+      go : (x : SheetLine) → shape x ≡ Pair i j → (a b : Bytes) × (x ≡ m-line a b) × (i ≡ kept a) × (j ≡ kept b)
+      go head-line e = absurd (true≢false (let z : true ≡ false = cc in z))
+      go (m-line a b) e = (a, b, refl, cc, cc)
+      go (d-line a) e = absurd (true≢false (let z : true ≡ false = cc in z))
+      go (r-line a) e = absurd (true≢false (let z : true ≡ false = cc in z))
+      go (end-line a b c) e = absurd (true≢false (let z : true ≡ false = cc in z))
+      go no-form e = absurd (true≢false (let z : true ≡ false = cc in z))
+
+  form-edge : (i : ℕ) → shape x ≡ Edge i → (a : Bytes) × (x ≡ d-line a) × (i ≡ kept a)
+  unfolding shape
+  form-edge i = go x
+    where
+      go : (x : SheetLine) → shape x ≡ Edge i → (a : Bytes) × (x ≡ d-line a) × (i ≡ kept a)
+      go head-line e = absurd (true≢false (let z : true ≡ false = cc in z))
+      go (m-line a b) e = absurd (true≢false (let z : true ≡ false = cc in z))
+      go (d-line a) e = (a, refl, cc)
+      go (r-line a) e = absurd (true≢false (let z : true ≡ false = cc in z))
+      go (end-line a b c) e = absurd (true≢false (let z : true ≡ false = cc in z))
+      go no-form e = absurd (true≢false (let z : true ≡ false = cc in z))
+
+  form-test : shape x ≡ Test → (a : Bytes) × (x ≡ r-line a)
+  unfolding shape
+  form-test = go x
+    where
+      go : (x : SheetLine) → shape x ≡ Test → (a : Bytes) × (x ≡ r-line a)
+      go head-line e = absurd (true≢false (let z : true ≡ false = cc in z))
+      go (m-line a b) e = absurd (true≢false (let z : true ≡ false = cc in z))
+      go (d-line a) e = absurd (true≢false (let z : true ≡ false = cc in z))
+      go (r-line a) e = (a, refl)
+      go (end-line a b c) e = absurd (true≢false (let z : true ≡ false = cc in z))
+      go no-form e = absurd (true≢false (let z : true ≡ false = cc in z))
+
+  form-end : (i j k : ℕ) → shape x ≡ End i j k → (a b c : Bytes) × (x ≡ end-line a b c) × (i ≡ kept a) × (j ≡ kept b) × (k ≡ kept c)
+  unfolding shape
+  form-end i j k = go x
+    where
+      go : (x : SheetLine) → shape x ≡ End i j k → (a b c : Bytes) × (x ≡ end-line a b c) × (i ≡ kept a) × (j ≡ kept b) × (k ≡ kept c)
+      go head-line e = absurd (true≢false (let z : true ≡ false = cc in z))
+      go (m-line a b) e = absurd (true≢false (let z : true ≡ false = cc in z))
+      go (d-line a) e = absurd (true≢false (let z : true ≡ false = cc in z))
+      go (r-line a) e = absurd (true≢false (let z : true ≡ false = cc in z))
+      go (end-line a b c) e = (a, b, c, refl, cc, cc, cc)
+      go no-form e = absurd (true≢false (let z : true ≡ false = cc in z))
+
+-- The name of an R line is its second field.
+r-two : (f a name : Bytes) (t u v : Bool) → choose t head-line (choose u (d-line a) (choose v (r-line a) no-form)) ≡ r-line name → name ≡ a
+unfolding choose
+r-two f a name true u v e = absurd (true≢false (let z : true ≡ false = cc in z))
+r-two f a name false true v e = absurd (true≢false (let z : true ≡ false = cc in z))
+r-two f a name false false true e = cc
+r-two f a name false false false e = absurd (true≢false (let z : true ≡ false = cc in z))
+
+r-three : (a b name : Bytes) (t : Bool) → choose t (m-line a b) no-form ≡ r-line name → ⊥
+unfolding choose
+r-three a b name true e = true≢false (let z : true ≡ false = cc in z)
+r-three a b name false e = true≢false (let z : true ≡ false = cc in z)
+
+r-four : (a b c name : Bytes) (t : Bool) → choose t (end-line a b c) no-form ≡ r-line name → ⊥
+unfolding choose
+r-four a b c name true e = true≢false (let z : true ≡ false = cc in z)
+r-four a b c name false e = true≢false (let z : true ≡ false = cc in z)
+
+r-name : (fs : List Bytes) (name : Bytes) → sheetForm fs ≡ r-line name → name ≡ getD fs 1 []
+unfolding sheetForm
+r-name [] name e = absurd (true≢false (let z : true ≡ false = cc in z))
+r-name (f ∷ []) name e = absurd (true≢false (let z : true ≡ false = cc in z))
+r-name (f ∷ a ∷ []) name e = r-two f a name (same f (bytes "sheet") and same a (bytes "1")) (same f (bytes "D") and isNumber a) (same f (bytes "R") and isName a) e
+r-name (f ∷ a ∷ b ∷ []) name e = absurd (r-three a b name (same f (bytes "M") and isNumber a and isNumber b) e)
+r-name (f ∷ a ∷ b ∷ c ∷ []) name e = absurd (r-four a b c name (same f (bytes "end") and isNumber a and isNumber b and isNumber c) e)
+r-name (f ∷ a ∷ b ∷ c ∷ d ∷ ds) name e = absurd (true≢false (let z : true ≡ false = cc in z))
+
+-- ---- `step`
+
+-- The number of a test is no more than there are.
+found-low : (f : ℕ → Bool) (n : ℕ) (o : Option ℕ) → first n f ≡ o → found o ≤ n
+found-low f n none e = omega arith
+found-low f n (some i) e = omega (arith, first-at f n i e .0)
+
+pub test-low : (tt : Bytes) (table : List ℕ) (count : ℕ) (name : Bytes) (t : ℕ) → t ≡ testIn tt table count name → count ≤ 200 → t ≤ 200
+unfolding testIn
+test-low tt table count name t e h =
+    omega (arith, found-low (λ i. same (nameAt tt table i) name) count (first count (λ i. same (nameAt tt table i) name)) refl)
+
+module _ (olds news edges : ℕ) (tt : Bytes) (table : List ℕ) (count n : ℕ) (line : Bytes) (c : State) (w sets : List ℕ) (form : Form) (ef : form ≡ shape (sheetForm (split 44 line))) where
+  pub step-none : (r : State) (w′ sets′ : List ℕ) → form ≡ Nothing → Refusal 2 n r → Steps olds news edges tt table count n line c w sets r w′ sets′
+  unfolding Steps stepSheet takeSheetLine
+  step-none r w′ sets′ e q old new suite s at for hold =
+      rw (form-none (sheetForm (split 44 line)) (sym ef ∙ e)) (q .number-is, q .place-is, omega arith)
+
+  pub step-head : (r : State) → form ≡ First → Opens n c r → Steps olds news edges tt table count n line c w sets r w sets
+  unfolding Steps stepSheet Opens
+  step-head r e q old new suite s at for hold = rw (form-head (sheetForm (split 44 line)) (sym ef ∙ e)) (q old new suite s w sets hold)
+
+  pub step-pair : (r : State) (w′ : List ℕ) (i j : ℕ) → form ≡ Pair i j → AddsPair olds news n i j c w r w′ → Steps olds news edges tt table count n line c w sets r w′ sets
+  unfolding Steps stepSheet AddsPair
+  step-pair r w′ i j e q old new suite s at for hold =
+      let f = form-pair (sheetForm (split 44 line)) i j (sym ef ∙ e) in
+      rw (f .2) (q old new suite s sets (f .0) (f .1) (for .old-nodes) (for .new-nodes) (f .3) (f .4) hold)
+
+  pub step-edge : (r : State) (sets′ : List ℕ) (i : ℕ) → form ≡ Edge i → AddsEdge edges n i c sets r sets′ → Steps olds news edges tt table count n line c w sets r w sets′
+  unfolding Steps stepSheet AddsEdge
+  step-edge r sets′ i e q old new suite s at for hold =
+      let f = form-edge (sheetForm (split 44 line)) i (sym ef ∙ e) in
+      rw (f .1) (q old new suite s w (f .0) (for .old-edges) (f .2) hold)
+
+  pub step-test : (r : State) (sets′ : List ℕ) (name : Bytes) (t : ℕ) → form ≡ Test → name ≡ getD (split 44 line) 1 [] → t ≡ testIn tt table count name → AddsTest n t c sets r sets′
+      → Steps olds news edges tt table count n line c w sets r w sets′
+  unfolding Steps stepSheet AddsTest testIn testOf
+  step-test r sets′ name t e en et q old new suite s at for hold =
+      let f = form-test (sheetForm (split 44 line)) (sym ef ∙ e) in
+      let is : f .0 ≡ name = r-name (split 44 line) (f .0) (f .1) ∙ sym en in
+      let found-is : t ≡ found (testOf suite (f .0)) =
+      et
+      ∙ ap₂ (λ (k : ℕ) (x : Bytes). found (first k (λ i. same (nameAt tt table i) x))) (for .counted) (sym is)
+      ∙ ap found
+      (first-agree (λ i. same (nameAt tt table i) (f .0)) (λ i. same (testName suite i) (f .0)) (testCount suite) (λ i h. ap (λ (x : Bytes). same x (f .0)) (for .names i h))) in
+      rw (f .1) (q old new suite s w (f .0) found-is hold)
+
+  pub step-end : (r : State) (i j k : ℕ) → form ≡ End i j k → Ends n i j k c r → Steps olds news edges tt table count n line c w sets r w sets
+  unfolding Steps stepSheet Ends
+  step-end r i j k e q old new suite s at for hold =
+      let f = form-end (sheetForm (split 44 line)) i j k (sym ef ∙ e) in
+      rw (f .3) (q old new suite s w sets (f .0) (f .1) (f .2) (f .4) (f .5) (f .6) hold)
+
+pub ruleset steps = (step-none, step-head, step-pair, step-edge, step-test, step-end)
+
+-- ---- `finish`
+
+module _ (n : ℕ) (c : State) where
+  pub finish-shut : c .shut ≡ true → Finishes n c (record { number = 0; place = 0; pairs = c .pairs })
+  unfolding Finishes finishSheet unless
+  finish-shut e s w sets hold = rw (false-isnt (sym (hold .shut-is) ∙ e)) (refl, refl, hold .held)
+
+  pub finish-open : (r : Result) → c .shut ≡ false → r .number ≡ 11 → r .place ≡ n → Finishes n c r
+  unfolding Finishes finishSheet unless
+  finish-open r e en ep s w sets hold = rw (true-isnt (sym (hold .shut-is) ∙ e)) (en, ep, omega arith)
+
+pub few-pairs : (c : State) → Small c → c .pairs ≤ 4096
+few-pairs c h = h .few-pairs
+
+pub none-few : 0 ≤ 4096
+none-few = omega arith
+
+pub ruleset finishes = (finish-shut, finish-open, few-pairs, none-few)
+
+-- ---- the loop
+
+-- What the definition answers, by the number.
+accepted-of : (x : Answer SheetRead) (r : State) (w sets : List ℕ) → After x r w sets → r .number ≡ 0 → (s : SheetRead) × (x ≡ accepted s) × Holds w sets r s
+accepted-of (refused k p) r w sets h z = absurd (omega arith)
+accepted-of (accepted s) r w sets h z = (s, refl, h .2)
+
+refused-of : (x : Answer SheetRead) (r : State) (w sets : List ℕ) → After x r w sets → (r .number ≡ 0 → ⊥) → (x ≡ refused (r .number) (r .place)) × (0 < r .number)
+refused-of (refused k p) r w sets h z = (ap₂ refused (sym (h .0)) (sym (h .1)), omega arith)
+refused-of (accepted s) r w sets h z = absurd (z (h .0))
+
+module _ (old new : Program) (suite : Suite) where
+  abbrev linesFrom : ℕ → ℕ → SheetRead → List Bytes → Answer Sheet
+  linesFrom n at s ps = readLines (stepSheet old new suite) finishSheet n at s ps
+
+  lines-more : (n at : ℕ) (s : SheetRead) (line : Bytes) (ps : List Bytes) (p : Bytes) (qs : List Bytes) → ps ≡ p ∷ qs
+      → linesFrom n at s (line ∷ ps) ≡ then (stepSheet old new suite n at s line) (λ s. linesFrom (suc n) (at + length line + 1) s ps)
+  unfolding readLines
+  lines-more n at s line ps p qs e =
+      subst (λ (x : List Bytes). linesFrom n at s (line ∷ x) ≡ then (stepSheet old new suite n at s line) (λ s. linesFrom (suc n) (at + length line + 1) s x)) (sym e) refl
+
+  pub record So (sheet : Bytes) (at n : ℕ) (c : State) (w sets : List ℕ) : Type 0 where
+    pub s : SheetRead
+    pub hold : Holds w sets c s
+    pub goes : linesFrom 1 0 noSheet (split 10 sheet) ≡ linesFrom n at s (split 10 (drop at sheet))
+
+unfoldable pub Sos : ℕ → ℕ → ℕ → Bytes → List ℕ → ℕ → Bytes → List ℕ → List ℕ → ℕ → ℕ → State → List ℕ → List ℕ → Type 0
+Sos olds news edges tt table count sheet w₀ sets₀ at n c w sets =
+    (old new : Program) (suite : Suite) → For olds news edges tt table count old new suite → Fresh w₀ sets₀ → So old new suite sheet at n c w sets
+
+-- The invariant.
+pub record Head (olds news edges : ℕ) (tt : Bytes) (table : List ℕ) (count : ℕ) (sheet : Bytes) (w₀ sets₀ : List ℕ) (at n : ℕ) (c : State) (w sets : List ℕ) : Type 0 where
+  pub short : length sheet ≤ 65536
+  pub in-text : at ≤ length sheet
+  pub few : n ≤ at + 1
+  pub small : Small c
+  pub long : length w ≡ length w₀
+  pub wide : length sets ≡ length sets₀
+  pub so : Sos olds news edges tt table count sheet w₀ sets₀ at n c w sets
+
+none-held : (w sets : List ℕ) → Fresh w sets → Holds w sets nothingRead noSheet
+unfolding has
+none-held w sets f =
+    record {
+      opened-is = refl;
+      shut-is = refl;
+      pairs-n = refl;
+      edges-n = refl;
+      tests-n = refl;
+      pair-next = pairs-up-none;
+      edge-next = up-none;
+      test-next = up-none;
+      held = record { store = f .store; pairs-are = no-pairs w; edges-are = λ e h. f .clear e; tests-are = λ i h. f .clear (1024 + i) };
+    }
+
+module _ (olds news edges : ℕ) (tt : Bytes) (table : List ℕ) (count : ℕ) (sheet : Bytes) where
+  pub head-start : (w sets : List ℕ) (c : State) → length sheet ≤ 65536 → c ≡ nothingRead → Head olds news edges tt table count sheet w sets 0 1 c w sets
+  unfolding Sos
+  head-start w sets c k e =
+      record {
+        short = k;
+        in-text = omega arith;
+        few = omega arith;
+        small = subst Small (sym e) (record { few-pairs = omega arith; low-pair = omega arith; few-edges = omega arith; low-edge = omega arith; few-tests = omega arith; low-test = omega arith });
+        long = refl;
+        wide = refl;
+        so = λ old new suite for fresh. record { s = noSheet; hold = subst (λ (c : State). Holds w sets c noSheet) (sym e) (none-held w sets fresh); goes = refl };
+      }
+
+  empty-not : (s : Bytes) → 0 < length s → empty s ≡ false
+  unfolding empty
+  empty-not [] h = absurd (let z : ⊥ = omega arith in z)
+  empty-not (x ∷ s) h = refl
+
+  module _ (w₀ sets₀ : List ℕ) (at n : ℕ) (c : State) (w sets : List ℕ) (head : Head olds news edges tt table count sheet w₀ sets₀ at n c w sets) (rest : Bytes) (er : rest ≡ drop at sheet) (len : ℕ) (e : len ≡ span 10 rest) where
+    -- The last line is not ended.
+    pub no-end : at < length sheet → length rest ≤ len → (r : Result) → r .number ≡ 2 → r .place ≡ n → Lines olds news edges tt table count sheet w₀ sets₀ r w sets
+    unfolding Lines readLines unless isnt Sos
+    no-end h k r en ep old new suite for fresh =
+        let q : length rest ≡ length sheet - at = ap length er ∙ length-drop at sheet in
+        let so = head .so old new suite for fresh in
+        simp (so .goes, uncut-at 10 sheet rest at len er e k, empty-not rest (omega arith)) (en, ep, omega arith)
+
+    -- The next line begins within the sheet.
+    pub turn-at : len < length rest → at + len < 18446744073709551616
+    turn-at h = omega (arith, head .short, ap length er, length-drop at sheet)
+
+    pub turn-next : len < length rest → at + len + 1 < 18446744073709551616
+    turn-next h = omega (arith, head .short, ap length er, length-drop at sheet)
+
+    pub turn-number : len < length rest → n + 1 < 18446744073709551616
+    turn-number h = omega (arith, head .short, head .few, head .in-text)
+
+    module _ (h : len < length rest) (line : Bytes) (el : line ≡ take len rest) (r : State) (w′ sets′ : List ℕ) (step : Stepped olds news edges tt table count n line c w sets r w′ sets′) where
+      line-long : length line ≡ len
+      line-long = ap length el ∙ length-take-le len rest (omega arith)
+
+      module _ (old new : Program) (suite : Suite) (for : For olds news edges tt table count old new suite) (fresh : Fresh w₀ sets₀) where
+        before : So old new suite sheet at n c w sets
+        unfolding Sos
+        before = head .so old new suite for fresh
+
+        whole : linesFrom old new suite 1 0 noSheet (split 10 sheet)
+            ≡ then (stepSheet old new suite n at (before .s) line) (λ s. linesFrom old new suite (n + 1) (at + len + 1) s (split 10 (drop (at + len + 1) sheet)))
+        whole =
+            let sc = split-cons 10 (drop (at + len + 1) sheet) in
+            before .goes
+            ∙ ap (λ (x : List Bytes). linesFrom old new suite n at (before .s) x) (cut-at 10 sheet rest at len er e line h el)
+            ∙ lines-more old new suite n at (before .s) line (split 10 (drop (at + len + 1) sheet)) (sc .0) (sc .1) (sc .2)
+            ∙ ap₂ (λ (k j : ℕ). then (stepSheet old new suite n at (before .s) line) (λ s. linesFrom old new suite k (at + j + 1) s (split 10 (drop (at + len + 1) sheet)))) (sym (add-one n)) line-long
+
+        answer : After (stepSheet old new suite n at (before .s) line) r w′ sets′
+        unfolding Steps
+        answer = step .steps old new suite (before .s) at for (before .hold)
+
+        so-on : r .number ≡ 0 → So old new suite sheet (at + len + 1) (n + 1) r w′ sets′
+        unfolding then
+        so-on z =
+            let a = accepted-of (stepSheet old new suite n at (before .s) line) r w′ sets′ answer z in
+            record {
+              s = a .0;
+              hold = a .2;
+              goes = whole ∙ ap (λ (x : Answer SheetRead). then x (λ s. linesFrom old new suite (n + 1) (at + len + 1) s (split 10 (drop (at + len + 1) sheet)))) (a .1);
+            }
+
+        stopped : (r .number ≡ 0 → ⊥) → (linesFrom old new suite 1 0 noSheet (split 10 sheet) ≡ refused (r .number) (r .place)) × (0 < r .number)
+        unfolding then
+        stopped z =
+            let a = refused-of (stepSheet old new suite n at (before .s) line) r w′ sets′ answer z in
+            (whole ∙ ap (λ (x : Answer SheetRead). then x (λ s. linesFrom old new suite (n + 1) (at + len + 1) s (split 10 (drop (at + len + 1) sheet)))) (a .0), a .1)
+
+      pub head-on : r .number ≡ 0 → length w′ ≡ length w → length sets′ ≡ length sets → Head olds news edges tt table count sheet w₀ sets₀ (at + len + 1) (n + 1) r w′ sets′
+      unfolding Sos
+      head-on z lw ls =
+          record {
+            short = head .short;
+            in-text = omega (arith, ap length er, length-drop at sheet);
+            few = omega (arith, head .few);
+            small = step .small;
+            long = lw ∙ head .long;
+            wide = ls ∙ head .wide;
+            so = λ old new suite for fresh. so-on old new suite for fresh z;
+          }
+
+      pub no-line : (q : Result) → (r .number ≡ 0 → ⊥) → q .number ≡ r .number → q .place ≡ r .place → Lines olds news edges tt table count sheet w₀ sets₀ q w′ sets′
+      unfolding Lines
+      no-line q z en ep old new suite for fresh =
+          let a = stopped old new suite for fresh z in
+          simp (a .0) (en, ep, a .1)
+
+  pub all-read : (w₀ sets₀ : List ℕ) (at n : ℕ) (c : State) (w sets : List ℕ) (r : Result) → Head olds news edges tt table count sheet w₀ sets₀ at n c w sets → length sheet ≤ at → Finishes n c r
+      → Lines olds news edges tt table count sheet w₀ sets₀ r w sets
+  unfolding Lines readLines split unless isnt empty Finishes Sos
+  all-read w₀ sets₀ at n c w sets r head h f old new suite for fresh =
+      let so = head .so old new suite for fresh in
+      simp (so .goes, drop-end sheet at h) (f (so .s) w sets (so .hold))
+
+  pub head-small : (w₀ sets₀ : List ℕ) (at n : ℕ) (c : State) (w sets : List ℕ) → Head olds news edges tt table count sheet w₀ sets₀ at n c w sets → Small c
+  head-small w₀ sets₀ at n c w sets head = head .small
+
+pub ruleset turns = (head-start, no-end, turn-at, turn-next, turn-number, head-on, no-line, all-read, head-small)
+
+-- ---- `read_sheet`
+
+pub clear-store : (w v : List ℕ) → v ≡ replicate (length w) 0 → 12800 ≤ length w → Store v 0
+clear-store w v e h = subst (λ (x : List ℕ). Store x 0) (sym e) (store-clear (length w) (omega arith))
+
+clear-word : (n k : ℕ) → getD {A = ℕ} (replicate n 0) k 0 ≡ 0
+clear-word n k =
+    below-or k n
+    (λ h. getD-replicate n k 0 0 h)
+    (λ h. List·getD-eq-default (replicate {A = ℕ} n 0) 0 (let z : length (replicate {A = ℕ} n 0) ≤ k = omega (arith, length-replicate {A = ℕ} n 0) in z))
+
+clear-bits : (s : List ℕ) (n : ℕ) → s ≡ replicate n 0 → (e : ℕ) → bitIn s e ≡ false
+unfolding bitIn
+clear-bits s n q e = ap (λ (l : List ℕ). bitAt (getD l (e / 64) 0) (e % 64)) q ∙ ap (λ (x : ℕ). bitAt x (e % 64)) (clear-word n (e / 64)) ∙ bit-none (e % 64)
+
+module _ (olds news edges : ℕ) (tt : Bytes) (table : List ℕ) (count : ℕ) (sheet : Bytes) (r : Result) (w′ sets′ : List ℕ) where
+  pub sheet-long : 65536 < length sheet → r .number ≡ 1 → r .place ≡ 0 → Reads olds news edges tt table count sheet r w′ sets′
+  unfolding Reads readSheet readText unless
+  sheet-long h en ep old new suite for = simp (lt-ltb 65536 (length sheet) h) (en, ep, omega arith)
+
+  pub sheet-read : (w sets w₁ sets₁ : List ℕ) → length sheet ≤ 65536 → 12800 ≤ length w → w₁ ≡ replicate (length w) 0 → sets₁ ≡ replicate (length sets) 0
+      → Lines olds news edges tt table count sheet w₁ sets₁ r w′ sets′ → Reads olds news edges tt table count sheet r w′ sets′
+  unfolding Reads Lines readSheet readText unless
+  sheet-read w sets w₁ sets₁ h k ew es a old new suite for =
+      simp (le-ltb 65536 (length sheet) h) (a old new suite for (record { store = clear-store w w₁ ew k; clear = clear-bits sets₁ (length sets) es }))
+
+pub ruleset texts = (sheet-long, sheet-read)

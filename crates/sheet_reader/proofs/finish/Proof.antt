@@ -1,0 +1,13 @@
+use borrow.Author.Needs.{needs}
+use Rattle.sheet_reader.proofs.All.{all}
+use Rattle.sheet_reader.proofs.finish.Statement.{statement}
+use Rattle.sheet_reader.proofs.finish.Tie as tie
+
+returns : tie.Need-returns
+returns c = search (all, needs)
+
+returns-2 : tie.Need-returns-2
+returns-2 c = search (all, needs)
+
+pub finish-spec : {M : Type 1} → statement M
+finish-spec = tie.close (tie.spec returns returns-2)

@@ -1,0 +1,173 @@
+-- What the reader of sheets keeps while it reads, and what its inner functions claim.
+use mathlib.Core.Path.{_≡_}
+use mathlib.Core.Bool.{Bool, false}
+use mathlib.Core.List.{List}
+use Prim.Native.Nat.{ℕ, _+_, _*_, _/_, _%_, _^_, _≤_, _<_}
+use lib.Bits.{bitOr}
+use lib.Dec.{eqb, leb, ltb}
+use lib.ListN.{length, getD, set}
+use Rattle.laws.specs.Tests.{_and_, first, found, isnt}
+use Rattle.laws.specs.Bits.{bitIn}
+use Rattle.rules.specs.Text.{Answer, Bytes, accepted, linesOf, readLines, refused, same}
+use Rattle.rules.specs.Graph.{Program, edgeCount, nodeCount}
+use Rattle.rules.specs.SuiteFile.{Suite}
+use Rattle.rules.specs.Sheet.{SheetRead, allBelow, d-line, end-line, finishSheet, head-line, m-line, noSheet, pairsBefore, r-line, stepSheet, takeSheetLine, testOf}
+use Rattle.pairset.specs.Store.{Store}
+use Rattle.suite.specs.Reading.{nameAt}
+use Rattle.sheet_reader.specs.declared.State.{State}
+use Rattle.sheet_reader.specs.declared.SheetRead.{SheetRead as Result}
+use Rattle.sheet_reader.specs.Forms.{kept}
+use Rattle.sheet_reader.specs.Claims.{ClaimsHeld, For, Told}
+
+-- ---- what was read so far
+
+-- k is the least number that stands behind the whole list; the same of pairs, where (a, b) counts as 512 a + b.
+unfoldable pub UpTo : List ℕ → ℕ → Type 0
+UpTo l k = (v : ℕ) → allBelow l v ≡ leb k v
+
+unfoldable pub PairsUpTo : List (ℕ × ℕ) → ℕ → Type 0
+PairsUpTo l k = (a b : ℕ) → b < 512 → pairsBefore l a b ≡ leb k (512 * a + b)
+
+-- The numbers are within their limits.
+pub record Small (c : State) : Type 0 where
+  pub few-pairs : c .pairs ≤ 4096
+  pub low-pair : c .pair ≤ 262144
+  pub few-edges : c .edges ≤ c .edge
+  pub low-edge : c .edge ≤ 1024
+  pub few-tests : c .tests ≤ c .test
+  pub low-test : c .test ≤ 200
+
+-- The state and the tables hold what was read.
+pub record Holds (w sets : List ℕ) (c : State) (s : SheetRead) : Type 0 where
+  pub opened-is : c .opened ≡ s .opened
+  pub shut-is : c .shut ≡ s .shut
+  pub pairs-n : c .pairs ≡ length (s .claims .M)
+  pub edges-n : c .edges ≡ length (s .claims .D)
+  pub tests-n : c .tests ≡ length (s .claims .R)
+  pub pair-next : PairsUpTo (s .claims .M) (c .pair)
+  pub edge-next : UpTo (s .claims .D) (c .edge)
+  pub test-next : UpTo (s .claims .R) (c .test)
+  pub held : ClaimsHeld w sets (c .pairs) (s .claims)
+
+-- An answer against the definition's.
+abbrev pub After : Answer SheetRead → State → List ℕ → List ℕ → Type 0
+After (refused k p) r w sets = (r .number ≡ k) × (r .place ≡ p) × (0 < k)
+After (accepted s) r w sets = (r .number ≡ 0) × (r .place ≡ 0) × Holds w sets r s
+
+-- `refuse`
+pub record Refusal (k p : ℕ) (r : State) : Type 0 where
+  pub number-is : r .number ≡ k
+  pub place-is : r .place ≡ p
+  pub small : Small r
+
+-- `nothing_read`
+abbrev pub nothingRead : State
+nothingRead = record { number = 0; place = 0; opened = false; shut = false; pairs = 0; edges = 0; tests = 0; pair = 0; edge = 0; test = 0 }
+
+-- ---- bits and names
+
+-- `set_bit`: the words with the bit i set.
+unfoldable pub withBit : List ℕ → ℕ → List ℕ
+withBit ws i = set ws (i / 64) (bitOr (getD ws (i / 64) 0) (2 ^ (i % 64)))
+
+-- `test_of`: 1 + the first of n tests that has the name, or 0.
+unfoldable pub testIn : Bytes → List ℕ → ℕ → Bytes → ℕ
+testIn tt table n name = found (first n (λ i. same (nameAt tt table i) name))
+
+-- ---- a line may stand here
+
+-- The first line was read, and the last was not.
+unfoldable pub underway : State → Bool
+underway c = c .opened and isnt (c .shut)
+
+unfoldable pub pairFits : ℕ → ℕ → ℕ → ℕ → State → Bool
+pairFits olds news a b c = underway c and eqb (c .edges) 0 and eqb (c .tests) 0 and ltb a olds and ltb b news and leb (c .pair) (512 * a + b)
+
+unfoldable pub edgeFits : ℕ → ℕ → State → Bool
+edgeFits edges e c = underway c and eqb (c .tests) 0 and ltb e edges and leb (c .edge) e
+
+unfoldable pub testFits : ℕ → State → Bool
+testFits i c = underway c and leb (c .test) i
+
+unfoldable pub endFits : ℕ → ℕ → ℕ → State → Bool
+endFits a b d c = underway c and eqb a (c .pairs) and eqb b (c .edges) and eqb d (c .tests)
+
+-- ---- a line: whatever was read before it, the answer is the definition's
+
+unfoldable pub Opens : ℕ → State → State → Type 0
+Opens n c r = (old new : Program) (suite : Suite) (s : SheetRead) (w sets : List ℕ) → Holds w sets c s → After (takeSheetLine old new suite n s head-line) r w sets
+
+pub record Opened (n : ℕ) (c r : State) : Type 0 where
+  pub opens : Opens n c r
+  pub small : Small r
+
+unfoldable pub AddsPair : ℕ → ℕ → ℕ → ℕ → ℕ → State → List ℕ → State → List ℕ → Type 0
+AddsPair olds news n a b c w r w′ =
+    (old new : Program) (suite : Suite) (s : SheetRead) (sets : List ℕ) (x y : Bytes) → olds ≡ nodeCount old → news ≡ nodeCount new → a ≡ kept x → b ≡ kept y → Holds w sets c s
+    → After (takeSheetLine old new suite n s (m-line x y)) r w′ sets
+
+pub record AddedPair (olds news n a b : ℕ) (c : State) (w : List ℕ) (r : State) (w′ : List ℕ) : Type 0 where
+  pub adds : AddsPair olds news n a b c w r w′
+  pub small : Small r
+
+unfoldable pub AddsEdge : ℕ → ℕ → ℕ → State → List ℕ → State → List ℕ → Type 0
+AddsEdge edges n e c sets r sets′ =
+    (old new : Program) (suite : Suite) (s : SheetRead) (w : List ℕ) (x : Bytes) → edges ≡ edgeCount old → e ≡ kept x → Holds w sets c s
+    → After (takeSheetLine old new suite n s (d-line x)) r w sets′
+
+pub record AddedEdge (edges n e : ℕ) (c : State) (sets : List ℕ) (r : State) (sets′ : List ℕ) : Type 0 where
+  pub adds : AddsEdge edges n e c sets r sets′
+  pub small : Small r
+
+unfoldable pub AddsTest : ℕ → ℕ → State → List ℕ → State → List ℕ → Type 0
+AddsTest n t c sets r sets′ =
+    (old new : Program) (suite : Suite) (s : SheetRead) (w : List ℕ) (name : Bytes) → t ≡ found (testOf suite name) → Holds w sets c s
+    → After (takeSheetLine old new suite n s (r-line name)) r w sets′
+
+pub record AddedTest (n t : ℕ) (c : State) (sets : List ℕ) (r : State) (sets′ : List ℕ) : Type 0 where
+  pub adds : AddsTest n t c sets r sets′
+  pub small : Small r
+
+unfoldable pub Ends : ℕ → ℕ → ℕ → ℕ → State → State → Type 0
+Ends n a b d c r =
+    (old new : Program) (suite : Suite) (s : SheetRead) (w sets : List ℕ) (x y z : Bytes) → a ≡ kept x → b ≡ kept y → d ≡ kept z → Holds w sets c s
+    → After (takeSheetLine old new suite n s (end-line x y z)) r w sets
+
+pub record Ended (n a b d : ℕ) (c r : State) : Type 0 where
+  pub ends : Ends n a b d c r
+  pub small : Small r
+
+-- `step`
+unfoldable pub Steps : ℕ → ℕ → ℕ → Bytes → List ℕ → ℕ → ℕ → Bytes → State → List ℕ → List ℕ → State → List ℕ → List ℕ → Type 0
+Steps olds news edges tt table count n line c w sets r w′ sets′ =
+    (old new : Program) (suite : Suite) (s : SheetRead) (at : ℕ) → For olds news edges tt table count old new suite → Holds w sets c s
+    → After (stepSheet old new suite n at s line) r w′ sets′
+
+pub record Stepped (olds news edges : ℕ) (tt : Bytes) (table : List ℕ) (count n : ℕ) (line : Bytes) (c : State) (w sets : List ℕ) (r : State) (w′ sets′ : List ℕ) : Type 0 where
+  pub steps : Steps olds news edges tt table count n line c w sets r w′ sets′
+  pub small : Small r
+
+-- ---- all lines
+
+-- `finish`: the last line was read, or one is missing.
+unfoldable pub Finishes : ℕ → State → Result → Type 0
+Finishes n c r = (s : SheetRead) (w sets : List ℕ) → Holds w sets c s → Told (finishSheet n s) r w sets
+
+pub record Finished (n : ℕ) (c : State) (r : Result) : Type 0 where
+  pub finishes : Finishes n c r
+  pub few : r .pairs ≤ 4096
+
+-- The tables before the first line: no pair, and no bit set.
+pub record Fresh (w sets : List ℕ) : Type 0 where
+  pub store : Store w 0
+  pub clear : (e : ℕ) → bitIn sets e ≡ false
+
+-- `read_lines`
+unfoldable pub Lines : ℕ → ℕ → ℕ → Bytes → List ℕ → ℕ → Bytes → List ℕ → List ℕ → Result → List ℕ → List ℕ → Type 0
+Lines olds news edges tt table count sheet w sets r w′ sets′ =
+    (old new : Program) (suite : Suite) → For olds news edges tt table count old new suite → Fresh w sets
+    → Told (readLines (stepSheet old new suite) finishSheet 1 0 noSheet (linesOf sheet)) r w′ sets′
+
+pub record LinesRead (olds news edges : ℕ) (tt : Bytes) (table : List ℕ) (count : ℕ) (sheet : Bytes) (w sets : List ℕ) (r : Result) (w′ sets′ : List ℕ) : Type 0 where
+  pub lines : Lines olds news edges tt table count sheet w sets r w′ sets′
+  pub few : r .pairs ≤ 4096

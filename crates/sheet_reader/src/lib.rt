@@ -1,0 +1,582 @@
+// Sheets, read for the check: the pairs go into a table of pairs, the D edges and the R tests into a set of bits.
+ghost use mathlib.Core.Path.{_≡_};
+ghost use mathlib.Core.List.{_∷_, []};
+ghost use Prim.Native.Nat.{_≤_};
+ghost use lib.ListN.{length, replicate};
+ghost use Rattle.rules.specs.Text.{fieldsOf};
+ghost use Rattle.rules.specs.Sheet.{sheetForm};
+ghost use Rattle.sheet_reader.specs.Claims.{SheetTold};
+ghost use Rattle.sheet_reader.specs.Forms.{isEnd, shape, twoForm};
+ghost use Rattle.sheet_reader.specs.Reading.{
+  AddedEdge,
+  AddedPair,
+  AddedTest,
+  Ended,
+  Finished,
+  LinesRead,
+  Opened,
+  Refusal,
+  Small,
+  Stepped,
+  edgeFits,
+  endFits,
+  nothingRead,
+  pairFits,
+  testFits,
+  testIn,
+  underway as isUnderway,
+  withBit,
+};
+
+// What was read: a refusal by number and place, where the number is not 0, or how many pairs there are.
+pub struct SheetRead {
+    pub number: usize,
+    pub place: usize,
+    pub pairs: usize,
+}
+
+// What was read so far: a refusal by number and place, where the number is not 0; whether the first line and the last were read; how many
+// pairs, edges and tests there are; and of each the least number that may come next, where the pair (a, b) counts as 512 * a + b.
+pub struct State {
+    pub number: usize,
+    pub place: usize,
+    pub opened: bool,
+    pub shut: bool,
+    pub pairs: usize,
+    pub edges: usize,
+    pub tests: usize,
+    pub pair: usize,
+    pub edge: usize,
+    pub test: usize,
+}
+
+// What a line says, by its form and its numbers; a number above 65,536 counts as 65,536.
+pub enum Form {
+    Nothing,
+    Head,
+    // the old node and the new one
+    Pair(usize, usize),
+    Edge(usize),
+    Test,
+    // how many pairs, edges and tests
+    End(usize, usize, usize),
+}
+
+// ---- a line
+
+// What two fields say that are not those of the first line.
+fn two(f: &[u8], a: &[u8]) -> Form
+    ensures { λ r. ⌜ r ≡ shape (twoForm (now (f .entry)) (now (a .entry))) ⌝ }
+{
+    if text::same(f, b"D") {
+        if text::is_number(a) {
+            return Form::Edge(text::value(a));
+        }
+        return Form::Nothing;
+    }
+    if text::same(f, b"R") {
+        if text::is_name(a) {
+            return Form::Test;
+        }
+        return Form::Nothing;
+    }
+    Form::Nothing
+}
+
+// What three fields say.
+fn three(f: &[u8], a: &[u8], b: &[u8]) -> Form
+    ensures { λ r. ⌜ r ≡ shape (sheetForm (now (f .entry) ∷ (now (a .entry) ∷ (now (b .entry) ∷ [])))) ⌝ }
+{
+    if text::same(f, b"M") {
+        if text::is_number(a) {
+            if text::is_number(b) {
+                return Form::Pair(text::value(a), text::value(b));
+            }
+            return Form::Nothing;
+        }
+        return Form::Nothing;
+    }
+    Form::Nothing
+}
+
+// Whether four fields are those of the last line.
+fn is_end(f: &[u8], a: &[u8], b: &[u8], c: &[u8]) -> bool
+    ensures { λ r. ⌜ r ≡ isEnd (now (f .entry)) (now (a .entry)) (now (b .entry)) (now (c .entry)) ⌝ }
+{
+    if text::same(f, b"end") {
+        if text::is_number(a) {
+            if text::is_number(b) {
+                return text::is_number(c);
+            }
+            return false;
+        }
+        return false;
+    }
+    false
+}
+
+// What four fields say.
+fn four(f: &[u8], a: &[u8], b: &[u8], c: &[u8]) -> Form
+    ensures { λ r. ⌜ r ≡ shape (sheetForm (now (f .entry) ∷ (now (a .entry) ∷ (now (b .entry) ∷ (now (c .entry) ∷ []))))) ⌝ }
+{
+    if is_end(f, a, b, c) {
+        return Form::End(text::value(a), text::value(b), text::value(c));
+    }
+    Form::Nothing
+}
+
+// What a line says.
+fn form_of(l: &[u8]) -> Form
+    ensures { λ r. ⌜ r ≡ shape (sheetForm (fieldsOf (now (l .entry)))) ⌝ }
+{
+    if text::same(l, &text::SHEET_HEAD) {
+        return Form::Head;
+    }
+    let n = text::count(l, 44);
+    if n == 2 {
+        return two(text::field(l, 44, 0), text::field(l, 44, 1));
+    }
+    if n == 3 {
+        return three(
+            text::field(l, 44, 0),
+            text::field(l, 44, 1),
+            text::field(l, 44, 2),
+        );
+    }
+    if n == 4 {
+        return four(
+            text::field(l, 44, 0),
+            text::field(l, 44, 1),
+            text::field(l, 44, 2),
+            text::field(l, 44, 3),
+        );
+    }
+    Form::Nothing
+}
+
+// ---- bits and names
+
+// Makes every word 0.
+fn clear_words(sets: &mut [u64])
+    ensures { λ _. ⌜ now (sets .exit) ≡ replicate (length (now (sets .entry))) 0 ⌝ }
+{
+    let mut i = 0;
+    while i < sets.len() {
+        sets[i] = 0;
+        i += 1;
+    }
+}
+
+// Sets the bit i; past the end, nothing.
+fn set_bit(sets: &mut [u64], i: usize)
+    ensures { λ _. ⌜ now (sets .exit) ≡ withBit (now (sets .entry)) i ⌝ }
+{
+    let k = i / 64;
+    let shift = i % 64;
+    if k < sets.len() {
+        let bit: u64 = 1 << shift;
+        sets[k] = sets[k] | bit;
+    }
+}
+
+// 1 + the number of the test that has the name, or 0.
+fn test_of(tt: &[u8], tests: &[usize], count: usize, name: &[u8]) -> usize
+    requires { ⌜ count ≤ 200 ⌝ }
+    ensures { λ r. ⌜ r ≡ testIn (now (tt .entry)) (now (tests .entry)) count (now (name .entry)) ⌝ }
+{
+    let mut i = 0;
+    while i < count {
+        if text::same(suite::name_at(tt, tests, i), name) {
+            return i + 1;
+        }
+        i += 1;
+    }
+    0
+}
+
+// ---- a line behind those that were read
+
+// A refusal, by number and place.
+fn refuse(number: usize, place: usize) -> State
+    ensures { λ r. ⌜ Refusal number place r ⌝ }
+{
+    State {
+        number,
+        place,
+        opened: false,
+        shut: false,
+        pairs: 0,
+        edges: 0,
+        tests: 0,
+        pair: 0,
+        edge: 0,
+        test: 0,
+    }
+}
+
+// Before the first line.
+fn nothing_read() -> State
+    ensures { λ r. ⌜ r ≡ nothingRead ⌝ }
+{
+    State {
+        number: 0,
+        place: 0,
+        opened: false,
+        shut: false,
+        pairs: 0,
+        edges: 0,
+        tests: 0,
+        pair: 0,
+        edge: 0,
+        test: 0,
+    }
+}
+
+// Whether the first line was read, and the last was not.
+fn underway(had: State) -> bool
+    ensures { λ r. ⌜ r ≡ isUnderway had ⌝ }
+{
+    let opened = had.opened;
+    let shut = had.shut;
+    if opened {
+        if shut {
+            return false;
+        }
+        return true;
+    }
+    false
+}
+
+// The first line.
+fn open(n: usize, had: State) -> State
+    requires { ⌜ Small had ⌝ }
+    ensures { λ r. ⌜ Opened n had r ⌝ }
+{
+    let opened = had.opened;
+    if opened {
+        return refuse(11, n);
+    }
+    State {
+        number: 0,
+        place: 0,
+        opened: true,
+        shut: had.shut,
+        pairs: had.pairs,
+        edges: had.edges,
+        tests: had.tests,
+        pair: had.pair,
+        edge: had.edge,
+        test: had.test,
+    }
+}
+
+// Whether the pair (a, b) may come next, where there are so many old and new nodes.
+fn pair_fits(olds: usize, news: usize, a: usize, b: usize, had: State) -> bool
+    requires { ⌜ (olds ≤ 512) × (news ≤ 512) ⌝ }
+    ensures { λ r. ⌜ r ≡ pairFits olds news a b had ⌝ }
+{
+    let edges = had.edges;
+    let tests = had.tests;
+    let pair = had.pair;
+    if underway(had) {
+        if 0 < edges {
+            return false;
+        }
+        if 0 < tests {
+            return false;
+        }
+        if olds <= a {
+            return false;
+        }
+        if news <= b {
+            return false;
+        }
+        return pair <= 512 * a + b;
+    }
+    false
+}
+
+// An M line.
+fn add_pair(
+    olds: usize,
+    news: usize,
+    n: usize,
+    a: usize,
+    b: usize,
+    had: State,
+    w: &mut [usize],
+) -> State
+    requires { ⌜ Small had ⌝ }
+    requires { ⌜ (olds ≤ 512) × (news ≤ 512) × (12800 ≤ length (now w)) ⌝ }
+    ensures { λ r. ⌜ AddedPair olds news n a b had (now (w .entry)) r (now (w .exit)) ⌝ }
+{
+    let pairs = had.pairs;
+    if 4096 <= pairs {
+        return refuse(4, n);
+    }
+    if pair_fits(olds, news, a, b, had) {
+        pairset::append(w, pairs, a, b);
+        return State {
+            number: 0,
+            place: 0,
+            opened: had.opened,
+            shut: had.shut,
+            pairs: pairs + 1,
+            edges: had.edges,
+            tests: had.tests,
+            pair: 512 * a + b + 1,
+            edge: had.edge,
+            test: had.test,
+        };
+    }
+    refuse(11, n)
+}
+
+// Whether the edge e may come next, where there are so many old edges.
+fn edge_fits(edges: usize, e: usize, had: State) -> bool
+    ensures { λ r. ⌜ r ≡ edgeFits edges e had ⌝ }
+{
+    let tests = had.tests;
+    let edge = had.edge;
+    if underway(had) {
+        if 0 < tests {
+            return false;
+        }
+        if edges <= e {
+            return false;
+        }
+        return edge <= e;
+    }
+    false
+}
+
+// A D line.
+fn add_edge(edges: usize, n: usize, e: usize, had: State, sets: &mut [u64]) -> State
+    requires { ⌜ Small had ⌝ }
+    requires { ⌜ (edges ≤ 1024) × (20 ≤ length (now sets)) ⌝ }
+    ensures { λ r. ⌜ AddedEdge edges n e had (now (sets .entry)) r (now (sets .exit)) ⌝ }
+{
+    let listed = had.edges;
+    if edge_fits(edges, e, had) {
+        set_bit(sets, e);
+        return State {
+            number: 0,
+            place: 0,
+            opened: had.opened,
+            shut: had.shut,
+            pairs: had.pairs,
+            edges: listed + 1,
+            tests: had.tests,
+            pair: had.pair,
+            edge: e + 1,
+            test: had.test,
+        };
+    }
+    refuse(11, n)
+}
+
+// Whether the test i may come next.
+fn test_fits(i: usize, had: State) -> bool
+    ensures { λ r. ⌜ r ≡ testFits i had ⌝ }
+{
+    let test = had.test;
+    if underway(had) {
+        return test <= i;
+    }
+    false
+}
+
+// An R line, whose name is that of the test t - 1, or of none where t is 0.
+fn add_test(n: usize, t: usize, had: State, sets: &mut [u64]) -> State
+    requires { ⌜ Small had ⌝ }
+    requires { ⌜ (t ≤ 200) × (20 ≤ length (now sets)) ⌝ }
+    ensures { λ r. ⌜ AddedTest n t had (now (sets .entry)) r (now (sets .exit)) ⌝ }
+{
+    let listed = had.tests;
+    if t < 1 {
+        return refuse(11, n);
+    }
+    let i = t - 1;
+    if test_fits(i, had) {
+        set_bit(sets, 1024 + i);
+        return State {
+            number: 0,
+            place: 0,
+            opened: had.opened,
+            shut: had.shut,
+            pairs: had.pairs,
+            edges: had.edges,
+            tests: listed + 1,
+            pair: had.pair,
+            edge: had.edge,
+            test: t,
+        };
+    }
+    refuse(11, n)
+}
+
+// Whether the last line may come next, with these counts.
+fn end_fits(a: usize, b: usize, d: usize, had: State) -> bool
+    ensures { λ r. ⌜ r ≡ endFits a b d had ⌝ }
+{
+    let pairs = had.pairs;
+    let edges = had.edges;
+    let tests = had.tests;
+    if underway(had) {
+        if a != pairs {
+            return false;
+        }
+        if b != edges {
+            return false;
+        }
+        return d == tests;
+    }
+    false
+}
+
+// The last line.
+fn end(n: usize, a: usize, b: usize, d: usize, had: State) -> State
+    requires { ⌜ Small had ⌝ }
+    ensures { λ r. ⌜ Ended n a b d had r ⌝ }
+{
+    if end_fits(a, b, d, had) {
+        return State {
+            number: 0,
+            place: 0,
+            opened: had.opened,
+            shut: true,
+            pairs: had.pairs,
+            edges: had.edges,
+            tests: had.tests,
+            pair: had.pair,
+            edge: had.edge,
+            test: had.test,
+        };
+    }
+    refuse(11, n)
+}
+
+// Takes a line, numbered n.
+fn step(
+    olds: usize,
+    news: usize,
+    edges: usize,
+    tt: &[u8],
+    tests: &[usize],
+    count: usize,
+    n: usize,
+    line: &[u8],
+    had: State,
+    w: &mut [usize],
+    sets: &mut [u64],
+) -> State
+    requires { ⌜ Small had ⌝ }
+    requires { ⌜ (olds ≤ 512) × (news ≤ 512) × (edges ≤ 1024) × (count ≤ 200) × (12800 ≤ length (now w)) × (20 ≤ length (now sets)) ⌝ }
+    ensures { λ r. ⌜ Stepped olds news edges (now (tt .entry)) (now (tests .entry)) count n (now (line .entry)) had (now (w .entry)) (now (sets .entry)) r (now (w .exit)) (now (sets .exit)) ⌝ }
+{
+    let form = form_of(line);
+    match form {
+        Form::Nothing => refuse(2, n),
+        Form::Head => open(n, had),
+        Form::Pair(a, b) => add_pair(olds, news, n, a, b, had, w),
+        Form::Edge(e) => add_edge(edges, n, e, had, sets),
+        Form::Test => {
+            let t = test_of(tt, tests, count, text::field(line, 44, 1));
+            add_test(n, t, had, sets)
+        }
+        Form::End(a, b, d) => end(n, a, b, d, had),
+    }
+}
+
+// ---- a text
+
+// What was read, where the line n is one past the last.
+fn finish(n: usize, had: State) -> SheetRead
+    requires { ⌜ Small had ⌝ }
+    ensures { λ r. ⌜ Finished n had r ⌝ }
+{
+    let shut = had.shut;
+    if shut {
+        return SheetRead {
+            number: 0,
+            place: 0,
+            pairs: had.pairs,
+        };
+    }
+    SheetRead {
+        number: 11,
+        place: n,
+        pairs: 0,
+    }
+}
+
+// Reads the lines of a sheet into tables that hold nothing.
+fn read_lines(
+    sheet: &[u8],
+    olds: usize,
+    news: usize,
+    edges: usize,
+    tt: &[u8],
+    tests: &[usize],
+    count: usize,
+    w: &mut [usize],
+    sets: &mut [u64],
+) -> SheetRead
+    requires { ⌜ (length (now sheet) ≤ 65536) × (olds ≤ 512) × (news ≤ 512) × (edges ≤ 1024) × (count ≤ 200) × (12800 ≤ length (now w)) × (20 ≤ length (now sets)) ⌝ }
+    ensures { λ r. ⌜ LinesRead olds news edges (now (tt .entry)) (now (tests .entry)) count (now (sheet .entry)) (now (w .entry)) (now (sets .entry)) r (now (w .exit)) (now (sets .exit)) ⌝ }
+{
+    let mut at = 0;
+    let mut n = 1;
+    let mut had = nothing_read();
+    while at < sheet.len() {
+        let rest = text::after(sheet, at);
+        let len = text::find(rest, 10);
+        if rest.len() <= len {
+            return SheetRead {
+                number: 2,
+                place: n,
+                pairs: 0,
+            };
+        }
+        let line = text::front(rest, len);
+        had = step(olds, news, edges, tt, tests, count, n, line, had, w, sets);
+        let number = had.number;
+        if number != 0 {
+            return SheetRead {
+                number,
+                place: had.place,
+                pairs: 0,
+            };
+        }
+        at = at + len + 1;
+        n += 1;
+    }
+    finish(n, had)
+}
+
+// Reads a sheet, for programs of so many old and new nodes and old edges, and the tests of a table.
+pub fn read_sheet(
+    sheet: &[u8],
+    olds: usize,
+    news: usize,
+    edges: usize,
+    tt: &[u8],
+    tests: &[usize],
+    count: usize,
+    w: &mut [usize],
+    sets: &mut [u64],
+) -> SheetRead
+    requires { ⌜ (olds ≤ 512) × (news ≤ 512) × (edges ≤ 1024) × (count ≤ 200) × (12800 ≤ length (now w)) × (20 ≤ length (now sets)) ⌝ }
+    ensures { λ r. ⌜ SheetTold olds news edges (now (tt .entry)) (now (tests .entry)) count (now (sheet .entry)) r (now (w .exit)) (now (sets .exit)) ⌝ }
+{
+    if 65536 < sheet.len() {
+        return SheetRead {
+            number: 1,
+            place: 0,
+            pairs: 0,
+        };
+    }
+    text::clear(w);
+    clear_words(sets);
+    read_lines(sheet, olds, news, edges, tt, tests, count, w, sets)
+}

@@ -1,0 +1,215 @@
+-- The returns of the functions.
+use mathlib.Core.Path.{_≡_, refl, sym, ap, _∙_, subst}
+use mathlib.Core.Bool.{Bool, true, false}
+use mathlib.Core.List.{List, [], _++_}
+use Prim.Native.Nat.{ℕ, suc, _+_, _*_, _≤_, _<_}
+use native.Mathlib.Omega.{arith}
+use borrow.Author.Tests.{le-leb, lt-leb, le-ltb, lt-ltb}
+use lib.Dec.{leb, ltb}
+use lib.ListN.{length, take}
+use Rattle.laws.specs.Tests.{choose}
+use Rattle.laws.specs.Lists.{choose-no, choose-yes}
+use Rattle.laws.specs.Slices.{below-or}
+use Rattle.rules.specs.Text.{Bytes, accepted, maxPairs}
+use Rattle.rules.specs.Graph.{Program, edgeCount}
+use Rattle.rules.specs.ProgramFile.{Listing}
+use Rattle.rules.specs.SuiteFile.{TestListing, coverageAt, readTests, testCount}
+use Rattle.rules.specs.Closing.{dangers, meets, pairs}
+use Rattle.rules.specs.Job.{Given, Outcome, outputAfter, recordBytes, refusal, sheetBytes, writing}
+use Rattle.versions.specs.Memory.{InMemory, Memory}
+use Rattle.versions.specs.Held.{PairsHeld}
+use Rattle.closure.specs.Claims.{Closes, Found, Sized}
+use Rattle.selection.specs.Compared.{Compared}
+use Rattle.selection.specs.Dangers.{DangerSet, DangersMarked, Marks, Repeats}
+use Rattle.selection.specs.Marks.{Finds, MarksFound}
+use Rattle.selection.specs.MarkLaws.{marks-front}
+use Rattle.suite.specs.Rows.{Holds, Row}
+use Rattle.writer.specs.declared.Answer.{Answer}
+use Rattle.writer.specs.Sheets.{Marked, RecordWrites, RecordWritten, SheetWrites, SheetWritten, Told, recordOf, selection, sheetOf, written, writing-written}
+use Rattle.writer.specs.Sheets as writer
+use Rattle.intake.specs.declared.Texts.{Texts}
+use Rattle.intake.specs.Ready.{Few, Ready}
+use Rattle.work.specs.Work.{Chosen, Done, RecordDone, RecordFrom, Selected, Selects, SheetDone, recording}
+
+-- ---- `select`
+
+module _ (v v′ : Memory) (edges : ℕ) (w w′ : List ℕ) (c : ℕ) (h : Sized w w′ (Closes v v′ 4096 w w′ c)) where
+  found : (o p : Listing) → InMemory v o → InMemory v′ p → 12800 ≤ length w → Found (o .program) (p .program) 4096 w′ c
+  unfolding Closes
+  found o p io ip l = h .claim o p io ip (omega arith)
+
+  pub select-many : (set : List ℕ) → 4096 < c → Selected v v′ edges w w′ set set c
+  unfolding Selects
+  select-many set m =
+      record {
+        selects = λ o p io ip e l k. record {
+          answer = found o p io ip l .answer;
+          held = λ f. absurd (let z : ⊥ = omega arith in z);
+          marked = λ f. absurd (let z : ⊥ = omega arith in z);
+        };
+        size = h .size;
+        set-size = refl;
+      }
+
+  pub select-few : (set set′ : List ℕ) → c ≤ 4096 → DangersMarked v v′ w′ edges set set′ → Selected v v′ edges w w′ set set′ c
+  unfolding Selects Marks
+  select-few set set′ m d =
+      record {
+        selects = λ o p io ip e l k.
+            let f = found o p io ip l in
+            record { answer = f .answer; held = f .held; marked = λ n. d .marks o p c (record { old-in = io; new-in = ip; held = f .held m }) e k };
+        size = h .size;
+        set-size = d .size;
+      }
+
+-- ---- answers
+
+refusal-told : (k q : ℕ) (out : Bytes) → Told (refusal k q) (record { number = k; place = q }) out out
+unfolding outputAfter
+refusal-told k q out = record { numbered = refl; placed = refl; output = refl }
+
+told-as : {x y : Outcome} {r : Answer} {out out′ : Bytes} → x ≡ y → Told y r out out′ → Told x r out out′
+told-as {r = r} {out = out} {out′ = out′} e t = subst (λ (z : Outcome). Told z r out out′) (sym e) t
+
+-- More than 4,096 pairs: 15.
+too-many : (old new : Program) (w set : List ℕ) (c : ℕ) → Chosen old new w set c → 4096 < c → maxPairs < length (pairs old new)
+too-many old new w set c x h =
+    below-or maxPairs (length (pairs old new)) (λ b. b)
+    (λ b. absurd (let z : ⊥ = omega (arith, x .answer, choose-yes (length (pairs old new)) 4097 (le-leb (length (pairs old new)) maxPairs b)) in z))
+
+writing-many : (g : Given) (room : ℕ) (b : Bytes) → maxPairs < length (pairs (g .old) (g .new)) → writing g room b ≡ refusal 15 0
+unfolding writing
+writing-many g room b h = choose-yes _ _ (lt-ltb maxPairs (length (pairs (g .old) (g .new))) h)
+
+recording-yes : (g : Given) (i room : ℕ) → i < testCount (g .suite) → recording g i room ≡ writing g room (recordBytes g i)
+recording-yes g i room h = choose-yes _ _ (lt-ltb i (testCount (g .suite)) h)
+
+recording-no : (g : Given) (i room : ℕ) → testCount (g .suite) ≤ i → recording g i room ≡ refusal 6 0
+recording-no g i room h = choose-no _ _ (le-ltb i (testCount (g .suite)) h)
+
+module _ (v v′ : Memory) (tt tests rows : List ℕ) (had : Texts) (w : List ℕ) (out : Bytes) where
+  -- What the job gives, by its parts.
+  abbrev giving : (g : Given) → Ready v v′ tt tests rows had g → Given
+  giving g y = record { old = y .o .program; new = y .p .program; suite = y .l .suite }
+
+  chosen : (w′ set set′ : List ℕ) (c : ℕ) → Selected v v′ (had .«old_edges») w w′ set set′ c → length set ≡ 16 → (g : Given) (y : Ready v v′ tt tests rows had g) → 12800 ≤ length w
+      → Chosen (y .o .program) (y .p .program) w′ set′ c
+  unfolding Selects
+  chosen w′ set set′ c s k g y l = s .selects (y .o) (y .p) (y .old-in) (y .new-in) (y .old-edges-n) l (omega arith)
+
+  held-few : (g : Given) (y : Ready v v′ tt tests rows had g) (w′ set′ : List ℕ) (c : ℕ) → Chosen (y .o .program) (y .p .program) w′ set′ c → c ≤ 4096
+      → length (pairs (y .o .program) (y .p .program)) ≤ maxPairs
+  held-few g y w′ set′ c x h = omega (arith, x .held h .counted)
+
+  -- ---- `write_sheet`
+
+  pub sheet-many : (w′ set set′ : List ℕ) (c : ℕ) → Selected v v′ (had .«old_edges») w w′ set set′ c → length set ≡ 16 → 4096 < c
+      → Done w w′ out out (SheetDone v v′ tt tests rows had w out (record { number = 15; place = 0 }) out)
+  unfolding SheetDone
+  sheet-many w′ set set′ c s k m =
+      record {
+        claim = λ g y l.
+            let x = chosen w′ set set′ c s k g y l in
+            subst (λ (g : Given). Told (writing g (length out) (sheetBytes g)) (record { number = 15; place = 0 }) out out) (sym (y .given-is))
+            (told-as (writing-many (giving g y) (length out) (sheetBytes (giving g y)) (too-many (y .o .program) (y .p .program) w′ set′ c x m)) (refusal-told 15 0 out));
+        size = s .size;
+        room = refl;
+      }
+
+  pub sheet-few : (w′ set set′ : List ℕ) (c : ℕ) → Selected v v′ (had .«old_edges») w w′ set set′ c → length set ≡ 16 → c ≤ 4096 → (r : Answer) (out′ : Bytes)
+      → SheetWritten (selection w′ c (had .«old_nodes») (had .«new_nodes») set′ (had .«old_edges») tt tests rows (had .tests)) out r out′
+      → Done w w′ out out′ (SheetDone v v′ tt tests rows had w out r out′)
+  unfolding SheetDone SheetWrites sheetBytes
+  sheet-few w′ set set′ c s k m r out′ h =
+      record {
+        claim = λ g y l.
+            let x = chosen w′ set set′ c s k g y l in
+            let t = h .writes (y .o .program) (y .p .program) (y .l)
+            (record {
+              old-nodes = y .old-nodes-n;
+              new-nodes = y .new-nodes-n;
+              old-edges = y .old-edges-n;
+              held = x .held m;
+              dangerous = x .marked m .bits;
+              suite-read = ap (λ (n : ℕ). readTests n tt) (y .old-edges-n) ∙ y .tests-read;
+              suite-held = subst (λ (n : ℕ). Holds n tests rows (had .tests) (y .l)) (sym (y .old-edges-n)) (y .tests-in);
+            }) in
+            subst (λ (g : Given). Told (writing g (length out) (sheetBytes g)) r out out′) (sym (y .given-is))
+            (told-as (writing-written (giving g y) (length out) (sheetBytes (giving g y)) (held-few g y w′ set′ c x m)) t);
+        size = s .size;
+        room = h .size;
+      }
+
+  -- ---- `record_from`
+
+  pub record-put : (set marks marks′ : List ℕ) (i : ℕ) (again : Bool) (r : Answer) (out′ : Bytes) → Few had → Repeats rows i set again → length marks ≡ 1024
+      → MarksFound v v′ w rows i (had .«old_edges») (had .«new_edges») again marks marks′ → RecordWritten tt tests rows i marks′ (had .«new_edges») out r out′
+      → Done w w out out′ (RecordFrom v v′ tt tests rows had i w set out r out′)
+  unfolding RecordFrom Repeats Finds RecordWrites recordBytes
+  record-put set marks marks′ i again r out′ few rep long f h =
+      record {
+        claim = λ g c y x m is.
+            let old = y .o .program in
+            let new = y .p .program in
+            let coverage = coverageAt (y .l .suite) i in
+            let below : i < testCount (y .l .suite) = omega (arith, y .tests-in .counted) in
+            let few-old : edgeCount old ≤ 1024 = omega (arith, y .old-edges-n, few .few-old-edges) in
+            let few-new : edgeCount new ≤ 1024 = omega (arith, y .new-edges-n, few .few-new-edges) in
+            let row = y .tests-in .row i below in
+            let meets-is = rep old new coverage few-old row (x .marked m) in
+            let found = f .finds (y .o) (y .p) c coverage (record { old-in = y .old-in; new-in = y .new-in; held = x .held m }) row (y .old-edges-n) (y .new-edges-n) meets-is (omega arith) in
+            let t = h .writes old new (y .l)
+            (record {
+              few = few-old;
+              new-edges = y .new-edges-n;
+              suite-read = y .tests-read;
+              suite-held = subst (λ (n : ℕ). Holds (edgeCount old) tests rows n (y .l)) (y .tests-in .counted) (y .tests-in);
+              is-test = below;
+              marked = ap (λ (n : ℕ). take n marks′) (y .new-edges-n) ∙ marks-front old new coverage marks marks′ (omega arith) found;
+            }) in
+            subst (λ (g : Given). Told (recording g i (length out)) r out out′) (sym (y .given-is))
+            (told-as (recording-yes (giving g y) i (length out) below ∙ writing-written (giving g y) (length out) (recordBytes (giving g y) i) (held-few g y w set c x m)) t);
+        size = refl;
+        room = h .size;
+      }
+
+  -- ---- `write_record`
+
+  pub record-none : (i : ℕ) → had .tests ≤ i → Done w w out out (RecordDone v v′ tt tests rows had i w out (record { number = 6; place = 0 }) out)
+  unfolding RecordDone
+  record-none i h =
+      record {
+        claim = λ g y l.
+            subst (λ (g : Given). Told (recording g i (length out)) (record { number = 6; place = 0 }) out out) (sym (y .given-is))
+            (told-as (recording-no (giving g y) i (length out) (omega (arith, y .tests-in .counted))) (refusal-told 6 0 out));
+        size = refl;
+        room = refl;
+      }
+
+  pub record-many : (w′ set set′ : List ℕ) (c i : ℕ) → i < had .tests → Selected v v′ (had .«old_edges») w w′ set set′ c → length set ≡ 16 → 4096 < c
+      → Done w w′ out out (RecordDone v v′ tt tests rows had i w out (record { number = 15; place = 0 }) out)
+  unfolding RecordDone
+  record-many w′ set set′ c i below s k m =
+      record {
+        claim = λ g y l.
+            let x = chosen w′ set set′ c s k g y l in
+            subst (λ (g : Given). Told (recording g i (length out)) (record { number = 15; place = 0 }) out out) (sym (y .given-is))
+            (told-as
+            (recording-yes (giving g y) i (length out) (omega (arith, y .tests-in .counted))
+            ∙ writing-many (giving g y) (length out) (recordBytes (giving g y) i) (too-many (y .o .program) (y .p .program) w′ set′ c x m))
+            (refusal-told 15 0 out));
+        size = s .size;
+        room = refl;
+      }
+
+  pub record-few : (w′ set set′ : List ℕ) (c i : ℕ) → i < had .tests → Selected v v′ (had .«old_edges») w w′ set set′ c → length set ≡ 16 → c ≤ 4096 → (r : Answer) (out′ : Bytes)
+      → Done w′ w′ out out′ (RecordFrom v v′ tt tests rows had i w′ set′ out r out′) → Done w w′ out out′ (RecordDone v v′ tt tests rows had i w out r out′)
+  unfolding RecordDone RecordFrom
+  record-few w′ set set′ c i below s k m r out′ h =
+      record {
+        claim = λ g y l. h .claim g c y (chosen w′ set set′ c s k g y l) m below;
+        size = s .size;
+        room = h .room;
+      }
+
+pub ruleset all = (select-many, select-few, sheet-many, sheet-few, record-put, record-none, record-many, record-few)

@@ -1,0 +1,39 @@
+use borrow.Author.Needs.{needs}
+use Rattle.work.proofs.Laws.{all, record-put}
+use Rattle.work.proofs.record_from.Statement.{statement}
+use Rattle.work.proofs.record_from.Tie as tie
+
+repeated-requires : tie.Need-repeated-requires
+repeated-requires c κs = search needs
+
+slice-aggregate-find-marks : tie.Need-slice-aggregate-find-marks
+slice-aggregate-find-marks c = search needs
+
+find-marks-requires : tie.Need-find-marks-requires
+find-marks-requires c κs = search needs
+
+slice-aggregate-write-record : tie.Need-slice-aggregate-write-record
+slice-aggregate-write-record c = search needs
+
+write-record-requires : tie.Need-write-record-requires
+write-record-requires c κs = search needs
+
+same-length : tie.Need-same-length
+same-length c = search needs
+
+returns : tie.Need-returns
+returns c =
+    record-put _ _ _ _ _ _ _ _ _ _ _ _ _ _ _ (c .before .before .before .before .before .before .before .before .before .before .before .before .before .before .before .before .before .before .before .before .before .pre .0) (c .before .before .before .before .before .before .before .before .repeated .ensures) (search needs) (c .before .before .before .before .before .before .find-marks .ensures)
+    (c .before .before .write-record .ensures)
+
+pub record-from-spec : {M : Type 1} → statement M
+record-from-spec =
+    tie.close
+    (tie.spec
+    repeated-requires
+    slice-aggregate-find-marks
+    find-marks-requires
+    slice-aggregate-write-record
+    write-record-requires
+    same-length
+    returns)

@@ -1,0 +1,161 @@
+// The work of a job whose texts were read: the selection, the sheet, the record lines. Programs and tests are in memory, as reading them
+// leaves them; `w` is the table of the pairs, of 12,800 numbers.
+use intake::Texts;
+use writer::Answer;
+ghost use mathlib.Core.Path.{_≡_};
+ghost use Prim.Native.Nat.{_≤_};
+ghost use lib.ListN.{length};
+ghost use Rattle.intake.specs.Ready.{Few};
+ghost use Rattle.versions.specs.Memory.{memory};
+ghost use Rattle.work.specs.Work.{Done, RecordDone, RecordFrom, Selected, SheetDone};
+
+// Finds the pairs of two versions, and their dangerous edges: the number of pairs, or 4,097 where there are more than 4,096.
+pub fn select(
+    ot: &[u8],
+    on: &[usize],
+    ol: &[usize],
+    nt: &[u8],
+    nn: &[usize],
+    nl: &[usize],
+    edges: usize,
+    w: &mut [usize],
+    set: &mut [u64],
+) -> usize
+    ensures { λ r. ⌜ Selected (memory (now (ot .entry)) (now (on .entry)) (now (ol .entry))) (memory (now (nt .entry)) (now (nn .entry)) (now (nl .entry))) edges (now (w .entry)) (now (w .exit)) (now (set .entry)) (now (set .exit)) r ⌝ }
+{
+    let c = closure::close(ot, on, ol, nt, nn, nl, 4096, w);
+    if 4096 < c {
+        return c;
+    }
+    selection::mark_dangers(ot, on, ol, nt, nn, nl, w, edges, set);
+    c
+}
+
+// Writes the sheet of the selection.
+pub fn write_sheet(
+    ot: &[u8],
+    on: &[usize],
+    ol: &[usize],
+    nt: &[u8],
+    nn: &[usize],
+    nl: &[usize],
+    tt: &[u8],
+    tests: &[usize],
+    rows: &[u64],
+    had: Texts,
+    w: &mut [usize],
+    out: &mut [u8],
+) -> Answer
+    requires { ⌜ Few had ⌝ }
+    ensures { λ r. ⌜ Done (now (w .entry)) (now (w .exit)) (now (out .entry)) (now (out .exit)) (SheetDone (memory (now (ot .entry)) (now (on .entry)) (now (ol .entry))) (memory (now (nt .entry)) (now (nn .entry)) (now (nl .entry))) (now (tt .entry)) (now (tests .entry)) (now (rows .entry)) had (now (w .entry)) (now (out .entry)) r (now (out .exit))) ⌝ }
+{
+    let mut set = [0u64; 16];
+    let edges = had.old_edges;
+    let c = select(ot, on, ol, nt, nn, nl, edges, w, &mut set);
+    if 4096 < c {
+        return Answer {
+            number: 15,
+            place: 0,
+        };
+    }
+    let olds = had.old_nodes;
+    let news = had.new_nodes;
+    let count = had.tests;
+    writer::write_sheet(w, c, olds, news, &set, edges, tt, tests, rows, count, out)
+}
+
+// Writes the record line of a test, from the pairs and the dangerous edges.
+pub fn record_from(
+    ot: &[u8],
+    on: &[usize],
+    ol: &[usize],
+    nt: &[u8],
+    nn: &[usize],
+    nl: &[usize],
+    tt: &[u8],
+    tests: &[usize],
+    rows: &[u64],
+    had: Texts,
+    i: usize,
+    w: &[usize],
+    set: &[u64],
+    out: &mut [u8],
+) -> Answer
+    requires { ⌜ Few had ⌝ }
+    requires { ⌜ i ≤ 200 ⌝ }
+    ensures { λ r. ⌜ Done (now (w .entry)) (now (w .entry)) (now (out .entry)) (now (out .exit)) (RecordFrom (memory (now (ot .entry)) (now (on .entry)) (now (ol .entry))) (memory (now (nt .entry)) (now (nn .entry)) (now (nl .entry))) (now (tt .entry)) (now (tests .entry)) (now (rows .entry)) had i (now (w .entry)) (now (set .entry)) (now (out .entry)) r (now (out .exit))) ⌝ }
+{
+    let mut marks = [0u8; 1024];
+    let olds = had.old_edges;
+    let news = had.new_edges;
+    let again = selection::repeated(rows, i, set);
+    selection::find_marks(
+        ot,
+        on,
+        ol,
+        nt,
+        nn,
+        nl,
+        w,
+        rows,
+        i,
+        olds,
+        news,
+        again,
+        &mut marks,
+    );
+    writer::write_record(tt, tests, rows, i, &marks, news, out)
+}
+
+// Writes the record line of a test: 6 where there is none of that number.
+pub fn write_record(
+    ot: &[u8],
+    on: &[usize],
+    ol: &[usize],
+    nt: &[u8],
+    nn: &[usize],
+    nl: &[usize],
+    tt: &[u8],
+    tests: &[usize],
+    rows: &[u64],
+    had: Texts,
+    i: usize,
+    w: &mut [usize],
+    out: &mut [u8],
+) -> Answer
+    requires { ⌜ Few had ⌝ }
+    ensures { λ r. ⌜ Done (now (w .entry)) (now (w .exit)) (now (out .entry)) (now (out .exit)) (RecordDone (memory (now (ot .entry)) (now (on .entry)) (now (ol .entry))) (memory (now (nt .entry)) (now (nn .entry)) (now (nl .entry))) (now (tt .entry)) (now (tests .entry)) (now (rows .entry)) had i (now (w .entry)) (now (out .entry)) r (now (out .exit))) ⌝ }
+{
+    let count = had.tests;
+    if count <= i {
+        return Answer {
+            number: 6,
+            place: 0,
+        };
+    }
+    let mut set = [0u64; 16];
+    let edges = had.old_edges;
+    let c = select(ot, on, ol, nt, nn, nl, edges, w, &mut set);
+    if 4096 < c {
+        return Answer {
+            number: 15,
+            place: 0,
+        };
+    }
+    record_from(
+        ot,
+        on,
+        ol,
+        nt,
+        nn,
+        nl,
+        tt,
+        tests,
+        rows,
+        had,
+        i,
+        w,
+        &set,
+        out,
+    )
+}

@@ -1,0 +1,271 @@
+-- What is written is the sheet, and the record line.
+use mathlib.Core.Path.{_≡_, refl, sym, ap, ap₂, _∙_, subst}
+use mathlib.Core.Bool.{true}
+use mathlib.Core.List.{List, [], _∷_, _++_, map}
+use Prim.Native.Nat.{ℕ, _+_, _*_, _≤_, _<_}
+use native.Mathlib.Omega.{arith}
+use lib.ListN.{length, getD, take, length-take}
+use lib.Seq.{take-all}
+use borrow.Author.Tests.{le-ltb, leb-true, lt-ltb}
+use Rattle.laws.specs.Tests.{_and_, count, has, listed, pick, grid, those}
+use Rattle.laws.specs.TestLaws.{and-left, and-right, grid-ascends, grid-of, pick-ascends, pick-at, pick-of, same-test, those-at}
+use Rattle.laws.specs.Lists.{choose-no, choose-yes}
+use Rattle.laws.specs.Bits.{bitIn}
+use Rattle.rules.specs.Text.{Bytes, accepted, between, isName, textOf}
+use Rattle.rules.specs.Graph.{Program, edgeCount, nodeCount}
+use Rattle.rules.specs.Closing.{dangers, dangerous, holds, meets, pairs, repeated}
+use Rattle.rules.specs.SuiteFile.{TestListing, coverageAt, readTests, testCount, testName}
+use Rattle.rules.specs.Sheet.{Sheet, crossed, dLine, endLine, headLine, mLine, rLine, recordText, selected, sheetLines, sheetText, vLine}
+use Rattle.rules.specs.Job.{Outcome, outputAfter, refusal, wrote}
+use Rattle.rules.specs.Proofs.Closure.{pairs-ascend, pairs-inside}
+use Rattle.text.specs.Puts.{Puts, puts-front, puts-length, puts-measure, puts-then}
+use Rattle.pairset.specs.Store.{newAt, oldAt, pairsIn}
+use Rattle.pairset.specs.StoreLaws.{listed-of}
+use Rattle.suite.specs.Rows.{Holds, rowOnes}
+use Rattle.suite.specs.RowLaws.{common-meets, name-read, ones-are, suite-read}
+use Rattle.versions.specs.Held.{PairsHeld}
+use Rattle.writer.specs.Laws.{asc-same, text-append, text-more, those-agree, those-count, those-self, those-map}
+use Rattle.writer.specs.Writes.{Writes, writes-length}
+use Rattle.writer.specs.Texts.{dangerText, pairText, repeatText, rowMeets, shortName, tableText}
+use Rattle.writer.specs.Claims.{NewBelow, Pairs, PairsPut}
+use Rattle.writer.specs.Sheets.{Marked, RecordWrites, RecordWritten, Selection, Selects, SheetPut, SheetPuts, SheetWrites, SheetWritten, Told, recordLine, recordOf, sheetOf, written}
+
+-- ---- the tests that were read
+
+-- A name has at most 12 bytes.
+name-fits : (s : Bytes) → isName s ≡ true → length s ≤ 12
+unfolding isName between
+name-fits s h = leb-true (length s) 12 (and-right _ _ (and-left _ _ h))
+
+module _ (m : ℕ) (text : Bytes) (tests rows : List ℕ) (n : ℕ) (l : TestListing) (e : readTests m text ≡ accepted l) (hold : Holds m tests rows n l) where
+  names-are : (i : ℕ) → i < testCount (l .suite) → shortName text tests i ≡ testName (l .suite) i
+  unfolding shortName
+  names-are i h =
+      ap (take 12) (name-read m text l tests rows n i e hold h) ∙ take-all 12 (testName (l .suite) i) (name-fits (testName (l .suite) i) (suite-read m text l e .nameForms i h))
+
+-- ---- the parts of a sheet
+
+module _ (old new : Program) (w : List ℕ) (c : ℕ) (held : PairsHeld old new w c) where
+  -- The table holds new nodes.
+  below-new : NewBelow w c (nodeCount new)
+  unfolding NewBelow
+  below-new k h = pairs-inside old new (oldAt w k) (newAt w k) (sym (held .same (oldAt w k) (newAt w k)) ∙ listed-of w (oldAt w k) (newAt w k) c k h refl refl) .1
+
+  -- What the table lists, in order, is the pairs.
+  table-pairs : pick (listed (pairsIn w c)) (grid (nodeCount old) (nodeCount new)) ≡ pairs old new
+  table-pairs =
+      asc-same (pick-ascends _ (grid-ascends (nodeCount old) (nodeCount new))) (pairs-ascend old new)
+      (λ a b. same-test _ _
+      (λ t. sym (held .same a b) ∙ pick-at _ _ a b t .1)
+      (λ t.
+      let i = pairs-inside old new a b t in
+      pick-of _ _ a b (grid-of _ _ a b (i .0) (i .1)) (held .same a b ∙ t)))
+
+  table-text : tableText w c (nodeCount old) (nodeCount new) ≡ textOf (map (λ x. mLine (x .0) (x .1)) (pairs old new))
+  unfolding tableText pairText
+  table-text = ap (λ (M : List (ℕ × ℕ)). textOf (map (λ x. mLine (x .0) (x .1)) M)) table-pairs
+
+-- A dangerous edge is an edge.
+danger-inside : (old new : Program) (e : ℕ) → has (dangers old new) e ≡ true → e < edgeCount old
+unfolding dangers
+danger-inside old new e t = those-at _ _ e t .0
+
+module _ (old new : Program) (set : List ℕ) (few : edgeCount old ≤ 1024) (is : (e : ℕ) → e < 1024 → bitIn set e ≡ has (dangers old new) e) where
+  set-dangers : those (edgeCount old) (bitIn set) ≡ dangers old new
+  unfolding dangers
+  set-dangers =
+      those-agree (bitIn set) (has (dangers old new)) (edgeCount old) (λ e h. is e (omega arith))
+      ∙ those-self (dangerous old new (pairs old new)) (edgeCount old)
+
+  danger-text : dangerText set (edgeCount old) ≡ textOf (map dLine (dangers old new))
+  unfolding dangerText
+  danger-text = ap (λ (l : List ℕ). textOf (map dLine l)) set-dangers
+
+  danger-count : count (edgeCount old) (bitIn set) ≡ length (dangers old new)
+  danger-count = sym (those-count (bitIn set) (edgeCount old)) ∙ ap length set-dangers
+
+  module _ (text : Bytes) (tests rows : List ℕ) (n : ℕ) (l : TestListing) (e : readTests (edgeCount old) text ≡ accepted l) (hold : Holds (edgeCount old) tests rows n l) where
+    abbrev again : List ℕ
+    again = repeated old new (l .suite .coverages)
+
+    rows-repeated : those n (rowMeets rows set) ≡ again
+    unfolding repeated rowMeets
+    rows-repeated =
+        let q : n ≡ length (l .suite .coverages) = hold .counted ∙ sym (suite-read (edgeCount old) text l e .paired) in
+        those-agree (rowMeets rows set) (λ i. meets (dangers old new) (coverageAt (l .suite) i)) n
+        (λ i h.
+        common-meets (edgeCount old) rows i (coverageAt (l .suite) i) few (hold .row i (omega (arith, hold .counted))) set (dangers old new)
+        (λ e h. is e (omega arith)) (danger-inside old new))
+        ∙ ap (λ (k : ℕ). those k (λ i. meets (dangers old new) (coverageAt (l .suite) i))) q
+
+    repeat-text : repeatText text tests rows set n ≡ textOf (map (λ i. rLine (testName (l .suite) i)) again)
+    unfolding repeatText
+    repeat-text =
+        ap textOf
+        (those-map (λ i. rLine (shortName text tests i)) (λ i. rLine (testName (l .suite) i)) (rowMeets rows set) n
+        (λ i h. ap rLine (names-are (edgeCount old) text tests rows n l e hold i (omega (arith, hold .counted))))
+        ∙ ap (λ (r : List ℕ). map (λ i. rLine (testName (l .suite) i)) r) rows-repeated)
+
+    repeat-count : count n (rowMeets rows set) ≡ length again
+    repeat-count = sym (those-count (rowMeets rows set) n) ∙ ap length rows-repeated
+
+-- ---- the sheet
+
+-- A sheet's text, part by part.
+sheet-parts : (names : List Bytes) (s : Sheet)
+    → sheetText names s
+    ≡ textOf (headLine ∷ [])
+    ++ (textOf (map (λ x. mLine (x .0) (x .1)) (s .M))
+    ++ (textOf (map dLine (s .D)) ++ (textOf (map (λ i. rLine (getD names i [])) (s .R)) ++ textOf (endLine (length (s .M)) (length (s .D)) (length (s .R)) ∷ []))))
+unfolding sheetText sheetLines
+sheet-parts names s =
+    let a : List Bytes = map (λ x. mLine (x .0) (x .1)) (s .M) in
+    let b : List Bytes = map dLine (s .D) in
+    let c : List Bytes = map (λ i. rLine (getD names i [])) (s .R) in
+    let z : List Bytes = endLine (length (s .M)) (length (s .D)) (length (s .R)) ∷ [] in
+    text-more headLine (a ++ (b ++ (c ++ z)))
+    ∙ ap (λ (t : Bytes). textOf (headLine ∷ []) ++ t)
+    (text-append a (b ++ (c ++ z)) ∙ ap (λ (t : Bytes). textOf a ++ t) (text-append b (c ++ z) ∙ ap (λ (t : Bytes). textOf b ++ t) (text-append c z)))
+
+module _ (old new : Program) (l : TestListing) (s : Selection) (h : Selects old new l s) (most : s .edges ≤ 1024) (d r : ℕ)
+    (ed : d ≡ count (s .edges) (bitIn (s .set))) (er : r ≡ count (s .tested) (rowMeets (s .rows) (s .set))) where
+  few : edgeCount old ≤ 1024
+  few = omega (arith, h .old-edges)
+
+  read : readTests (edgeCount old) (s .text) ≡ accepted l
+  read = subst (λ (m : ℕ). readTests m (s .text) ≡ accepted l) (h .old-edges) (h .suite-read)
+
+  hold : Holds (edgeCount old) (s .tests) (s .rows) (s .tested) l
+  hold = subst (λ (m : ℕ). Holds m (s .tests) (s .rows) (s .tested) l) (h .old-edges) (h .suite-held)
+
+  counts-are : endLine (s .pairCount) d r ≡ endLine (length (pairs old new)) (length (dangers old new)) (length (repeated old new (l .suite .coverages)))
+  counts-are =
+      let a : s .pairCount ≡ length (pairs old new) = h .held .counted in
+      let b : d ≡ length (dangers old new) = ed ∙ ap (λ (m : ℕ). count m (bitIn (s .set))) (h .old-edges) ∙ danger-count old new (s .set) few (h .dangerous) in
+      let c : r ≡ length (repeated old new (l .suite .coverages)) = er ∙ repeat-count old new (s .set) few (h .dangerous) (s .text) (s .tests) (s .rows) (s .tested) l read hold in
+      cc
+
+  -- The parts that are written are the sheet.
+  parts-are : textOf (headLine ∷ [])
+      ++ (tableText (s .table) (s .pairCount) (s .olds) (s .news)
+      ++ (dangerText (s .set) (s .edges) ++ (repeatText (s .text) (s .tests) (s .rows) (s .set) (s .tested) ++ textOf (endLine (s .pairCount) d r ∷ []))))
+      ≡ sheetOf old new l
+  unfolding selected
+  parts-are =
+      ap (λ (t : Bytes). textOf (headLine ∷ []) ++ t)
+      (ap₂ (λ (t u : Bytes). t ++ u) (ap₂ (tableText (s .table) (s .pairCount)) (h .old-nodes) (h .new-nodes) ∙ table-text old new (s .table) (s .pairCount) (h .held))
+      (ap₂ (λ (t u : Bytes). t ++ u) (ap (dangerText (s .set)) (h .old-edges) ∙ danger-text old new (s .set) few (h .dangerous))
+      (ap₂ (λ (t u : Bytes). t ++ u) (repeat-text old new (s .set) few (h .dangerous) (s .text) (s .tests) (s .rows) (s .tested) l read hold)
+      (ap (λ (t : Bytes). textOf (t ∷ [])) counts-are))))
+      ∙ sym (sheet-parts (l .suite .names) (selected old new (l .suite .coverages)))
+
+  table-below : NewBelow (s .table) (s .pairCount) (s .news)
+  table-below = subst (λ (b : ℕ). NewBelow (s .table) (s .pairCount) b) (sym (h .new-nodes)) (below-new old new (s .table) (s .pairCount) (h .held))
+
+pub sheet-puts : {o o₁ o₂ o₃ o₄ o₅ : List ℕ} {r₁ r₂ r₃ r₄ r₅ : ℕ} (s : Selection) (d r : ℕ) → s .edges ≤ 1024
+    → d ≡ count (s .edges) (bitIn (s .set)) → r ≡ count (s .tested) (rowMeets (s .rows) (s .set))
+    → Writes o 0 (textOf (headLine ∷ [])) 8 r₁ o₁ → PairsPut o₁ r₁ (s .table) (s .olds) (s .news) r₂ o₂
+    → Writes o₂ r₂ (dangerText (s .set) (s .edges)) (23 * s .edges) r₃ o₃
+    → Writes o₃ r₃ (repeatText (s .text) (s .tests) (s .rows) (s .set) (s .tested)) (15 * s .tested) r₄ o₄
+    → Writes o₄ r₄ (textOf (endLine (s .pairCount) d r ∷ [])) 67 r₅ o₅ → SheetPut s o r₅ o₅
+unfolding SheetPuts Pairs
+sheet-puts {o = o} {o₅ = o₅} {r₅ = r₅} s d r most ed er a b c e z =
+    record {
+      puts = λ old new l h. subst (λ (vs : Bytes). Puts o 0 vs r₅ o₅) (parts-are old new l s h most d r ed er)
+          (puts-then (a .puts) (puts-then (b .puts (s .pairCount) (h .held .store) (table-below old new l s h most d r ed er)) (puts-then (c .puts) (puts-then (e .puts) (z .puts)))));
+      size = writes-length z ∙ writes-length e ∙ writes-length c ∙ b .size ∙ writes-length a;
+    }
+
+-- ---- measuring, then writing
+
+-- What is written into no bytes leaves none.
+none-left : (o₁ o : List ℕ) → length o₁ ≡ 0 → o₁ ++ o ≡ o
+none-left [] o h = refl
+none-left (x ∷ o₁) o h = absurd (let z : ⊥ = omega arith in z)
+
+module _ {vs o₁ : List ℕ} {n : ℕ} (o : List ℕ) (p : Puts [] 0 vs n o₁) where
+  told-short : length o < n → Told (written (length o) vs) (record { number = 16; place = 0 }) o o
+  unfolding written outputAfter
+  told-short h =
+      let q : written (length o) vs ≡ refusal 16 0 = choose-yes _ _ (lt-ltb (length o) (length vs) (omega (arith, puts-measure p .0))) in
+      subst (λ (x : Outcome). Told x (record { number = 16; place = 0 }) o o) (sym q) (record { numbered = refl; placed = refl; output = refl })
+
+  told-written : {o₂ : List ℕ} {k : ℕ} → n ≤ length o → Puts o 0 vs k o₂ → Told (written (length o) vs) (record { number = 0; place = n }) o o₂
+  unfolding written outputAfter
+  told-written {o₂} {k} h w =
+      let m : n ≡ length vs = puts-measure p .0 in
+      let q : written (length o) vs ≡ wrote vs = choose-no _ _ (le-ltb (length o) (length vs) (omega arith)) in
+      subst (λ (x : Outcome). Told x (record { number = 0; place = n }) o o₂) (sym q) (record { numbered = refl; placed = m; output = puts-front w (omega arith) })
+
+-- `write_sheet`: the output after measuring is o₁ before o, and o₁ is no bytes.
+module _ {s : Selection} {o₁ : List ℕ} {n : ℕ} (o : List ℕ) (p : SheetPut s [] n o₁) where
+  back : o₁ ++ o ≡ o
+  back = none-left o₁ o (p .size)
+
+  pub sheet-short : length (o₁ ++ o) < n → SheetWritten s o (record { number = 16; place = 0 }) (o₁ ++ o)
+  unfolding SheetPuts SheetWrites
+  sheet-short h =
+      let l : length o < n = rw back at h in
+      rw back (record { writes = λ old new t g. told-short o (p .puts old new t g) l; size = refl })
+
+  pub sheet-written : {o₂ : List ℕ} {k : ℕ} → n ≤ length (o₁ ++ o) → SheetPut s (o₁ ++ o) k o₂ → SheetWritten s o (record { number = 0; place = n }) o₂
+  unfolding SheetPuts SheetWrites
+  sheet-written {o₂} {k} h q =
+      let l : n ≤ length o = rw back at h in
+      let w : SheetPut s o k o₂ = rw back at q in
+      record { writes = λ old new t g. told-written o (p .puts old new t g) l (w .puts old new t g); size = w .size }
+
+pub ruleset sheets = (sheet-short, sheet-written)
+
+-- ---- record lines
+
+-- The line that the tables give is the record line.
+record-is : (old new : Program) (l : TestListing) (text : Bytes) (tests rows : List ℕ) (i : ℕ) (marks : Bytes) (edges : ℕ)
+    → Marked old new l text tests rows i marks edges → recordLine text tests rows i marks edges ≡ recordOf old new l i
+unfolding recordLine recordText crossed
+record-is old new l text tests rows i marks edges h =
+    let a : shortName text tests i ≡ testName (l .suite) i = names-are (edgeCount old) text tests rows (testCount (l .suite)) l (h .suite-read) (h .suite-held) i (h .is-test) in
+    let b : rowOnes rows i ≡ count (edgeCount old) (holds (coverageAt (l .suite) i)) = ones-are (edgeCount old) rows i (coverageAt (l .suite) i) (h .few) (h .suite-held .row i (h .is-test)) in
+    ap (λ (v : Bytes). textOf (v ∷ []))
+    (ap₂ (λ (x : Bytes) (k : ℕ). vLine x k (take edges marks)) a b
+    ∙ ap (λ (x : Bytes). vLine (testName (l .suite) i) (count (edgeCount old) (holds (coverageAt (l .suite) i))) x) (h .marked))
+
+pub marks-short : (marks line : Bytes) (edges : ℕ) → line ≡ take edges marks → edges ≤ 1024 → length line ≤ 1024
+marks-short marks line edges e h = rw e (omega (arith, length-take edges marks))
+
+module _ (text : Bytes) (tests rows : List ℕ) (i : ℕ) (marks : Bytes) (edges : ℕ) {name line o₁ : List ℕ} {n : ℕ} (crossed : ℕ) (o : List ℕ)
+    (en : name ≡ shortName text tests i) (ec : crossed ≡ rowOnes rows i) (em : line ≡ take edges marks) (p : Writes [] 0 (textOf (vLine name crossed line ∷ [])) 1061 n o₁) where
+  line-is : textOf (vLine name crossed line ∷ []) ≡ recordLine text tests rows i marks edges
+  unfolding recordLine
+  line-is = cc
+
+  measured : Puts [] 0 (recordLine text tests rows i marks edges) n o₁
+  measured = subst (λ (vs : Bytes). Puts [] 0 vs n o₁) line-is (p .puts)
+
+  front-back : o₁ ++ o ≡ o
+  front-back = none-left o₁ o (writes-length p)
+
+  pub record-short : length (o₁ ++ o) < n → RecordWritten text tests rows i marks edges o (record { number = 16; place = 0 }) (o₁ ++ o)
+  unfolding RecordWrites
+  record-short h =
+      let k : length o < n = rw front-back at h in
+      rw front-back (record {
+        writes = λ old new l m. subst (λ (b : Bytes). Told (written (length o) b) (record { number = 16; place = 0 }) o o) (record-is old new l text tests rows i marks edges m)
+            (told-short o measured k);
+        size = refl;
+      })
+
+  pub record-written : {o₂ : List ℕ} {r : ℕ} → n ≤ length (o₁ ++ o) → Writes (o₁ ++ o) 0 (textOf (vLine name crossed line ∷ [])) 1061 r o₂
+      → RecordWritten text tests rows i marks edges o (record { number = 0; place = n }) o₂
+  unfolding RecordWrites
+  record-written {o₂} {r} h q =
+      let k : n ≤ length o = rw front-back at h in
+      let w : Puts o 0 (recordLine text tests rows i marks edges) r o₂ =
+      subst (λ (vs : Bytes). Puts o 0 vs r o₂) line-is (subst (λ (t : List ℕ). Puts t 0 (textOf (vLine name crossed line ∷ [])) r o₂) front-back (q .puts)) in
+      record {
+        writes = λ old new l m. subst (λ (b : Bytes). Told (written (length o) b) (record { number = 0; place = n }) o o₂) (record-is old new l text tests rows i marks edges m)
+            (told-written o measured k w);
+        size = puts-length w;
+      }
+
+pub ruleset records = (marks-short, record-short, record-written)

@@ -1,0 +1,24 @@
+use borrow.Author.Needs.{needs}
+use Rattle.writer.proofs.All.{all}
+use Rattle.writer.proofs.put_named.Statement.{statement}
+use Rattle.writer.proofs.put_named.Tie as tie
+
+put-byte-requires : tie.Need-put-byte-requires
+put-byte-requires c κs = search needs
+
+put-byte-requires-2 : tie.Need-put-byte-requires-2
+put-byte-requires-2 c κs = search needs
+
+put-bytes-requires : tie.Need-put-bytes-requires
+put-bytes-requires c κs = search needs
+
+same-length : tie.Need-same-length
+same-length c = search needs
+
+returns : tie.Need-returns
+returns c = search (all, needs)
+
+pub put-named-spec : {M : Type 1} → statement M
+put-named-spec =
+    tie.close
+    (tie.spec put-byte-requires put-byte-requires-2 put-bytes-requires same-length returns)

@@ -1,0 +1,115 @@
+-- The sheet and the record lines: what they are written from, and what the writers answer and leave.
+use mathlib.Core.Path.{_≡_}
+use mathlib.Core.List.{List, [], _∷_}
+use Prim.Native.Nat.{ℕ, _≤_, _<_}
+use lib.Dec.{ltb}
+use lib.ListN.{length, take}
+use borrow.Author.Tests.{le-ltb}
+use Rattle.laws.specs.Tests.{choose, has}
+use Rattle.laws.specs.Lists.{choose-no}
+use Rattle.laws.specs.Bits.{bitIn}
+use Rattle.rules.specs.Text.{Bytes, accepted, maxPairs, textOf}
+use Rattle.rules.specs.Graph.{Program, edgeCount, nodeCount}
+use Rattle.rules.specs.Closing.{dangers, pairs}
+use Rattle.rules.specs.SuiteFile.{TestListing, coverageAt, readTests, testCount, testName}
+use Rattle.rules.specs.Sheet.{marksOf, recordText, selected, sheetText, vLine}
+use Rattle.rules.specs.Job.{Given, Outcome, numberOf, outputAfter, placeOf, refusal, writing, wrote}
+use Rattle.text.specs.Puts.{Puts}
+use Rattle.suite.specs.Rows.{Holds, rowOnes}
+use Rattle.versions.specs.Held.{PairsHeld}
+use Rattle.writer.specs.declared.Answer.{Answer}
+use Rattle.writer.specs.Texts.{shortName}
+
+-- ---- answers
+
+-- What becomes of the bytes b in an output of `room` bytes: they are written, or 16 where it is shorter.
+unfoldable pub written : ℕ → Bytes → Outcome
+written room b = choose (ltb room (length b)) (refusal 16 0) (wrote b)
+
+-- It is the rules' answer where 15 is not due.
+pub writing-written : (g : Given) (room : ℕ) (b : Bytes) → length (pairs (g .old) (g .new)) ≤ maxPairs → writing g room b ≡ written room b
+unfolding writing written
+writing-written g room b h = choose-no _ _ (le-ltb maxPairs (length (pairs (g .old) (g .new))) h)
+
+-- An answer, and the output before and after it, are those of an outcome.
+pub record Told (x : Outcome) (r : Answer) (o o′ : Bytes) : Type 0 where
+  pub numbered : r .number ≡ numberOf x
+  pub placed : r .place ≡ placeOf x
+  pub output : o′ ≡ outputAfter x o
+
+-- ---- the sheet
+
+-- A selection in memory: the table of the pairs and their number; the numbers of old nodes, new nodes and old edges; the set of the dangerous edges; the tests' text and
+-- tables, and their number.
+pub record Selection : Type 0 where
+  pub table : List ℕ
+  pub pairCount : ℕ
+  pub olds : ℕ
+  pub news : ℕ
+  pub set : List ℕ
+  pub edges : ℕ
+  pub text : Bytes
+  pub tests : List ℕ
+  pub rows : List ℕ
+  pub tested : ℕ
+
+abbrev pub selection : List ℕ → ℕ → ℕ → ℕ → List ℕ → ℕ → Bytes → List ℕ → List ℕ → ℕ → Selection
+selection w c a b d e t i r n = record { table = w; pairCount = c; olds = a; news = b; set = d; edges = e; text = t; tests = i; rows = r; tested = n }
+
+-- It is that of two programs and the tests that were read.
+pub record Selects (old new : Program) (l : TestListing) (s : Selection) : Type 0 where
+  pub old-nodes : s .olds ≡ nodeCount old
+  pub new-nodes : s .news ≡ nodeCount new
+  pub old-edges : s .edges ≡ edgeCount old
+  pub held : PairsHeld old new (s .table) (s .pairCount)
+  pub dangerous : (e : ℕ) → e < 1024 → bitIn (s .set) e ≡ has (dangers old new) e
+  pub suite-read : readTests (s .edges) (s .text) ≡ accepted l
+  pub suite-held : Holds (s .edges) (s .tests) (s .rows) (s .tested) l
+
+-- The selector's sheet of two programs and the tests that were read.
+abbrev pub sheetOf : Program → Program → TestListing → Bytes
+sheetOf old new l = sheetText (l .suite .names) (selected old new (l .suite .coverages))
+
+-- `put_sheet`: the bytes of the sheet, from the front on.
+unfoldable pub SheetPuts : Selection → List ℕ → ℕ → List ℕ → Type 0
+SheetPuts s o r o′ = (old new : Program) (l : TestListing) → Selects old new l s → Puts o 0 (sheetOf old new l) r o′
+
+pub record SheetPut (s : Selection) (o : List ℕ) (r : ℕ) (o′ : List ℕ) : Type 0 where
+  pub puts : SheetPuts s o r o′
+  pub size : length o′ ≡ length o
+
+-- `write_sheet`: the sheet written, or refused and nothing changed.
+unfoldable pub SheetWrites : Selection → List ℕ → Answer → List ℕ → Type 0
+SheetWrites s o r o′ = (old new : Program) (l : TestListing) → Selects old new l s → Told (written (length o) (sheetOf old new l)) r o o′
+
+pub record SheetWritten (s : Selection) (o : List ℕ) (r : Answer) (o′ : List ℕ) : Type 0 where
+  pub writes : SheetWrites s o r o′
+  pub size : length o′ ≡ length o
+
+-- ---- record lines
+
+-- The line that the tables give for the test i, with marks for `edges` new edges.
+unfoldable pub recordLine : Bytes → List ℕ → List ℕ → ℕ → Bytes → ℕ → Bytes
+recordLine text tests rows i marks edges = textOf (vLine (shortName text tests i) (rowOnes rows i) (take edges marks) ∷ [])
+
+-- The tables hold the tests that were read, i is one of them, and the marks are its marks.
+pub record Marked (old new : Program) (l : TestListing) (text : Bytes) (tests rows : List ℕ) (i : ℕ) (marks : Bytes) (edges : ℕ) : Type 0 where
+  pub few : edgeCount old ≤ 1024
+  pub new-edges : edges ≡ edgeCount new
+  pub suite-read : readTests (edgeCount old) text ≡ accepted l
+  pub suite-held : Holds (edgeCount old) tests rows (testCount (l .suite)) l
+  pub is-test : i < testCount (l .suite)
+  pub marked : take edges marks ≡ marksOf old new (coverageAt (l .suite) i) (edgeCount new)
+
+-- The record line of the test i, of two programs and the tests that were read.
+abbrev pub recordOf : Program → Program → TestListing → ℕ → Bytes
+recordOf old new l i = recordText old new (testName (l .suite) i) (coverageAt (l .suite) i)
+
+-- `write_record`: the record line written, or refused and nothing changed.
+unfoldable pub RecordWrites : Bytes → List ℕ → List ℕ → ℕ → Bytes → ℕ → List ℕ → Answer → List ℕ → Type 0
+RecordWrites text tests rows i marks edges o r o′ =
+    (old new : Program) (l : TestListing) → Marked old new l text tests rows i marks edges → Told (written (length o) (recordOf old new l i)) r o o′
+
+pub record RecordWritten (text : Bytes) (tests rows : List ℕ) (i : ℕ) (marks : Bytes) (edges : ℕ) (o : List ℕ) (r : Answer) (o′ : List ℕ) : Type 0 where
+  pub writes : RecordWrites text tests rows i marks edges o r o′
+  pub size : length o′ ≡ length o

@@ -1,0 +1,363 @@
+// Sheets and record lines, written into a lent output. A writer stores only inside its output and answers the place behind what it writes, so
+// that writing into no bytes measures.
+ghost use mathlib.Core.Path.{_≡_};
+ghost use mathlib.Core.List.{_∷_, []};
+ghost use Prim.Native.Nat.{_≤_, _*_, _^_};
+ghost use lib.ListN.{length};
+ghost use Rattle.laws.specs.Bits.{bitIn};
+ghost use Rattle.laws.specs.Tests.{count as countOf};
+ghost use Rattle.rules.specs.Text.{decimal, textOf};
+ghost use Rattle.rules.specs.Sheet.{dLine, endLine, headLine, mLine, rLine, vLine};
+ghost use Rattle.writer.specs.Claims.{PairsPut, PartnersPut};
+ghost use Rattle.writer.specs.Sheets.{RecordWritten, SheetPut, SheetWritten, selection};
+ghost use Rattle.writer.specs.Texts.{dangerText, repeatText, rowMeets, shortName};
+ghost use Rattle.writer.specs.Writes.{Writes};
+
+// What a call answers: 0 and the bytes written, or a refusal by number and place.
+pub struct Answer {
+    pub number: usize,
+    pub place: usize,
+}
+
+// ---- lines
+
+// A comma and a number.
+fn put_field(out: &mut [u8], at: usize, x: usize) -> usize
+    requires { ⌜ at ≤ 2 ^ 33 ⌝ }
+    ensures { λ r. ⌜ Writes (now (out .entry)) at (44 ∷ decimal x) 21 r (now (out .exit)) ⌝ }
+{
+    let a = text::put_byte(out, at, 44);
+    text::put_decimal(out, a, x)
+}
+
+// A byte, a comma and a name.
+fn put_named(out: &mut [u8], at: usize, b: u8, name: &[u8]) -> usize
+    requires { ⌜ (at ≤ 2 ^ 33) × (length (now name) ≤ 12) ⌝ }
+    ensures { λ r. ⌜ Writes (now (out .entry)) at (b ∷ (44 ∷ now (name .entry))) 14 r (now (out .exit)) ⌝ }
+{
+    let a = text::put_byte(out, at, b);
+    let c = text::put_byte(out, a, 44);
+    text::put_bytes(out, c, name)
+}
+
+// The first line of a sheet.
+fn put_head(out: &mut [u8], at: usize) -> usize
+    requires { ⌜ at ≤ 2 ^ 32 ⌝ }
+    ensures { λ r. ⌜ Writes (now (out .entry)) at (textOf (headLine ∷ [])) 8 r (now (out .exit)) ⌝ }
+{
+    let a = text::put_bytes(out, at, &text::SHEET_HEAD);
+    text::put_byte(out, a, 10)
+}
+
+// `M,old,new`, a pair.
+fn put_pair(out: &mut [u8], at: usize, old: usize, new: usize) -> usize
+    requires { ⌜ at ≤ 2 ^ 32 ⌝ }
+    ensures { λ r. ⌜ Writes (now (out .entry)) at (textOf (mLine old new ∷ [])) 44 r (now (out .exit)) ⌝ }
+{
+    let a = text::put_byte(out, at, b'M');
+    let b = put_field(out, a, old);
+    let c = put_field(out, b, new);
+    text::put_byte(out, c, 10)
+}
+
+// `D,edge`, a dangerous edge.
+fn put_danger(out: &mut [u8], at: usize, edge: usize) -> usize
+    requires { ⌜ at ≤ 2 ^ 32 ⌝ }
+    ensures { λ r. ⌜ Writes (now (out .entry)) at (textOf (dLine edge ∷ [])) 23 r (now (out .exit)) ⌝ }
+{
+    let a = text::put_byte(out, at, b'D');
+    let b = put_field(out, a, edge);
+    text::put_byte(out, b, 10)
+}
+
+// `R,name`, a test to repeat.
+fn put_repeat(out: &mut [u8], at: usize, name: &[u8]) -> usize
+    requires { ⌜ (at ≤ 2 ^ 32) × (length (now name) ≤ 12) ⌝ }
+    ensures { λ r. ⌜ Writes (now (out .entry)) at (textOf (rLine (now (name .entry)) ∷ [])) 15 r (now (out .exit)) ⌝ }
+{
+    let a = put_named(out, at, b'R', name);
+    text::put_byte(out, a, 10)
+}
+
+// `end,m,d,r`, the last line of a sheet.
+fn put_end(out: &mut [u8], at: usize, m: usize, d: usize, r: usize) -> usize
+    requires { ⌜ at ≤ 2 ^ 32 ⌝ }
+    ensures { λ r′. ⌜ Writes (now (out .entry)) at (textOf (endLine m d r ∷ [])) 67 r′ (now (out .exit)) ⌝ }
+{
+    let a = text::put_bytes(out, at, b"end");
+    let b = put_field(out, a, m);
+    let c = put_field(out, b, d);
+    let e = put_field(out, c, r);
+    text::put_byte(out, e, 10)
+}
+
+// `V,name,crossed,marks`, a record line.
+fn put_record(out: &mut [u8], at: usize, name: &[u8], crossed: usize, marks: &[u8]) -> usize
+    requires { ⌜ (at ≤ 2 ^ 32) × (length (now name) ≤ 12) × (length (now marks) ≤ 1024) ⌝ }
+    ensures { λ r. ⌜ Writes (now (out .entry)) at (textOf (vLine (now (name .entry)) crossed (now (marks .entry)) ∷ [])) 1061 r (now (out .exit)) ⌝ }
+{
+    let a = put_named(out, at, b'V', name);
+    let b = put_field(out, a, crossed);
+    let c = text::put_byte(out, b, 44);
+    let d = text::put_bytes(out, c, marks);
+    text::put_byte(out, d, 10)
+}
+
+// ---- pairs
+
+// An M line for each of the new nodes, ascending, that the table of pairs has with the old node.
+fn put_partners(out: &mut [u8], at: usize, w: &[usize], old: usize, news: usize) -> usize
+    requires { ⌜ (at ≤ 2 ^ 31) × (news ≤ 512) ⌝ }
+    ensures { λ r. ⌜ PartnersPut (now (out .entry)) at (now (w .entry)) old news news r (now (out .exit)) ⌝ }
+{
+    let mut k = at;
+    let mut from = 0;
+    while from < news {
+        let next = pairset::next_partner(w, old, from);
+        if next <= from {
+            return k;
+        }
+        if news < next {
+            return k;
+        }
+        k = put_pair(out, k, old, next - 1);
+        from = next;
+    }
+    k
+}
+
+// An M line for each pair of the table, ascending by old node, then new.
+fn put_pairs(out: &mut [u8], at: usize, w: &[usize], olds: usize, news: usize) -> usize
+    requires { ⌜ (at ≤ 2 ^ 30) × (olds ≤ 512) × (news ≤ 512) ⌝ }
+    ensures { λ r. ⌜ PairsPut (now (out .entry)) at (now (w .entry)) olds news r (now (out .exit)) ⌝ }
+{
+    let mut k = at;
+    let mut n = 0;
+    while n < olds {
+        k = put_partners(out, k, w, n, news);
+        n += 1;
+    }
+    k
+}
+
+// ---- dangerous edges
+
+// Whether the set has the edge e.
+fn in_set(set: &[u64], e: usize) -> bool
+    ensures { λ r. ⌜ r ≡ bitIn (now (set .entry)) e ⌝ }
+{
+    suite::covers(set, 0, e)
+}
+
+// How many of the edges the set has.
+fn count_dangers(set: &[u64], edges: usize) -> usize
+    requires { ⌜ edges ≤ 1024 ⌝ }
+    ensures { λ r. ⌜ r ≡ countOf edges (bitIn (now (set .entry))) ⌝ }
+{
+    let mut sum = 0;
+    let mut e = 0;
+    while e < edges {
+        if in_set(set, e) {
+            sum += 1;
+            e += 1;
+        } else {
+            e += 1;
+        }
+    }
+    sum
+}
+
+// A D line for each of the edges that the set has.
+fn put_dangers(out: &mut [u8], at: usize, set: &[u64], edges: usize) -> usize
+    requires { ⌜ (at ≤ 2 ^ 31) × (edges ≤ 1024) ⌝ }
+    ensures { λ r. ⌜ Writes (now (out .entry)) at (dangerText (now (set .entry)) edges) (23 * edges) r (now (out .exit)) ⌝ }
+{
+    let mut k = at;
+    let mut e = 0;
+    while e < edges {
+        if in_set(set, e) {
+            k = put_danger(out, k, e);
+            e += 1;
+        } else {
+            e += 1;
+        }
+    }
+    k
+}
+
+// ---- tests to repeat
+
+// Whether the row of the test i has an edge of the set.
+fn row_meets(rows: &[u64], i: usize, set: &[u64]) -> bool
+    requires { ⌜ i ≤ 200 ⌝ }
+    ensures { λ r. ⌜ r ≡ rowMeets (now (rows .entry)) (now (set .entry)) i ⌝ }
+{
+    0 < suite::first_common(rows, i, set)
+}
+
+// The name of the test i: at most 12 bytes, whatever the table says.
+fn test_name<'a>(text: &'a [u8], tests: &[usize], i: usize) -> &'a [u8]
+    requires { ⌜ i ≤ 200 ⌝ }
+    ensures { λ r. ⌜ now r ≡ shortName (now (text .entry)) (now (tests .entry)) i ⌝ }
+{
+    text::front(suite::name_at(text, tests, i), 12)
+}
+
+// How many of the tests have an edge of the set in their rows.
+fn count_repeats(rows: &[u64], count: usize, set: &[u64]) -> usize
+    requires { ⌜ count ≤ 200 ⌝ }
+    ensures { λ r. ⌜ r ≡ countOf count (rowMeets (now (rows .entry)) (now (set .entry))) ⌝ }
+{
+    let mut n = 0;
+    let mut i = 0;
+    while i < count {
+        if row_meets(rows, i, set) {
+            n += 1;
+            i += 1;
+        } else {
+            i += 1;
+        }
+    }
+    n
+}
+
+// An R line for each of the tests whose row has an edge of the set.
+fn put_repeats(
+    out: &mut [u8],
+    at: usize,
+    text: &[u8],
+    tests: &[usize],
+    rows: &[u64],
+    count: usize,
+    set: &[u64],
+) -> usize
+    requires { ⌜ (at ≤ 2 ^ 31) × (count ≤ 200) ⌝ }
+    ensures { λ r. ⌜ Writes (now (out .entry)) at (repeatText (now (text .entry)) (now (tests .entry)) (now (rows .entry)) (now (set .entry)) count) (15 * count) r (now (out .exit)) ⌝ }
+{
+    let mut k = at;
+    let mut i = 0;
+    while i < count {
+        if row_meets(rows, i, set) {
+            k = put_repeat(out, k, test_name(text, tests, i));
+            i += 1;
+        } else {
+            i += 1;
+        }
+    }
+    k
+}
+
+// ---- the sheet
+
+// The sheet: its first line, the pairs, the dangerous edges, the tests to repeat, and the three counts.
+fn put_sheet(
+    out: &mut [u8],
+    w: &[usize],
+    pairs: usize,
+    olds: usize,
+    news: usize,
+    set: &[u64],
+    edges: usize,
+    text: &[u8],
+    tests: &[usize],
+    rows: &[u64],
+    count: usize,
+) -> usize
+    requires { ⌜ (olds ≤ 512) × (news ≤ 512) × (edges ≤ 1024) × (count ≤ 200) ⌝ }
+    ensures { λ r. ⌜ SheetPut (selection (now (w .entry)) pairs olds news (now (set .entry)) edges (now (text .entry)) (now (tests .entry)) (now (rows .entry)) count) (now (out .entry)) r (now (out .exit)) ⌝ }
+{
+    let dangers = count_dangers(set, edges);
+    let repeats = count_repeats(rows, count, set);
+    let a = put_head(out, 0);
+    let b = put_pairs(out, a, w, olds, news);
+    let c = put_dangers(out, b, set, edges);
+    let d = put_repeats(out, c, text, tests, rows, count, set);
+    put_end(out, d, pairs, dangers, repeats)
+}
+
+// Writes the sheet of a selection: measures it, and refuses with 16 where the output is shorter.
+pub fn write_sheet(
+    w: &[usize],
+    pairs: usize,
+    olds: usize,
+    news: usize,
+    set: &[u64],
+    edges: usize,
+    text: &[u8],
+    tests: &[usize],
+    rows: &[u64],
+    count: usize,
+    out: &mut [u8],
+) -> Answer
+    requires { ⌜ (olds ≤ 512) × (news ≤ 512) × (edges ≤ 1024) × (count ≤ 200) ⌝ }
+    ensures { λ r. ⌜ SheetWritten (selection (now (w .entry)) pairs olds news (now (set .entry)) edges (now (text .entry)) (now (tests .entry)) (now (rows .entry)) count) (now (out .entry)) r (now (out .exit)) ⌝ }
+{
+    let n = put_sheet(
+        &mut out[..0],
+        w,
+        pairs,
+        olds,
+        news,
+        set,
+        edges,
+        text,
+        tests,
+        rows,
+        count,
+    );
+    if out.len() < n {
+        return Answer {
+            number: 16,
+            place: 0,
+        };
+    }
+    put_sheet(
+        out,
+        w,
+        pairs,
+        olds,
+        news,
+        set,
+        edges,
+        text,
+        tests,
+        rows,
+        count,
+    );
+    Answer {
+        number: 0,
+        place: n,
+    }
+}
+
+// ---- record lines
+
+// Writes the record line of the test i, with the marks of `edges` new edges: measures it, and refuses with 16 where the output is shorter.
+pub fn write_record(
+    text: &[u8],
+    tests: &[usize],
+    rows: &[u64],
+    i: usize,
+    marks: &[u8],
+    edges: usize,
+    out: &mut [u8],
+) -> Answer
+    requires { ⌜ (i ≤ 200) × (edges ≤ 1024) ⌝ }
+    ensures { λ r. ⌜ RecordWritten (now (text .entry)) (now (tests .entry)) (now (rows .entry)) i (now (marks .entry)) edges (now (out .entry)) r (now (out .exit)) ⌝ }
+{
+    let name = test_name(text, tests, i);
+    let crossed = suite::ones(rows, i);
+    let line = text::front(marks, edges);
+    let len = put_record(&mut out[..0], 0, name, crossed, line);
+    if out.len() < len {
+        return Answer {
+            number: 16,
+            place: 0,
+        };
+    }
+    put_record(out, 0, name, crossed, line);
+    Answer {
+        number: 0,
+        place: len,
+    }
+}
