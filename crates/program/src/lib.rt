@@ -20,7 +20,7 @@ fn copy_nodes(work: &[usize], count: usize, nodes: &mut [usize])
 }
 
 // Copies the rows of the procedures and the edges, and the heads of the chains.
-fn copy_links(work: &[usize], had: Count, lent: &mut [usize])
+pub fn copy_links(work: &[usize], had: Count, lent: &mut [usize])
     requires { ⌜ Small had ⌝ }
     ensures { λ _. ⌜ now (lent .exit) ≡ copiedLinks (now (work .entry)) had (now (lent .entry)) ⌝ }
 {

@@ -1,0 +1,2 @@
+pub mod ReadOld
+pub mod ReadOldLaws

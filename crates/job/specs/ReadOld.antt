@@ -1,0 +1,115 @@
+-- Reading the old program into lent memory: what is due before it, and what it leaves.
+use mathlib.Core.Path.{_≡_}
+use mathlib.Core.Bool.{Bool}
+use mathlib.Core.List.{List, [], _∷_, _++_}
+use Prim.Native.Nat.{ℕ, zero, suc}
+use lib.Dec.{eqb, leb}
+use lib.ListN.{length, getD, replicate}
+use lib.Seq.{sets}
+use Rattle.laws.specs.Tests.{_and_, choose}
+use Rattle.rules.specs.Text.{Bytes, Answer as Reading, refused, accepted}
+use Rattle.rules.specs.Graph.{kindAt, kindNumber, labelAt, called, procCount, nodeCount, edgeCount}
+use Rattle.rules.specs.ProgramFile.{Listing, readListing}
+use Rattle.rules.specs.Job.{ofStage, read-old, stageAfter}
+use Rattle.graph.specs.Table.{linksAfter}
+use Rattle.reader.specs.declared.Count.{Count}
+use Rattle.records.specs.declared.Job.{Job}
+use Rattle.records.specs.declared.Node.{Node}
+use Rattle.records.specs.Jobs.{fresh, sameJob}
+use Rattle.records.specs.Nodes.{nodesOf}
+use Rattle.job.specs.declared.Answer.{Answer}
+use Rattle.job.specs.declared.Taken.{Taken}
+
+-- ---- what is due before reading
+
+-- The lengths of what is lent are enough: records of nodes, links, scratch.
+unfoldable pub roomy : ℕ → ℕ → ℕ → Bool
+roomy nodes links work = leb 512 nodes and (leb 6080 links and leb 8128 work)
+
+-- 13, 14, or 0 where neither is due.
+unfoldable pub oldDue : Job → ℕ → ℕ → ℕ → ℕ
+oldDue j nodes links work = choose (ofStage read-old (j .stage)) (choose (roomy nodes links work and sameJob j fresh) 0 14) 13
+
+-- What the call has to go by: the refusal that is due, or what reading the text gives.
+unfoldable pub oldRead : Job → ℕ → ℕ → ℕ → Bytes → Reading Listing
+oldRead j nodes links work text = choose (eqb (oldDue j nodes links work) 0) (readListing text) (refused (oldDue j nodes links work) 0)
+
+-- ---- what it leaves
+
+-- The number and place.
+unfoldable pub answered : Reading Listing → Answer
+answered (refused k p) = record { number = k; place = p }
+answered (accepted s) = record { number = 0; place = 0 }
+
+-- The record of the node n, and the first k of them.
+abbrev pub recordOf : Listing → ℕ → Node
+recordOf s n = record { kind = kindNumber (kindAt (s .program) n); start = getD (s .places .labelStarts) n 0; len = length (labelAt (s .program) n); callee = called (s .program) n }
+
+unfoldable pub recordsOf : Listing → ℕ → List Node
+recordsOf s zero = []
+recordsOf s (suc k) = recordsOf s k ++ (recordOf s k ∷ [])
+
+-- The records that are stored, and how many: none after a refusal.
+unfoldable pub recordsRead : Reading Listing → List Node
+recordsRead (refused k p) = []
+recordsRead (accepted s) = recordsOf s (nodeCount (s .program))
+
+unfoldable pub countRead : Reading Listing → ℕ
+countRead (refused k p) = 0
+countRead (accepted s) = nodeCount (s .program)
+
+-- The links afterwards.
+unfoldable pub linksRead : Reading Listing → List ℕ → List ℕ
+linksRead (refused k p) l = l
+linksRead (accepted s) l = linksAfter s l
+
+-- The job afterwards.
+unfoldable pub jobWithOld : ℕ → ℕ → ℕ → Job
+jobWithOld procs nodes edges =
+    record {
+      stage = stageAfter read-old;
+      «old_procs» = procs;
+      «old_nodes» = nodes;
+      «old_edges» = edges;
+      «new_procs» = 0;
+      «new_nodes» = 0;
+      «new_edges» = 0;
+      tests = 0;
+    }
+
+unfoldable pub oldJob : Reading Listing → Job → Job
+oldJob (refused k p) j = j
+oldJob (accepted s) j = jobWithOld (procCount (s .program)) (nodeCount (s .program)) (edgeCount (s .program))
+
+-- ---- the contracts
+
+-- `refused`
+abbrev pub refusedTaken : Job → ℕ → ℕ → Taken
+refusedTaken j k p = record { job = j; number = k; place = p; nodes = 0 }
+
+-- `with_old`
+unfoldable pub withOld : Count → Job
+withOld c = jobWithOld (c .procs) (c .nodes) (c .edges)
+
+-- `take_old`: what is left on values, with the numbers of the nodes in the scratch.
+unfoldable pub takenOf : Reading Listing → Job → Taken
+takenOf a j = record { job = oldJob a j; number = answered a .number; place = answered a .place; nodes = countRead a }
+
+pub record TakenBy (a : Reading Listing) (j : Job) (r : Taken) (l l′ w : List ℕ) : Type 0 where
+  pub taken : r ≡ takenOf a j
+  pub links-are : l′ ≡ linksRead a l
+  pub nodes-are : nodesOf w (countRead a) ≡ recordsRead a
+
+pub record OldTaken (j : Job) (room : ℕ) (text : Bytes) (r : Taken) (l l′ : List ℕ) (work : ℕ) (w : List ℕ) : Type 0 where
+  pub by : TakenBy (oldRead j room (length l) work text) j r l l′ w
+
+-- `read_old`: the answer, the job, the nodes and the links by what the call goes by; records and entries beyond the counts stay, and the scratch is zero.
+pub record LeftBy (a : Reading Listing) (j : Job) (n : List Node) (l w : List ℕ) (r : Answer) (j′ : Job) (n′ : List Node) (l′ w′ : List ℕ) : Type 0 where
+  pub answer-is : r ≡ answered a
+  pub job-is : j′ ≡ oldJob a j
+  pub nodes-are : n′ ≡ sets n 0 (recordsRead a)
+  pub links-are : l′ ≡ linksRead a l
+  pub scratch-is : w′ ≡ replicate (length w) 0
+
+pub record ReadOld (j : Job) (text : Bytes) (n : List Node) (l w : List ℕ) (r : Answer) (j′ : Job) (n′ : List Node) (l′ w′ : List ℕ) : Type 0 where
+  pub left : LeftBy (oldRead j (length n) (length l) (length w) text) j n l w r j′ n′ l′ w′
