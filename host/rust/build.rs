@@ -1,0 +1,19 @@
+//! Links `librivetyellow.a` from the directory that `RIVETYELLOW_LIB` names.
+//! Without it everything but the linked calls is built.
+
+use std::env;
+
+fn main() {
+    println!("cargo:rustc-check-cfg=cfg(linked)");
+    println!("cargo:rerun-if-env-changed=RIVETYELLOW_LIB");
+    let Some(directory) = env::var_os("RIVETYELLOW_LIB").filter(|value| !value.is_empty()) else {
+        return;
+    };
+    let directory = directory
+        .into_string()
+        .expect("RIVETYELLOW_LIB is a path in UTF-8");
+    println!("cargo:rerun-if-changed={directory}/librivetyellow.a");
+    println!("cargo:rustc-link-search=native={directory}");
+    println!("cargo:rustc-link-lib=static=rivetyellow");
+    println!("cargo:rustc-cfg=linked");
+}

@@ -1,0 +1,365 @@
+//! `differential SEED COUNT`: compares the linked library with the independent
+//! implementation on COUNT generated jobs, every call of each, answers and
+//! lent bytes. Exits 1 on a difference; the first one's job is left in
+//! `differential-job`. Without the library it exits 2 after the statistics.
+
+use rivetyellow_host::answer::{meaning, Answer};
+use rivetyellow_host::calls::{Calls, INDEPENDENT, LINKED};
+use rivetyellow_host::generate::random::Random;
+use rivetyellow_host::generate::{self, Generated};
+use rivetyellow_host::independent::closing;
+use rivetyellow_host::independent::job::Job;
+use rivetyellow_host::independent::program::Kind;
+use rivetyellow_host::independent::suite::meet;
+use rivetyellow_host::lent::{pattern, Lent};
+use std::collections::BTreeMap;
+use std::time::Instant;
+use std::{env, fs, process};
+
+/// Where the first difference's job is written.
+const DIRECTORY: &str = "differential-job";
+
+const CALLS: [&str; 6] = [
+    "read_old",
+    "read_new",
+    "read_tests",
+    "sheet",
+    "record",
+    "check",
+];
+
+#[derive(Default)]
+struct Statistics {
+    /// Answers by call and number.
+    answers: [[u64; 17]; 6],
+    /// False claims by rule.
+    claims: [u64; 6],
+    counts: BTreeMap<&'static str, u64>,
+}
+
+impl Statistics {
+    fn count(&mut self, what: &'static str, holds: bool) {
+        *self.counts.entry(what).or_default() += u64::from(holds);
+    }
+
+    fn answer(&mut self, call: usize, answer: Answer) {
+        self.answers[call][answer.number.min(16) as usize] += 1;
+        if answer.number == 12 {
+            self.claims[answer.place.min(5) as usize] += 1;
+        }
+    }
+
+    fn print(&self) {
+        print!("{:>6}", "answer");
+        for call in CALLS {
+            print!("{call:>12}");
+        }
+        println!();
+        for number in (0..=12).chain(15..=16) {
+            print!("{number:>6}");
+            for call in 0..CALLS.len() {
+                print!("{:>12}", self.answers[call][number]);
+            }
+            println!("  {}", meaning(number as u32));
+        }
+        for rule in 1..=5 {
+            println!("{:>10} sheets break rule {rule} first", self.claims[rule]);
+        }
+        for (what, count) in &self.counts {
+            println!("{count:>10} {what}");
+        }
+    }
+}
+
+/// The memory lent to the linked calls, and room for comparison.
+#[derive(Default)]
+struct Memory {
+    texts: [Lent; 4],
+    out: Lent,
+    expected: Vec<u8>,
+}
+
+struct Comparison<'g> {
+    job: &'g Generated,
+    linked: Option<&'g Calls>,
+    memory: &'g mut Memory,
+    statistics: &'g mut Statistics,
+    differences: Vec<String>,
+}
+
+impl<'g> Comparison<'g> {
+    fn texts(&self) -> [&'g [u8]; 4] {
+        let job = self.job;
+        [&job.old, &job.new, &job.tests, &job.sheet]
+    }
+
+    fn differ(&mut self, what: String) {
+        self.differences.push(what);
+    }
+
+    /// Compares the answers of a call, and tests that no input byte and no
+    /// guard byte was changed.
+    fn judge(&mut self, call: usize, expected: Answer, found: Option<Answer>) {
+        self.statistics.answer(call, expected);
+        let Some(found) = found else {
+            return;
+        };
+        let name = CALLS[call];
+        if found != expected {
+            self.differ(format!("{name}: linked {found}, independent {expected}"));
+        }
+        for at in 0..4 {
+            if self.memory.texts[at].slice() != self.texts()[at] {
+                self.differ(format!("{name}: text {at} was changed"));
+            }
+            if !self.memory.texts[at].guarded() {
+                self.differ(format!("{name}: guard of text {at} was changed"));
+            }
+        }
+    }
+
+    /// The calls that read.
+    fn reads(&mut self) {
+        let [old, new, tests, sheet] = self.texts();
+        let expected = [
+            (INDEPENDENT.read_old)(old),
+            (INDEPENDENT.read_new)(old, new),
+            (INDEPENDENT.read_tests)(old, new, tests),
+            (INDEPENDENT.check)(old, new, tests, sheet),
+        ];
+        let found = self.linked.map(|linked| {
+            let [old, new, tests, sheet] = &self.memory.texts;
+            let (old, new, tests, sheet) = (old.slice(), new.slice(), tests.slice(), sheet.slice());
+            [
+                (linked.read_old)(old),
+                (linked.read_new)(old, new),
+                (linked.read_tests)(old, new, tests),
+                (linked.check)(old, new, tests, sheet),
+            ]
+        });
+        for (at, call) in [0, 1, 2, 5].into_iter().enumerate() {
+            self.judge(call, expected[at], found.map(|found| found[at]));
+        }
+        let passed = expected[3].is_success();
+        self.statistics.count("sheets that pass", passed);
+        if self.job.passes && !passed {
+            self.differ(format!("a sheet made to pass is refused: {}", expected[3]));
+        }
+    }
+
+    /// A call that writes, with an output of this length.
+    fn writes(&mut self, call: usize, test: usize, length: usize, random: &mut Random) -> Answer {
+        let [old, new, tests, _] = self.texts();
+        let mut expected_out = std::mem::take(&mut self.memory.expected);
+        expected_out.clear();
+        expected_out.extend((0..length).map(pattern));
+        let expected = match call {
+            3 => (INDEPENDENT.sheet)(old, new, tests, &mut expected_out),
+            _ => (INDEPENDENT.record)(old, new, tests, test, &mut expected_out),
+        };
+        let written = match expected.is_success() {
+            true => expected.place as usize,
+            false => 0,
+        };
+        let kept = |(at, &byte): (usize, &u8)| byte == pattern(at);
+        if !expected_out.iter().enumerate().skip(written).all(kept) {
+            self.differ(format!("{}: independent writes too far", CALLS[call]));
+        }
+        let found = self.linked.map(|linked| {
+            let Memory { texts, out, .. } = &mut *self.memory;
+            out.fill(random, length);
+            let [old, new, tests, _] = &*texts;
+            let (old, new, tests) = (old.slice(), new.slice(), tests.slice());
+            match call {
+                3 => (linked.sheet)(old, new, tests, out.slice_mut()),
+                _ => (linked.record)(old, new, tests, test, out.slice_mut()),
+            }
+        });
+        if found.is_some() {
+            if self.memory.out.slice() != expected_out {
+                self.differ(format!("{}: output differs, length {length}", CALLS[call]));
+            }
+            if !self.memory.out.guarded() {
+                self.differ(format!("{}: guard of output was changed", CALLS[call]));
+            }
+        }
+        self.judge(call, expected, found);
+        self.memory.expected = expected_out;
+        expected
+    }
+
+    /// A call that writes, with outputs long enough, then of another length.
+    /// Gives what is written if the job is accepted.
+    fn writes_twice(&mut self, call: usize, test: usize, random: &mut Random) -> Option<Vec<u8>> {
+        let room = if call == 3 { 65_536 } else { 1_100 };
+        let room = match self.job.old.len() {
+            0..=2_000 if call == 3 => 8_192,
+            _ => room,
+        };
+        let mut answer = self.writes(call, test, room, random);
+        if answer.number == 16 {
+            answer = self.writes(call, test, 65_536, random);
+        }
+        if !answer.is_success() {
+            let short = random.below(40);
+            self.writes(call, test, short, random);
+            return None;
+        }
+        let written = answer.place as usize;
+        let text = self.memory.expected[..written].to_vec();
+        let length = match random.below(6) {
+            0 => written - 1,
+            1 => random.below(written),
+            2 => 0,
+            3 | 4 => written,
+            _ => written + random.within(1, 20),
+        };
+        self.writes(call, test, length, random);
+        Some(text)
+    }
+
+    fn run(&mut self, random: &mut Random) {
+        if self.linked.is_some() {
+            for at in 0..4 {
+                let text = self.texts()[at];
+                self.memory.texts[at].hold(random, text);
+            }
+        }
+        self.reads();
+        let sheet = self.writes_twice(3, 0, random);
+        let accepted = Job::read(&self.job.old, &self.job.new, &self.job.tests).ok();
+        let tests = accepted.as_ref().map_or(0, |job| job.suite.len());
+        let mut records = Vec::new();
+        for test in 0..tests {
+            if tests <= 14 || random.below(tests) < 3 {
+                records.push((test, self.writes_twice(4, test, random)));
+            }
+        }
+        let beyond = [tests, tests + 1, usize::MAX, 1 << 32, 1 << 16, 256];
+        let length = random.below(40);
+        self.writes(4, *random.pick(&beyond), length, random);
+        if let (Some(job), Some(sheet)) = (accepted, sheet) {
+            self.own_sheet(&sheet);
+            self.describe(&job, &records);
+        }
+    }
+
+    /// The selector's sheet passes the check.
+    fn own_sheet(&mut self, sheet: &[u8]) {
+        let Generated {
+            old, new, tests, ..
+        } = self.job;
+        for calls in [Some(&INDEPENDENT), self.linked].into_iter().flatten() {
+            let answer = (calls.check)(old, new, tests, sheet);
+            if answer != Answer::success(0) {
+                self.differ(format!("{}: own sheet refused {answer}", calls.name));
+            }
+        }
+    }
+
+    /// Counts what an accepted job shows.
+    fn describe(&mut self, job: &Job, records: &[(usize, Option<Vec<u8>>)]) {
+        let (old, new) = job.graphs();
+        let Some(closed) = closing::close(&old, &new, |_, _| ()) else {
+            return;
+        };
+        let danger = closed.danger.iter().any(|&word| word != 0);
+        let (mut going, mut staying) = (false, false);
+        let mut partners = BTreeMap::new();
+        for &(n, m) in &closed.pairs.list {
+            *partners.entry(n).or_insert(0) += 1;
+            if old.kind(n) == Kind::Call {
+                let exits = (old.ends(old.callee(n)).1, new.ends(new.callee(m)).1);
+                let goes_on = closed.pairs.contains(exits.0, exits.1);
+                going |= goes_on;
+                staying |= !goes_on;
+            }
+        }
+        let statistics = &mut *self.statistics;
+        statistics.count("accepted jobs", true);
+        statistics.count("accepted jobs with D lines", danger);
+        statistics.count("accepted jobs without D lines", !danger);
+        let several = partners.values().any(|&count| count > 1);
+        statistics.count("accepted jobs with several partners of a node", several);
+        statistics.count("accepted jobs with C pairs that go on", going);
+        statistics.count("accepted jobs with C pairs that do not", staying);
+        statistics.count("accepted jobs with C pairs of both sorts", going && staying);
+        for (test, record) in records {
+            let Some(record) = record else {
+                continue;
+            };
+            let marks = record.rsplit(|&byte| byte == b',').next().unwrap_or(&[]);
+            let has = |mark: u8| marks.contains(&mark);
+            let repeated = meet(job.suite.row(*test), &closed.danger);
+            statistics.count("repeated tests", repeated);
+            statistics.count("left-off tests", !repeated);
+            statistics.count("left-off tests with a mark 0", !repeated && has(b'0'));
+            statistics.count("left-off tests with a mark 1", !repeated && has(b'1'));
+            statistics.count("left-off tests with a mark ?", !repeated && has(b'?'));
+            let all = has(b'0') && has(b'1') && has(b'?');
+            statistics.count("left-off tests with all three marks", all);
+        }
+    }
+}
+
+/// Leaves the job of a difference as files.
+fn keep(job: &Generated, differences: &[String]) -> std::io::Result<()> {
+    fs::create_dir_all(DIRECTORY)?;
+    let write = |name: &str, text: &[u8]| fs::write(format!("{DIRECTORY}/{name}"), text);
+    write("old", &job.old)?;
+    write("new", &job.new)?;
+    write("tests", &job.tests)?;
+    write("sheet", &job.sheet)?;
+    write("differences", differences.join("\n").as_bytes())
+}
+
+fn argument(at: usize) -> Option<u64> {
+    env::args().nth(at)?.parse().ok()
+}
+
+fn main() {
+    let (Some(seed), Some(count)) = (argument(1), argument(2)) else {
+        eprintln!("usage: differential SEED COUNT");
+        process::exit(2);
+    };
+    let linked = LINKED;
+    let mut statistics = Statistics::default();
+    let mut memory = Memory::default();
+    let mut differing = 0;
+    let start = Instant::now();
+    for number in 0..count {
+        let mut random = Random::new(seed, number);
+        let job = generate::job(&mut random);
+        let mut comparison = Comparison {
+            job: &job,
+            linked: linked.as_ref(),
+            memory: &mut memory,
+            statistics: &mut statistics,
+            differences: Vec::new(),
+        };
+        comparison.run(&mut random);
+        let differences = comparison.differences;
+        if differences.is_empty() {
+            continue;
+        }
+        differing += 1;
+        if differing <= 10 {
+            println!("job {number} differs: {}", differences.join("; "));
+        }
+        if differing == 1 {
+            if let Err(error) = keep(&job, &differences) {
+                eprintln!("differential: {DIRECTORY}: {error}");
+            }
+        }
+    }
+    println!("seed {seed}, {count} jobs, {} s", start.elapsed().as_secs());
+    statistics.print();
+    println!("{differing} jobs differ");
+    if differing > 0 {
+        process::exit(1);
+    }
+    if linked.is_none() {
+        println!("the library is not linked: nothing was compared");
+        process::exit(2);
+    }
+}

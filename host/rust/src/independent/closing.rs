@@ -1,0 +1,331 @@
+//! The closing rules: pairs, dangerous edges and counterparts.
+
+use super::program::{Kind, Node, Program, NODE_LIMIT};
+use super::suite::{place_of, ROW_WORDS};
+use super::text::{Name, Word};
+
+pub const PAIR_LIMIT: usize = 4_096;
+
+/// An edge as the closure meets it.
+#[derive(Clone, Copy)]
+pub struct Leaving {
+    pub word: Word,
+    pub end: u16,
+    /// The class of its end.
+    pub class: u16,
+    pub edge: u16,
+}
+
+/// A program with its edges laid out by node, by word within a node, and a
+/// class for each node: two nodes are alike exactly if their classes are equal.
+pub struct Graph<'p> {
+    pub program: &'p Program<'p>,
+    class: Vec<u16>,
+    first: Vec<u16>,
+    leaving: Vec<Leaving>,
+}
+
+impl<'p> Graph<'p> {
+    fn new(program: &'p Program<'p>, class: Vec<u16>) -> Graph<'p> {
+        let mut first = vec![0u16; program.nodes.len() + 1];
+        for edge in &program.edges {
+            first[edge.from as usize + 1] += 1;
+        }
+        for node in 1..first.len() {
+            first[node] += first[node - 1];
+        }
+        let mut filled = vec![0u16; program.nodes.len()];
+        let blank = Leaving {
+            word: 0,
+            end: 0,
+            class: 0,
+            edge: 0,
+        };
+        let mut leaving = vec![blank; program.edges.len()];
+        for (number, edge) in program.edges.iter().enumerate() {
+            let from = edge.from as usize;
+            let start = first[from] as usize;
+            let mut at = start + filled[from] as usize;
+            filled[from] += 1;
+            while at > start && leaving[at - 1].word > edge.word {
+                leaving[at] = leaving[at - 1];
+                at -= 1;
+            }
+            leaving[at] = Leaving {
+                word: edge.word,
+                end: edge.to,
+                class: class[edge.to as usize],
+                edge: number as u16,
+            };
+        }
+        Graph {
+            program,
+            class,
+            first,
+            leaving,
+        }
+    }
+
+    pub fn kind(&self, node: u16) -> Kind {
+        self.program.nodes[node as usize].kind
+    }
+
+    pub fn class(&self, node: u16) -> u16 {
+        self.class[node as usize]
+    }
+
+    pub fn leaving(&self, node: u16) -> &[Leaving] {
+        let node = node as usize;
+        &self.leaving[self.first[node] as usize..self.first[node + 1] as usize]
+    }
+
+    /// The number of the procedure that a C node calls.
+    pub fn callee(&self, node: u16) -> u16 {
+        self.program.nodes[node as usize].procedure
+    }
+
+    /// Entry and exit of a procedure.
+    pub fn ends(&self, procedure: u16) -> (u16, u16) {
+        let procedure = &self.program.procedures[procedure as usize];
+        (procedure.entry, procedure.exit)
+    }
+}
+
+/// Lays out both programs with classes in common.
+pub fn graphs<'p>(old: &'p Program<'p>, new: &'p Program<'p>) -> (Graph<'p>, Graph<'p>) {
+    let mut classes = Classes::with_limit(old.nodes.len() + new.nodes.len());
+    let old_class = classes.of_program(old);
+    let new_class = classes.of_program(new);
+    (Graph::new(old, old_class), Graph::new(new, new_class))
+}
+
+/// Classes of nodes by open addressing; a class is the number of its first
+/// node.
+struct Classes<'p> {
+    slots: Vec<u16>,
+    keys: Vec<(Kind, &'p [u8], Name)>,
+}
+
+const FREE: u16 = u16::MAX;
+
+impl<'p> Classes<'p> {
+    fn with_limit(limit: usize) -> Classes<'p> {
+        Classes {
+            slots: vec![FREE; (2 * limit).next_power_of_two()],
+            keys: Vec::with_capacity(limit),
+        }
+    }
+
+    fn of_program(&mut self, program: &'p Program<'p>) -> Vec<u16> {
+        program
+            .nodes
+            .iter()
+            .map(|node| self.of_node(program, node))
+            .collect()
+    }
+
+    fn of_node(&mut self, program: &'p Program<'p>, node: &Node<'p>) -> u16 {
+        let callee = match node.kind {
+            Kind::Call => program.procedures[node.procedure as usize].name,
+            _ => 0,
+        };
+        let key = (node.kind, node.label, callee);
+        let mask = self.slots.len() - 1;
+        let mut slot = hash(node.kind, node.label, callee) as usize & mask;
+        loop {
+            match self.slots[slot] {
+                FREE => {
+                    let class = self.keys.len() as u16;
+                    self.slots[slot] = class;
+                    self.keys.push(key);
+                    return class;
+                }
+                class if self.keys[class as usize] == key => return class,
+                _ => slot = (slot + 1) & mask,
+            }
+        }
+    }
+}
+
+fn hash(kind: Kind, label: &[u8], callee: Name) -> u64 {
+    const FACTOR: u64 = 0x9e37_79b9_7f4a_7c15;
+    let mix = |state: u64, word: u64| (state.rotate_left(23) ^ word).wrapping_mul(FACTOR);
+    let mut state = mix(kind as u64, label.len() as u64);
+    let mut chunks = label.chunks_exact(8);
+    for chunk in &mut chunks {
+        let mut word = [0; 8];
+        word.copy_from_slice(chunk);
+        state = mix(state, u64::from_le_bytes(word));
+    }
+    let rest = chunks
+        .remainder()
+        .iter()
+        .fold(0, |word: u64, &byte| word << 8 | u64::from(byte));
+    state = mix(state, rest);
+    state = mix(state, callee as u64);
+    state = mix(state, (callee >> 64) as u64);
+    state >> 32
+}
+
+/// A set of pairs: a bit for each, and a list in order of adding.
+pub struct Pairs {
+    stride: usize,
+    bits: Vec<u64>,
+    pub list: Vec<(u16, u16)>,
+}
+
+impl Pairs {
+    pub fn new(old_nodes: usize, new_nodes: usize) -> Pairs {
+        debug_assert!(old_nodes <= NODE_LIMIT && new_nodes <= NODE_LIMIT);
+        let stride = new_nodes.div_ceil(64);
+        Pairs {
+            stride,
+            bits: vec![0; old_nodes * stride],
+            list: Vec::with_capacity((old_nodes * new_nodes).min(PAIR_LIMIT)),
+        }
+    }
+
+    fn place(&self, old: u16, new: u16) -> (usize, u64) {
+        (
+            old as usize * self.stride + new as usize / 64,
+            1 << (new % 64),
+        )
+    }
+
+    pub fn contains(&self, old: u16, new: u16) -> bool {
+        let (word, bit) = self.place(old, new);
+        self.bits[word] & bit != 0
+    }
+
+    /// Adds a pair; false if it would be one above the limit.
+    #[inline]
+    pub fn add(&mut self, old: u16, new: u16) -> bool {
+        let (word, bit) = self.place(old, new);
+        if self.bits[word] & bit != 0 {
+            return true;
+        }
+        if self.list.len() == PAIR_LIMIT {
+            return false;
+        }
+        self.bits[word] |= bit;
+        self.list.push((old, new));
+        true
+    }
+
+    /// The new nodes paired with an old node, ascending.
+    pub fn partners(&self, old: u16) -> impl Iterator<Item = u16> + '_ {
+        let words = &self.bits[old as usize * self.stride..][..self.stride];
+        words.iter().enumerate().flat_map(|(at, &word)| {
+            let mut left = word;
+            std::iter::from_fn(move || {
+                if left == 0 {
+                    return None;
+                }
+                let bit = left.trailing_zeros();
+                left &= left - 1;
+                Some(at as u16 * 64 + bit as u16)
+            })
+        })
+    }
+}
+
+/// What the closing rules give.
+pub struct Closing {
+    pub pairs: Pairs,
+    /// Dangerous edges, as a row.
+    pub danger: [u64; ROW_WORDS],
+}
+
+/// C pairs whose callee's exits have not met, by the old callee.
+struct Waiting {
+    newest: Vec<u16>,
+    /// A waiting pair, and the one before it in its list.
+    entries: Vec<((u16, u16), u16)>,
+}
+
+const NONE: u16 = u16::MAX;
+
+/// Closes the rules; `join` is told each old edge and its new counterpart
+/// once. `None` if there are more pairs than the limit.
+pub fn close(old: &Graph, new: &Graph, mut join: impl FnMut(u16, u16)) -> Option<Closing> {
+    let mut pairs = Pairs::new(old.class.len(), new.class.len());
+    let mut danger = [0; ROW_WORDS];
+    let mut waiting = Waiting {
+        newest: vec![NONE; old.program.procedures.len()],
+        entries: Vec::new(),
+    };
+    let mut within = pairs.add(old.ends(0).0, new.ends(0).0);
+    let mut at = 0;
+    while within && at < pairs.list.len() {
+        let (n, m) = pairs.list[at];
+        at += 1;
+        match old.kind(n) {
+            Kind::Entry | Kind::Step => {
+                within = go_on(old, new, (n, m), &mut pairs, &mut danger, &mut join);
+            }
+            Kind::Call => {
+                let (callee, partner) = (old.callee(n), new.callee(m));
+                let ((entry, exit), (new_entry, new_exit)) = (old.ends(callee), new.ends(partner));
+                within = pairs.add(entry, new_entry);
+                if pairs.contains(exit, new_exit) {
+                    within &= go_on(old, new, (n, m), &mut pairs, &mut danger, &mut join);
+                } else {
+                    let newest = &mut waiting.newest[callee as usize];
+                    waiting.entries.push(((n, m), *newest));
+                    *newest = waiting.entries.len() as u16 - 1;
+                }
+            }
+            Kind::Exit => {
+                let procedure = old.callee(n) as usize;
+                let mut entry = waiting.newest[procedure];
+                if entry == NONE {
+                    continue;
+                }
+                // Every pair of the list calls procedures of one name.
+                let call = waiting.entries[entry as usize].0;
+                if new.ends(new.callee(call.1)).1 != m {
+                    continue;
+                }
+                waiting.newest[procedure] = NONE;
+                while within && entry != NONE {
+                    let (pair, before) = waiting.entries[entry as usize];
+                    within = go_on(old, new, pair, &mut pairs, &mut danger, &mut join);
+                    entry = before;
+                }
+            }
+        }
+    }
+    within.then_some(Closing { pairs, danger })
+}
+
+/// Rule 3 for one pair that may go on; false if there are too many pairs.
+#[inline]
+fn go_on(
+    old: &Graph,
+    new: &Graph,
+    (n, m): (u16, u16),
+    pairs: &mut Pairs,
+    danger: &mut [u64; ROW_WORDS],
+    join: &mut impl FnMut(u16, u16),
+) -> bool {
+    let others = new.leaving(m);
+    let mut at = 0;
+    for edge in old.leaving(n) {
+        while at < others.len() && others[at].word < edge.word {
+            at += 1;
+        }
+        match others.get(at) {
+            Some(other) if other.word == edge.word && other.class == edge.class => {
+                if !pairs.add(edge.end, other.end) {
+                    return false;
+                }
+                join(edge.edge, other.edge);
+            }
+            _ => {
+                let (word, bit) = place_of(edge.edge as usize);
+                danger[word] |= bit;
+            }
+        }
+    }
+    true
+}

@@ -1,0 +1,221 @@
+//! P1 to P8 and other cases worked out by hand.
+
+use super::*;
+use crate::answer::Answer;
+
+/// Lines parted by blanks; `~` stands for a blank within a line.
+fn text(lines: &str) -> Vec<u8> {
+    let mut bytes = Vec::new();
+    for line in lines.split_whitespace() {
+        bytes.extend(line.replace('~', " ").bytes());
+        bytes.push(b'\n');
+    }
+    bytes
+}
+
+const P1: &str = "P,up N,E,, N,X,, B,0,-,1";
+const P2_OLD: &str = "P,main N,E,, N,S,read~layer, N,S,set~speed, N,S,hold, N,X,, \
+                      B,0,-,1 B,1,up,2 B,1,stop,3 B,2,ok,1 B,3,ok,4";
+const P2_NEW: &str = "P,main N,E,, N,S,read~layer, N,S,set~speed~by~layer, N,S,hold, N,X,, \
+                      B,0,-,1 B,1,up,2 B,1,stop,3 B,2,ok,1 B,3,ok,4";
+const P2_TESTS: &str = "T,t1,a8 T,t2,f8";
+const P2_SHEET: &str = "sheet,1 M,0,0 M,1,1 M,3,3 M,4,4 D,1 R,t2 end,4,1,1";
+const P6: &str = "P,up N,E,, N,C,wind,up N,X,, B,0,-,1 B,1,-,2";
+
+/// The sheet of a job, which must be accepted.
+fn sheet_of(old: &str, new: &str, tests: &str) -> Vec<u8> {
+    let mut out = vec![b'#'; 65_536];
+    let answer = sheet(&text(old), &text(new), &text(tests), &mut out);
+    assert_eq!(answer.number, 0, "refused {answer}");
+    out.truncate(answer.place as usize);
+    out
+}
+
+fn record_of(old: &str, new: &str, tests: &str, test: usize) -> Vec<u8> {
+    let mut out = vec![b'#'; 2_048];
+    let answer = record(&text(old), &text(new), &text(tests), test, &mut out);
+    assert_eq!(answer.number, 0, "refused {answer}");
+    out.truncate(answer.place as usize);
+    out
+}
+
+fn dangers(sheet: &[u8]) -> Vec<String> {
+    String::from_utf8(sheet.to_vec())
+        .unwrap()
+        .lines()
+        .filter(|line| line.starts_with('D'))
+        .map(str::to_string)
+        .collect()
+}
+
+#[test]
+fn p1() {
+    assert_eq!(sheet_of(P1, P1, ""), text("sheet,1 M,0,0 M,1,1 end,2,0,0"));
+}
+
+#[test]
+fn p2() {
+    assert_eq!(sheet_of(P2_OLD, P2_NEW, P2_TESTS), text(P2_SHEET));
+    let first = record_of(P2_OLD, P2_NEW, P2_TESTS, 0);
+    assert_eq!(first, text("V,t1,3,10101"));
+    let second = record_of(P2_OLD, P2_NEW, P2_TESTS, 1);
+    assert_eq!(second, text("V,t2,5,?????"));
+}
+
+#[test]
+fn p3() {
+    let old = "P,a N,E,, N,S,wind, N,X,, B,0,-,1 B,1,T,1 B,1,F,2";
+    let new = "P,a N,E,, N,S,wind, N,S,wind, N,X,, \
+               B,0,-,1 B,1,T,2 B,1,F,3 B,2,T,1 B,2,F,3";
+    let tests = "T,e,e T,a,a";
+    assert_eq!(record_of(old, new, tests, 0), text("V,e,3,1????"));
+    assert_eq!(record_of(old, new, tests, 1), text("V,a,2,10?0?"));
+    assert!(dangers(&sheet_of(old, new, tests)).is_empty());
+}
+
+#[test]
+fn p4() {
+    let new = P2_OLD.replace("B,1,stop,3", "B,1,halt,3");
+    assert_eq!(dangers(&sheet_of(P2_OLD, &new, "")), ["D,2"]);
+}
+
+#[test]
+fn p5() {
+    let new = format!("{P2_OLD} B,3,more,1");
+    assert!(dangers(&sheet_of(P2_OLD, &new, "")).is_empty());
+}
+
+#[test]
+fn p6() {
+    assert_eq!(sheet_of(P6, P6, ""), text("sheet,1 M,0,0 M,1,1 end,2,0,0"));
+}
+
+#[test]
+fn p7() {
+    let listed = text("sheet,1 M,0,0 D,0 R,t1 R,t2 end,1,1,2");
+    let answer = check(&text(P2_OLD), &text(P2_NEW), &text(P2_TESTS), &listed);
+    assert_eq!(answer, Answer::success(0));
+}
+
+#[test]
+fn p8() {
+    let listed = text("sheet,1 M,0,0 M,1,1 M,3,3 M,4,4 R,t2 end,4,0,1");
+    let answer = check(&text(P2_OLD), &text(P2_NEW), &text(P2_TESTS), &listed);
+    assert_eq!(answer, Answer::new(12, 4));
+}
+
+#[track_caller]
+fn program(lines: &str, number: u32, place: u32) {
+    assert_eq!(
+        read_old(&text(lines)),
+        Answer::new(number, place),
+        "{lines}"
+    );
+}
+
+#[test]
+fn refusals_of_programs() {
+    assert_eq!(read_old(b""), Answer::new(2, 1));
+    assert_eq!(read_old(b"P,a\nP,b"), Answer::new(2, 2));
+    assert_eq!(read_old(b"P,a\n\n"), Answer::new(2, 2));
+    program("P,a P,b", 8, 1);
+    program("P,a P,b~c", 2, 2);
+    program("P,a x", 2, 2);
+    program("N,E,,", 3, 1);
+    program("P,a N,E,, N,X,, B,0,-,1 N,S,a,", 3, 5);
+    program("P,a N,E,, N,X,, B,0,-,1 P,a", 5, 5);
+    program("P,a N,E,, N,X,, B,0,-,1 P,b N,E,, N,X,, B,0,-,3", 6, 8);
+    program("P,a N,E,, N,X,, B,0,-,18446744073709551617", 6, 4);
+    program("P,a N,E,, N,X,, B,00,-,1", 2, 4);
+    program("P,a N,E,, N,X,, B,0,-,1 B,0,-,1", 7, 5);
+    program("P,a N,E,, N,X,, B,0,-,1 B,0,x,1", 8, 1);
+    program("P,a N,E,, N,X,, B,0,x,1", 8, 1);
+    program("P,a N,E,, N,C,l,b N,X,, B,0,-,1 B,1,-,2", 9, 3);
+    program("P,a N,E,, N,C,l,b N,X,, B,0,-,1 B,1,-,2 P,c", 8, 7);
+    program("P,a N,X,, N,E,, B,1,-,1", 0, 0);
+}
+
+#[test]
+fn refusals_of_tests() {
+    let both = text(P2_OLD);
+    let tests = |bytes: &[u8]| read_tests(&both, &both, bytes);
+    assert_eq!(tests(b""), Answer::success(0));
+    assert_eq!(tests(b"T,a,f8\nT,b,00\n"), Answer::success(0));
+    assert_eq!(tests(b"T,a,f8"), Answer::new(2, 1));
+    assert_eq!(tests(b"T,a,f,8\n"), Answer::new(2, 1));
+    assert_eq!(tests(b"T,a,\n"), Answer::new(10, 1));
+    assert_eq!(tests(b"T,a,F8\n"), Answer::new(10, 1));
+    assert_eq!(tests(b"T,a,f4\n"), Answer::new(10, 1));
+    assert_eq!(tests(b"T,a,f8\nT,a,\xff\n"), Answer::new(5, 2));
+}
+
+#[test]
+fn refusals_of_sheets() {
+    let (old, new, tests) = (text(P2_OLD), text(P2_NEW), text(P2_TESTS));
+    let judged = |lines: &str| check(&old, &new, &tests, &text(lines));
+    assert_eq!(judged(P2_SHEET), Answer::success(0));
+    assert_eq!(judged(""), Answer::new(11, 1));
+    assert_eq!(judged("sheet,1"), Answer::new(11, 2));
+    assert_eq!(judged("M,0,0"), Answer::new(11, 1));
+    assert_eq!(judged("sheet,1 sheet,1"), Answer::new(11, 2));
+    assert_eq!(judged("sheet,1 M,0,0 M,0,0"), Answer::new(11, 3));
+    assert_eq!(judged("sheet,1 M,0,5"), Answer::new(11, 2));
+    assert_eq!(judged("sheet,1 D,1 M,0,0"), Answer::new(11, 3));
+    assert_eq!(judged("sheet,1 R,t2 R,t1"), Answer::new(11, 3));
+    assert_eq!(judged("sheet,1 R,t3"), Answer::new(11, 2));
+    assert_eq!(judged("sheet,1 end,0,0,1"), Answer::new(11, 2));
+    assert_eq!(judged("sheet,1 end,0,0,0 D,1"), Answer::new(11, 3));
+    assert_eq!(judged("sheet,1 end,0,0,0 D,01"), Answer::new(2, 3));
+    assert_eq!(judged("sheet,1 end,0,0,0"), Answer::new(12, 1));
+    assert_eq!(judged("sheet,1 M,0,0 M,2,2 end,2,0,0"), Answer::new(12, 2));
+    assert_eq!(judged("sheet,1 M,0,0 D,0 end,1,1,0"), Answer::new(12, 5));
+}
+
+#[test]
+fn own_number_and_output() {
+    let (old, new, tests) = (text(P2_OLD), text(P2_NEW), text(P2_TESTS));
+    let mut out = [b'#'; 64];
+    for test in [2, usize::MAX] {
+        let answer = record(&old, &new, &tests, test, &mut out);
+        assert_eq!(answer, Answer::new(6, 0));
+    }
+    let length = text(P2_SHEET).len();
+    assert_eq!(
+        sheet(&old, &new, &tests, &mut out[..length - 1]),
+        Answer::new(16, 0)
+    );
+    assert_eq!(out, [b'#'; 64]);
+    let answer = sheet(&old, &new, &tests, &mut out);
+    assert_eq!(answer, Answer::success(length));
+    assert_eq!(out[..length], text(P2_SHEET));
+    assert!(out[length..].iter().all(|&byte| byte == b'#'));
+}
+
+/// Entry, `count` equal steps in a ring, exit.
+fn ring(count: usize) -> Vec<u8> {
+    let mut lines = String::from("P,a\nN,E,,\n");
+    for _ in 0..count {
+        lines += "N,S,s,\n";
+    }
+    lines += "N,X,,\nB,0,-,1\n";
+    for at in 0..count {
+        lines += &format!("B,{},go,{}\n", at + 1, (at + 1) % count + 1);
+    }
+    lines += &format!("B,1,out,{}\n", count + 1);
+    lines.into_bytes()
+}
+
+#[test]
+fn pairs_at_the_limit() {
+    let mut out = vec![0; 65_536];
+    assert_eq!(sheet(&ring(46), &ring(89), b"", &mut out).number, 0);
+    assert!(out.windows(12).any(|part| part == b"end,4096,1,0"));
+    assert_eq!(
+        sheet(&ring(63), &ring(65), b"", &mut out),
+        Answer::new(15, 0)
+    );
+    assert_eq!(
+        record(&ring(63), &ring(65), b"", 0, &mut out),
+        Answer::new(6, 0)
+    );
+}

@@ -1,0 +1,94 @@
+//! Whole jobs: each call reads its texts in order and answers.
+
+use super::closing::{self, Graph};
+use super::program::{self, Program};
+use super::sheet::{self, Joined};
+use super::suite::{self, Suite};
+use crate::answer::{Answer, Outcome};
+
+/// Both programs and the tests, read.
+pub struct Job<'a> {
+    pub old: Program<'a>,
+    pub new: Program<'a>,
+    pub suite: Suite<'a>,
+}
+
+impl<'a> Job<'a> {
+    /// Reads the three texts in order; the first refusal is the answer.
+    pub fn read(old: &'a [u8], new: &'a [u8], tests: &'a [u8]) -> Outcome<Job<'a>> {
+        let old = program::read(old)?;
+        let new = program::read(new)?;
+        let suite = suite::read(tests, old.edges.len())?;
+        Ok(Job { old, new, suite })
+    }
+
+    pub fn graphs(&self) -> (Graph<'_>, Graph<'_>) {
+        closing::graphs(&self.old, &self.new)
+    }
+}
+
+/// More pairs than the limit exist.
+const TOO_MANY: Answer = Answer::new(15, 0);
+
+fn answer(outcome: Outcome<Answer>) -> Answer {
+    outcome.unwrap_or_else(|refusal| refusal)
+}
+
+/// Reads the old program.
+pub fn read_old(old: &[u8]) -> Answer {
+    answer(program::read(old).map(|_| Answer::success(0)))
+}
+
+/// Reads the old, then the new program.
+pub fn read_new(old: &[u8], new: &[u8]) -> Answer {
+    let read = || {
+        program::read(old)?;
+        program::read(new)?;
+        Ok(Answer::success(0))
+    };
+    answer(read())
+}
+
+/// Reads both programs, then the tests.
+pub fn read_tests(old: &[u8], new: &[u8], tests: &[u8]) -> Answer {
+    answer(Job::read(old, new, tests).map(|_| Answer::success(0)))
+}
+
+/// Writes the sheet.
+pub fn sheet(old: &[u8], new: &[u8], tests: &[u8], out: &mut [u8]) -> Answer {
+    let job = match Job::read(old, new, tests) {
+        Ok(job) => job,
+        Err(refusal) => return refusal,
+    };
+    let (old, new) = job.graphs();
+    match closing::close(&old, &new, |_, _| ()) {
+        None => TOO_MANY,
+        Some(closing) => sheet::write(&job, &closing, out),
+    }
+}
+
+/// Writes one test's record line.
+pub fn record(old: &[u8], new: &[u8], tests: &[u8], test: usize, out: &mut [u8]) -> Answer {
+    let job = match Job::read(old, new, tests) {
+        Ok(job) => job,
+        Err(refusal) => return refusal,
+    };
+    if test >= job.suite.len() {
+        return Answer::new(6, 0);
+    }
+    let row = job.suite.row(test);
+    let (old, new) = job.graphs();
+    let mut joined = Joined::default();
+    match closing::close(&old, &new, |edge, other| joined.keep(row, edge, other)) {
+        None => TOO_MANY,
+        Some(closing) => sheet::write_record(&job, &closing, &joined, test, out),
+    }
+}
+
+/// Checks a sheet.
+pub fn check(old: &[u8], new: &[u8], tests: &[u8], sheet: &[u8]) -> Answer {
+    match Job::read(old, new, tests) {
+        Ok(job) => super::check::check(&job, sheet),
+        Err(refusal) => refusal,
+    }
+}

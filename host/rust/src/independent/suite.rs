@@ -1,0 +1,149 @@
+//! The reader of test files, and rows of coverage.
+
+use super::text::{limited, Cursor, Name, Names};
+use crate::answer::{Answer, Outcome};
+
+pub const TEST_LIMIT: usize = 200;
+
+/// Edges as bits: edge 0 is the highest bit of the first word.
+pub const ROW_WORDS: usize = 16;
+
+/// The word and the bit of an edge.
+pub fn place_of(edge: usize) -> (usize, u64) {
+    (edge / 64, 1 << (63 - edge % 64))
+}
+
+/// Whether a row holds an edge.
+pub fn holds(row: &[u64], edge: usize) -> bool {
+    let (word, bit) = place_of(edge);
+    row[word] & bit != 0
+}
+
+/// Whether two rows have an edge in common.
+pub fn meet(row: &[u64], other: &[u64]) -> bool {
+    row.iter().zip(other).any(|(a, b)| a & b != 0)
+}
+
+pub struct Suite<'a> {
+    names: Names,
+    parts: Vec<&'a [u8]>,
+    /// The tests' rows one after another, `width` words each.
+    rows: Vec<u64>,
+    width: usize,
+}
+
+impl<'a> Suite<'a> {
+    pub fn len(&self) -> usize {
+        self.parts.len()
+    }
+
+    pub fn is_empty(&self) -> bool {
+        self.parts.is_empty()
+    }
+
+    pub fn name(&self, test: usize) -> &'a [u8] {
+        self.parts[test]
+    }
+
+    pub fn row(&self, test: usize) -> &[u64] {
+        &self.rows[test * self.width..][..self.width]
+    }
+
+    pub fn find(&self, name: Name) -> Option<usize> {
+        self.names.find(name)
+    }
+}
+
+/// The value of a lower-case hexadecimal digit, 255 for another byte.
+const DIGIT: [u8; 256] = {
+    let mut table = [255; 256];
+    let mut value = 0;
+    while value < 16 {
+        table[b"0123456789abcdef"[value as usize] as usize] = value;
+        value += 1;
+    }
+    table
+};
+
+/// Appends the row that these digits write; false if one is no digit or a
+/// spare bit is 1.
+fn push_row(rows: &mut Vec<u64>, digits: &[u8], edges: usize) -> bool {
+    let mut all = 0;
+    let mut last = 0;
+    for chunk in digits.chunks(16) {
+        let mut word = 0;
+        for &byte in chunk {
+            let value = DIGIT[byte as usize];
+            all |= value;
+            word = word << 4 | u64::from(value & 15);
+        }
+        last = word << (64 - 4 * chunk.len());
+        rows.push(last);
+    }
+    let used = edges % 64;
+    let spare = if used == 0 { 0 } else { u64::MAX >> used };
+    all < 16 && last & spare == 0
+}
+
+/// Reads a test file against the number of old edges.
+pub fn read(text: &[u8], edges: usize) -> Outcome<Suite<'_>> {
+    limited(text)?;
+    let digits = edges.div_ceil(4);
+    let width = edges.div_ceil(64);
+    // The shortest line that is right has 5 bytes and its row.
+    let room = (text.len() / (5 + digits)).min(TEST_LIMIT);
+    let mut suite = Suite {
+        names: Names::with_limit(room + 1),
+        parts: Vec::with_capacity(room),
+        rows: Vec::with_capacity((room + 1) * width),
+        width,
+    };
+    let mut cursor = Cursor::new(text);
+    let mut number = 0;
+    while !cursor.at_end() {
+        number += 1;
+        let Some((name, part, row)) = line(&mut cursor, digits) else {
+            return Err(Answer::new(2, number));
+        };
+        if suite.parts.len() == TEST_LIMIT {
+            return Err(Answer::new(4, number));
+        }
+        if suite.names.add(name).is_none() {
+            return Err(Answer::new(5, number));
+        }
+        if row.len() != digits || !push_row(&mut suite.rows, row, edges) {
+            return Err(Answer::new(10, number));
+        }
+        suite.parts.push(part);
+    }
+    Ok(suite)
+}
+
+/// A line's packed name, name and row field.
+fn line<'a>(cursor: &mut Cursor<'a>, digits: usize) -> Option<(Name, &'a [u8], &'a [u8])> {
+    cursor.eat(b'T')?;
+    cursor.eat(b',')?;
+    let (name, part) = cursor.name()?;
+    cursor.eat(b',')?;
+    let rest = cursor.rest();
+    let length = match rest.get(digits) {
+        // The field ends where it should unless it ends before.
+        Some(b'\n') if !ends_within(&rest[..digits]) => digits,
+        _ => {
+            let end = rest.iter().position(|&b| b == b'\n' || b == b',')?;
+            if rest[end] == b',' {
+                return None;
+            }
+            end
+        }
+    };
+    cursor.pass(length + 1);
+    Some((name, part, &rest[..length]))
+}
+
+/// Whether a comma or byte 10 is among these bytes, without leaving early.
+fn ends_within(bytes: &[u8]) -> bool {
+    bytes
+        .iter()
+        .fold(false, |found, &b| found | (b == b'\n') | (b == b','))
+}
