@@ -7,3 +7,4 @@ pub mod Slices
 pub mod Tables
 pub mod Bits
 pub mod Chain
+pub mod Those

@@ -42,6 +42,32 @@ unfolding _or_
 or-right true e = refl
 or-right false e = e
 
+-- A test with one that always passes, or never does; three tests in a row.
+pub and-ends : (b : Bool) → (b and true) ≡ b
+unfolding _and_
+and-ends true = refl
+and-ends false = refl
+
+pub and-not : (b : Bool) → (b and false) ≡ false
+unfolding _and_
+and-not true = refl
+and-not false = refl
+
+pub and-assoc : (a b d : Bool) → (a and b and d) ≡ ((a and b) and d)
+unfolding _and_
+and-assoc true b d = refl
+and-assoc false b d = refl
+
+pub or-ends : (b : Bool) → (b or false) ≡ b
+unfolding _or_
+or-ends true = refl
+or-ends false = refl
+
+pub or-assoc : (a b d : Bool) → (a or b or d) ≡ ((a or b) or d)
+unfolding _or_
+or-assoc true b d = refl
+or-assoc false b d = refl
+
 -- What the second test says where the first passes, and the other way.
 pub implied : (a b : Bool) → (a ⇒ b) ≡ true → a ≡ true → b ≡ true
 unfolding _⇒_

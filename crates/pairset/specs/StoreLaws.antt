@@ -11,33 +11,13 @@ use lib.Dec.{eqb}
 use lib.ListN.{length, getD, set, replicate, length-set, length-replicate, getD-replicate}
 use lib.Seq.{sets, length-sets, getD-set-same, getD-set-other}
 use Rattle.laws.specs.Tests.{_and_, _or_, choose, every, any, listed, allPairs, anyPair}
-use Rattle.laws.specs.TestLaws.{and-left, and-right, and-both, any-at, any-of}
+use Rattle.laws.specs.TestLaws.{and-assoc, and-both, and-ends, and-left, and-right, any-at, any-of, or-assoc, or-ends}
 use Rattle.laws.specs.Lists.{choose-yes, choose-no, snoc-length}
 use Rattle.laws.specs.Slices.{below-or, same-or, getD-sets-before, getD-sets-in}
 use Rattle.laws.specs.Chain.{latest, latest-none, Chained, chain-none, chain-more, link-le}
 use Rattle.pairset.specs.Store.{headAt, oldAt, newAt, linkAt, pairsIn, Store, lastPair, pairBefore}
 
 -- ---- lists of pairs with one more
-
-or-ends : (b : Bool) → (b or false) ≡ b
-unfolding _or_
-or-ends true = refl
-or-ends false = refl
-
-or-assoc : (a b d : Bool) → (a or b or d) ≡ ((a or b) or d)
-unfolding _or_
-or-assoc true b d = refl
-or-assoc false b d = refl
-
-and-ends : (b : Bool) → (b and true) ≡ b
-unfolding _and_
-and-ends true = refl
-and-ends false = refl
-
-and-assoc : (a b d : Bool) → (a and b and d) ≡ ((a and b) and d)
-unfolding _and_
-and-assoc true b d = refl
-and-assoc false b d = refl
 
 module _ (x : ℕ × ℕ) where
   pub listed-snoc : (l : List (ℕ × ℕ)) (n k : ℕ) → listed (l ++ (x ∷ [])) n k ≡ (listed l n k or (eqb (x .0) n and eqb (x .1) k))

@@ -27,10 +27,11 @@ use Rattle.versions.specs.MemoryLaws.{source-is, well-formed}
 use Rattle.versions.specs.Found.{found-any, found-not}
 use Rattle.versions.specs.Claims.{Fitting, GoesOn}
 use Rattle.versions.specs.Held.{dangerous-agree}
-use Rattle.selection.specs.Any.{any-skip}
+use Rattle.laws.specs.Those.{any-skip}
 use Rattle.selection.specs.Compared.{Compared, partner-below}
 use Rattle.selection.specs.Dangers.{DangerWord, DangersMarked, Endangers, IsDangerous, Marks, Repeats}
-use Rattle.selection.specs.DangerLaws.{danger-below, danger-has, row-meets}
+use Rattle.rules.specs.Proofs.Closure.{dangers-inside}
+use Rattle.selection.specs.DangerLaws.{danger-has, row-meets}
 
 -- ---- walks along the pairs of an old node
 
@@ -72,7 +73,7 @@ module _ (ot on ol nt nn nl w : List ℕ) (e n m : ℕ) (g : Bool) (go : GoesOn 
 
 pub danger-past : (v v′ : Memory) (w : List ℕ) (edges e : ℕ) → edges ≤ e → IsDangerous v v′ w edges e false
 unfolding IsDangerous
-danger-past v v′ w edges e l o p c h q = sym (fails _ (λ t. let z : ⊥ = omega (arith, danger-below (o .program) (p .program) e t) in z))
+danger-past v v′ w edges e l o p c h q = sym (fails _ (λ t. let z : ⊥ = omega (arith, dangers-inside (o .program) (p .program) e t) in z))
 
 -- The edge is dangerous just where it is for one of the pairs below the place.
 unfoldable pub DangerBelow : Memory → Memory → List ℕ → ℕ → ℕ → ℕ → ℕ → Type 0

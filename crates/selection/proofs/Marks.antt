@@ -24,7 +24,7 @@ use Rattle.pairset.specs.StoreLaws.{walked}
 use Rattle.suite.specs.Rows.{edgeBit}
 use Rattle.versions.specs.Memory.{Memory, memory}
 use Rattle.versions.specs.Found.{found-at, found-none}
-use Rattle.selection.specs.Any.{any-more, any-skip}
+use Rattle.laws.specs.Those.{any-more, any-skip}
 use Rattle.selection.specs.Compared.{Compared, counterpart, joins-lead, leads-any}
 use Rattle.selection.specs.Marks.{AllCarried, AllRaised, Carried, Carries, CarriesTo, Finds, Joins, MarksFound, Only, Raises, carried, carriesOnlyTo, carriesTo, markedOne, raised, sole}
 use Rattle.selection.specs.MarkLaws.{carried-before, carried-more, carried-none, carried-only, mark-left, mark-repeated, marks-by}

@@ -9,26 +9,11 @@ use lib.Dec.{eqb, leb, ltb}
 use lib.ListN.{length}
 use borrow.Author.Tests.{eq-eqb, eqb-true, le-leb, le-ltb, lt-leb, lt-ltb, ltb-true, ne-eqb}
 use Rattle.laws.specs.Tests.{_and_, _or_, allPairs, has, none?}
-use Rattle.laws.specs.TestLaws.{and-both, and-left, and-right, or-cases, or-left, or-right, same-test}
+use Rattle.laws.specs.TestLaws.{and-assoc, and-both, and-ends, and-left, and-not, and-right, or-cases, or-left, or-right, same-test}
 use Rattle.laws.specs.Slices.{below-or, same-or}
 use Rattle.rules.specs.Sheet.{allBelow, before}
 use Rattle.pairset.specs.StoreLaws.{allPairs-snoc}
 use Rattle.sheet_reader.specs.Reading.{PairsUpTo, UpTo}
-
-and-ends : (b : Bool) → (b and true) ≡ b
-unfolding _and_
-and-ends true = refl
-and-ends false = refl
-
-and-not : (b : Bool) → (b and false) ≡ false
-unfolding _and_
-and-not true = refl
-and-not false = refl
-
-and-assoc : (a b d : Bool) → (a and b and d) ≡ ((a and b) and d)
-unfolding _and_
-and-assoc true b d = refl
-and-assoc false b d = refl
 
 -- Where the first test passes, the second may be another that agrees.
 pub and-when : (a b d : Bool) → (a ≡ true → b ≡ d) → (a and b) ≡ (a and d)

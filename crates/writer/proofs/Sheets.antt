@@ -8,8 +8,9 @@ use lib.ListN.{length, getD, take, length-take}
 use lib.Seq.{take-all}
 use borrow.Author.Tests.{le-ltb, leb-true, lt-ltb}
 use Rattle.laws.specs.Tests.{_and_, count, has, listed, pick, grid, those}
-use Rattle.laws.specs.TestLaws.{and-left, and-right, grid-ascends, grid-of, pick-ascends, pick-at, pick-of, same-test, those-at}
+use Rattle.laws.specs.TestLaws.{and-left, and-right, grid-ascends, grid-of, pick-ascends, pick-at, pick-of, same-test}
 use Rattle.laws.specs.Lists.{choose-no, choose-yes}
+use Rattle.laws.specs.Those.{those-agree, those-count}
 use Rattle.laws.specs.Bits.{bitIn}
 use Rattle.rules.specs.Text.{Bytes, accepted, between, isName, textOf}
 use Rattle.rules.specs.Graph.{Program, edgeCount, nodeCount}
@@ -17,14 +18,14 @@ use Rattle.rules.specs.Closing.{dangers, dangerous, holds, meets, pairs, repeat
 use Rattle.rules.specs.SuiteFile.{TestListing, coverageAt, readTests, testCount, testName}
 use Rattle.rules.specs.Sheet.{Sheet, crossed, dLine, endLine, headLine, mLine, rLine, recordText, selected, sheetLines, sheetText, vLine}
 use Rattle.rules.specs.Job.{Outcome, outputAfter, refusal, wrote}
-use Rattle.rules.specs.Proofs.Closure.{pairs-ascend, pairs-inside}
+use Rattle.rules.specs.Proofs.Closure.{dangers-inside, pairs-ascend, pairs-inside}
 use Rattle.text.specs.Puts.{Puts, puts-front, puts-length, puts-measure, puts-then}
 use Rattle.pairset.specs.Store.{newAt, oldAt, pairsIn}
 use Rattle.pairset.specs.StoreLaws.{listed-of}
 use Rattle.suite.specs.Rows.{Holds, rowOnes}
 use Rattle.suite.specs.RowLaws.{common-meets, name-read, ones-are, suite-read}
 use Rattle.versions.specs.Held.{PairsHeld}
-use Rattle.writer.specs.Laws.{asc-same, text-append, text-more, those-agree, those-count, those-self, those-map}
+use Rattle.writer.specs.Laws.{asc-same, text-append, text-more, those-map, those-self}
 use Rattle.writer.specs.Writes.{Writes, writes-length}
 use Rattle.writer.specs.Texts.{dangerText, pairText, repeatText, rowMeets, shortName, tableText}
 use Rattle.writer.specs.Claims.{NewBelow, Pairs, PairsPut}
@@ -65,11 +66,6 @@ module _ (old new : Program) (w : List ℕ) (c : ℕ) (held : PairsHeld old new 
   unfolding tableText pairText
   table-text = ap (λ (M : List (ℕ × ℕ)). textOf (map (λ x. mLine (x .0) (x .1)) M)) table-pairs
 
--- A dangerous edge is an edge.
-danger-inside : (old new : Program) (e : ℕ) → has (dangers old new) e ≡ true → e < edgeCount old
-unfolding dangers
-danger-inside old new e t = those-at _ _ e t .0
-
 module _ (old new : Program) (set : List ℕ) (few : edgeCount old ≤ 1024) (is : (e : ℕ) → e < 1024 → bitIn set e ≡ has (dangers old new) e) where
   set-dangers : those (edgeCount old) (bitIn set) ≡ dangers old new
   unfolding dangers
@@ -95,7 +91,7 @@ module _ (old new : Program) (set : List ℕ) (few : edgeCount old ≤ 1024) (is
         those-agree (rowMeets rows set) (λ i. meets (dangers old new) (coverageAt (l .suite) i)) n
         (λ i h.
         common-meets (edgeCount old) rows i (coverageAt (l .suite) i) few (hold .row i (omega (arith, hold .counted))) set (dangers old new)
-        (λ e h. is e (omega arith)) (danger-inside old new))
+        (λ e h. is e (omega arith)) (dangers-inside old new))
         ∙ ap (λ (k : ℕ). those k (λ i. meets (dangers old new) (coverageAt (l .suite) i))) q
 
     repeat-text : repeatText text tests rows set n ≡ textOf (map (λ i. rLine (testName (l .suite) i)) again)

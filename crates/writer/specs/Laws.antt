@@ -11,9 +11,10 @@ use native.Mathlib.Omega.{arith}
 use lib.Dec.{leb}
 use lib.ListN.{length}
 use borrow.Author.Tests.{eqb-true, le-leb, leb-true}
-use Rattle.laws.specs.Tests.{_and_, _or_, count, first, found, gridRow, has, ifTrue, keep, listed, orElse, pick, plus, those}
-use Rattle.laws.specs.TestLaws.{Ascending, Before, and-both, and-left, and-right, asc-more, asc-none, both-ways, eqb-self, fails, first-at, first-none, or-cases, or-left, or-right, same-test, those-at, those-of}
-use Rattle.laws.specs.Lists.{none-listed, snoc-length}
+use Rattle.laws.specs.Tests.{_and_, _or_, first, found, gridRow, has, ifTrue, keep, listed, orElse, pick, those}
+use Rattle.laws.specs.TestLaws.{Ascending, Before, and-both, and-left, and-right, asc-more, asc-none, both-ways, eqb-self, fails, first-at, first-none, or-cases, or-left, or-right, same-test}
+use Rattle.laws.specs.Lists.{none-listed}
+use Rattle.laws.specs.Those.{those-agree, those-has}
 use Rattle.rules.specs.Text.{Bytes, textOf}
 
 -- ---- lines
@@ -37,26 +38,9 @@ module _ (g : ℕ → Bool) (n : ℕ) where
   unfolding those
   those-skip e = rw add-one (rw (e, those))
 
--- Tests that agree below n give the same numbers.
-pub those-agree : (f g : ℕ → Bool) (n : ℕ) → ((i : ℕ) → i < n → f i ≡ g i) → those n f ≡ those n g
-unfolding those
-those-agree f g zero h = refl
-those-agree f g (suc n) h =
-    ap₂ (λ (b : Bool) (l : List ℕ). elim b [ true ↦ l ++ (n ∷ []) | false ↦ l ]) (h n (omega arith)) (those-agree f g n (λ i l. h i (omega arith)))
-
 -- The numbers that a list of such numbers has are the list.
 pub those-self : (f : ℕ → Bool) (n : ℕ) → those n (has (those n f)) ≡ those n f
-those-self f n = those-agree (has (those n f)) f n (λ i h. same-test _ _ (λ t. those-at f n i t .1) (λ t. those-of f n i h t))
-
--- There are as many as are counted.
-pub those-count : (f : ℕ → Bool) (n : ℕ) → length (those n f) ≡ count n f
-unfolding those count plus
-those-count f zero = refl
-those-count f (suc n) = go (f n) (those-count f n)
-  where
-    go : (b : Bool) → length (those n f) ≡ count n f → length {A = ℕ} (elim b [ true ↦ those n f ++ (n ∷ []) | false ↦ those n f ]) ≡ plus b (count n f)
-    go true h = snoc-length 0 (those n f) n ∙ ap suc h
-    go false h = h
+those-self f n = those-agree (has (those n f)) f n (those-has f n)
 
 -- What is made of them agrees where it agrees below n.
 pub those-map : (f g : ℕ → Bytes) (p : ℕ → Bool) (n : ℕ) → ((i : ℕ) → i < n → f i ≡ g i) → map f (those n p) ≡ map g (those n p)

@@ -93,6 +93,11 @@ module _ (old new : Program) where
   unfolding dangers
   dangers-rise = those-rise _ _
 
+  -- A dangerous edge is an old edge.
+  pub dangers-inside : (e : ℕ) → has (dangers old new) e ≡ true → e < edgeCount old
+  unfolding dangers
+  dangers-inside e t = those-at _ _ e t .0
+
   pub pairs-inside : (a b : ℕ) → listed (pairs old new) a b ≡ true → (a < nodeCount old) × (b < nodeCount new)
   pairs-inside a b l = grid-at _ _ a b (pick-at (pairs-picked .0) all a b (rw (pairs-picked .1) at l) .0)
 
