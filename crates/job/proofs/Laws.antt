@@ -6,13 +6,13 @@ use Prim.Native.Nat.{ℕ, _≤_, _<_}
 use native.Mathlib.Omega.{arith}
 use lib.ListN.{length, replicate}
 use lib.Seq.{sets}
-use borrow.Author.Tests.{eq-eqb, ne-eqb, le-leb, lt-leb}
+use borrow.Author.Tests.{eq-eqb, ne-eqb, le-leb, lt-leb, leb-true}
 use Rattle.laws.specs.Tests.{_and_, choose}
-use Rattle.laws.specs.Slices.{below-or, same-or}
+use Rattle.laws.specs.TestLaws.{and-right}
 use Rattle.rules.specs.Text.{Bytes, Answer as Reading, refused, accepted}
-use Rattle.rules.specs.Graph.{nodeCount}
+use Rattle.rules.specs.Graph.{procCount, nodeCount, edgeCount}
 use Rattle.rules.specs.ProgramFile.{Listing, readListing}
-use Rattle.rules.specs.Job.{ofStage, stageAfter}
+use Rattle.rules.specs.Job.{ofStage, read-old, stageAfter}
 use Rattle.reader.specs.declared.Count.{Count}
 use Rattle.reader.specs.Result.{Told, ReadInto}
 use Rattle.program.specs.Lent.{copiedLinks}
@@ -23,54 +23,71 @@ use Rattle.records.specs.Jobs.{fresh, sameJob}
 use Rattle.records.specs.Nodes.{nodesOf}
 use Rattle.job.specs.declared.Taken.{Taken}
 use Rattle.job.specs.ReadOldLaws.{records-are}
-use Rattle.job.specs.ReadOld.{roomy, oldDue, oldRead, answered, recordsRead, countRead, linksRead, jobWithOld, oldJob, refusedTaken, withOld, takenOf, TakenBy, OldTaken, ReadOld}
+use Rattle.job.specs.ReadOld.{roomy, freshDue, oldDue, programRead, answered, recordsRead, countRead, linksRead, jobWithOld, oldJob, refusedTaken, withOld, takenOf, TakenBy, LeftBy, OldTaken, ReadOld}
 
--- ---- `old_due`
+-- ---- `long_enough`
+
+module _ (n l w : ℕ) where
+  pub room-nodes : n < 512 → false ≡ roomy n l w
+  unfolding roomy _and_
+  room-nodes h = simp (lt-leb 512 n h)
+
+  module _ (hn : 512 ≤ n) where
+    pub room-links : l < 6080 → false ≡ roomy n l w
+    unfolding roomy _and_
+    room-links h = simp (le-leb 512 n hn, lt-leb 6080 l h)
+
+    module _ (hl : 6080 ≤ l) where
+      pub room-work : w < 8128 → false ≡ roomy n l w
+      unfolding roomy _and_
+      room-work h = simp (le-leb 512 n hn, le-leb 6080 l hl, lt-leb 8128 w h)
+
+      pub room-all : 8128 ≤ w → true ≡ roomy n l w
+      unfolding roomy _and_
+      room-all h = simp (le-leb 512 n hn, le-leb 6080 l hl, le-leb 8128 w h)
+
+  pub roomy-work : roomy n l w ≡ true → 8128 ≤ w
+  unfolding roomy
+  roomy-work h = leb-true 8128 w (and-right _ _ (and-right _ _ h))
+
+-- ---- what is due before a call: 13 by the stage, 14 by the lengths, then d
+
+-- Where nothing is due the stage is right, the lengths are enough, and d is 0.
+pub none-due : (t u : Bool) (d : ℕ) → choose t (choose u d 14) 13 ≡ 0 → (t ≡ true) × (u ≡ true) × (d ≡ 0)
+unfolding choose
+none-due true true d h = (refl, refl, h)
+none-due true false d h = absurd (let z : ⊥ = omega (arith, h) in z)
+none-due false u d h = absurd (let z : ⊥ = omega (arith, h) in z)
+
+-- ---- `fresh_due` and `old_due`
+
+module _ (j : Job) (u : Bool) (e : u ≡ sameJob j fresh) where
+  pub fresh-yes : u ≡ true → 0 ≡ freshDue j
+  unfolding freshDue choose
+  fresh-yes t = simp (← e, t)
+
+  pub fresh-no : u ≡ false → 14 ≡ freshDue j
+  unfolding freshDue choose
+  fresh-no t = simp (← e, t)
 
 module _ (j : Job) (n l w : ℕ) where
   pub due-stage : (j .stage ≡ 0 → ⊥) → 13 ≡ oldDue j n l w
   unfolding oldDue ofStage choose
   due-stage h = simp (ne-eqb _ _ h)
 
-  module _ (st : j .stage ≡ 0) where
-    due-is : (t : Bool) → roomy n l w ≡ t → (u : Bool) → sameJob j fresh ≡ u → choose (t and u) 0 14 ≡ oldDue j n l w
+  module _ (st : j .stage ≡ 0) (u : Bool) (e : u ≡ roomy n l w) where
+    pub due-fresh : (d : ℕ) → u ≡ true → d ≡ freshDue j → d ≡ oldDue j n l w
     unfolding oldDue ofStage choose
-    due-is t et u eu = simp (eq-eqb _ _ st, et, eu)
+    due-fresh d t q = simp (eq-eqb _ _ st, ← e, t, q)
 
-    pub due-nodes : n < 512 → 14 ≡ oldDue j n l w
-    unfolding roomy _and_ choose
-    due-nodes h = due-is false (simp (lt-leb 512 n h)) (sameJob j fresh) refl
-
-    module _ (hn : 512 ≤ n) where
-      pub due-links : l < 6080 → 14 ≡ oldDue j n l w
-      unfolding roomy _and_ choose
-      due-links h = due-is false (simp (le-leb 512 n hn, lt-leb 6080 l h)) (sameJob j fresh) refl
-
-      module _ (hl : 6080 ≤ l) where
-        pub due-work : w < 8128 → 14 ≡ oldDue j n l w
-        unfolding roomy _and_ choose
-        due-work h = due-is false (simp (le-leb 512 n hn, le-leb 6080 l hl, lt-leb 8128 w h)) (sameJob j fresh) refl
-
-        module _ (hw : 8128 ≤ w) where
-          pub due-none : (u : Bool) → u ≡ sameJob j fresh → u ≡ true → 0 ≡ oldDue j n l w
-          unfolding roomy _and_ choose
-          due-none u e t = due-is true (simp (le-leb 512 n hn, le-leb 6080 l hl, le-leb 8128 w hw)) true (sym e ∙ t)
-
-          pub due-job : (u : Bool) → u ≡ sameJob j fresh → u ≡ false → 14 ≡ oldDue j n l w
-          unfolding roomy _and_ choose
-          due-job u e t = due-is true (simp (le-leb 512 n hn, le-leb 6080 l hl, le-leb 8128 w hw)) false (sym e ∙ t)
+    pub due-short : u ≡ false → 14 ≡ oldDue j n l w
+    unfolding oldDue ofStage choose
+    due-short t = simp (eq-eqb _ _ st, ← e, t)
 
   -- Where nothing is due the scratch is long enough.
   pub due-room : (due : ℕ) → due ≡ oldDue j n l w → due ≡ 0 → 8128 ≤ w
-  due-room due e z =
-      let none : (k : ℕ) → 0 < k → k ≡ oldDue j n l w → 8128 ≤ w = λ k b q. absurd (let x : ⊥ = omega arith in x) in
-      same-or (j .stage) 0
-      (λ st. below-or n 512
-      (λ h. none 14 (omega arith) (due-nodes st h))
-      (λ hn. below-or l 6080
-      (λ h. none 14 (omega arith) (due-links st hn h))
-      (λ hl. below-or w 8128 (λ h. none 14 (omega arith) (due-work st hn hl h)) (λ h. h))))
-      (λ h. none 13 (omega arith) (due-stage h))
+  unfolding oldDue
+  due-room due e z = roomy-work n l w (none-due (ofStage read-old (j .stage)) (roomy n l w) (freshDue j) (sym e ∙ z) .1)
 
 -- ---- `with_old`
 
@@ -79,70 +96,95 @@ pub with-old : (c : Count) (st p n e a b d t : ℕ) → st ≡ 1 → p ≡ c .pr
 unfolding withOld jobWithOld stageAfter
 with-old c st p n e a b d t h₀ h₁ h₂ h₃ h₄ h₅ h₆ h₇ = rw (h₀, h₁, h₂, h₃, h₄, h₅, h₆, h₇)
 
--- ---- `take_old`
+job-counted : (j : Job) (s : Listing) (c : Count) → c .procs ≡ procCount (s .program) → c .nodes ≡ nodeCount (s .program) → c .edges ≡ edgeCount (s .program) → oldJob j (accepted s) ≡ withOld c
+unfolding oldJob withOld jobWithOld
+job-counted j s c p q r = rw (p, q, r)
 
--- A refusal.
-left-refused : (k p : ℕ) (j : Job) (l w : List ℕ) → TakenBy (refused k p) j (refusedTaken j k p) l l w
-unfolding takenOf oldJob answered countRead linksRead recordsRead nodesOf
-left-refused k p j l w = record { taken = refl; links-are = refl; nodes-are = refl }
+-- ---- reading a program on values, where `due` is due before it
 
-module _ (j : Job) (room : ℕ) (text : Bytes) (l : List ℕ) (work due : ℕ) (ed : due ≡ oldDue j room (length l) work) where
-  pub taken-due : (w : List ℕ) (r : Taken) → (due ≡ 0 → ⊥) → r ≡ refusedTaken j due 0 → OldTaken j room text r l l work w
-  unfolding oldRead choose
-  taken-due w r h e =
-      let a : oldRead j room (length l) work text ≡ refused due 0 = simp (← ed, ne-eqb _ _ h) in
-      subst (λ (x : Taken). OldTaken j room text x l l work w) (sym e) (record { by = subst (λ (x : Reading Listing). TakenBy x j (refusedTaken j due 0) l l w) (sym a) (left-refused due 0 j l w) })
+module _ (after : Reading Listing → Job) (j : Job) (still : (k p : ℕ) → after (refused k p) ≡ j) (text : Bytes) (l : List ℕ) where
+  left-refused : (k p : ℕ) (w : List ℕ) → TakenBy after (refused k p) (refusedTaken j k p) l l w
+  unfolding takenOf answered countRead linksRead recordsRead nodesOf
+  left-refused k p w = record { taken = ap (λ (x : Job). refusedTaken x k p) (sym (still k p)); links-are = refl; nodes-are = refl }
 
-  module _ (z : due ≡ 0) where
-    goes-by : oldRead j room (length l) work text ≡ readListing text
-    unfolding oldRead choose
-    goes-by = simp (← ed, eq-eqb _ _ z)
+  pub due-taken : (due : ℕ) (w : List ℕ) (r : Taken) → (due ≡ 0 → ⊥) → r ≡ refusedTaken j due 0 → TakenBy after (programRead due text) r l l w
+  unfolding programRead choose
+  due-taken due w r h e =
+      let a : programRead due text ≡ refused due 0 = simp (ne-eqb _ _ h) in
+      subst (λ (x : Taken). TakenBy after (programRead due text) x l l w) (sym e) (subst (λ (x : Reading Listing). TakenBy after x (refusedTaken j due 0) l l w) (sym a) (left-refused due 0 w))
 
-    by-reading : (r : Taken) (l′ w : List ℕ) → TakenBy (readListing text) j r l l′ w → OldTaken j room text r l l′ work w
-    by-reading r l′ w t = record { by = subst (λ (x : Reading Listing). TakenBy x j r l l′ w) (sym goes-by) t }
+  module _ (due : ℕ) (z : due ≡ 0) (had : Count) (w : List ℕ) (h : ReadInto text had w) where
+    goes-by : programRead due text ≡ readListing text
+    unfolding programRead choose
+    goes-by = simp (eq-eqb _ _ z)
 
-    module _ (had : Count) (w : List ℕ) (h : ReadInto text had w) where
-      stop : (x : Reading Listing) → Told x had w → (had .number ≡ 0 → ⊥) → TakenBy x j (refusedTaken j (had .number) (had .place)) l l w
-      stop (refused k p) t n = subst (λ (x : Taken). TakenBy (refused k p) j x l l w) (sym (ap₂ (refusedTaken j) (t .0) (t .1))) (left-refused k p j l w)
-      stop (accepted s) t n = absurd (n (t .0))
+    stop : (x : Reading Listing) → Told x had w → (had .number ≡ 0 → ⊥) → TakenBy after x (refusedTaken j (had .number) (had .place)) l l w
+    stop (refused k p) t n = subst (λ (x : Taken). TakenBy after (refused k p) x l l w) (sym (ap₂ (refusedTaken j) (t .0) (t .1))) (left-refused k p w)
+    stop (accepted s) t n = absurd (n (t .0))
 
-      pub taken-refused : (number : ℕ) (r : Taken) → number ≡ had .number → (number ≡ 0 → ⊥) → r ≡ refusedTaken j number (had .place) → OldTaken j room text r l l work w
-      taken-refused number r en n e =
-          subst (λ (x : Taken). OldTaken j room text x l l work w) (sym (e ∙ ap (λ (k : ℕ). refusedTaken j k (had .place)) en))
-          (by-reading _ l w (stop (readListing text) (h .told) (λ q. n (en ∙ q))))
+    pub text-refused : (number : ℕ) (r : Taken) → number ≡ had .number → (number ≡ 0 → ⊥) → r ≡ refusedTaken j number (had .place) → TakenBy after (programRead due text) r l l w
+    text-refused number r en n e =
+        subst (λ (x : Taken). TakenBy after (programRead due text) x l l w) (sym (e ∙ ap (λ (k : ℕ). refusedTaken j k (had .place)) en))
+        (subst (λ (x : Reading Listing). TakenBy after x (refusedTaken j (had .number) (had .place)) l l w) (sym goes-by) (stop (readListing text) (h .told) (λ q. n (en ∙ q))))
 
-      done : (x : Reading Listing) → Told x had w → had .number ≡ 0 → 8128 ≤ length w → TakenBy x j (record { job = withOld had; number = 0; place = 0; nodes = had .nodes }) l (copiedLinks w had l) w
-      unfolding takenOf oldJob answered countRead linksRead recordsRead withOld
+    module _ (k : Job) (moved : (s : Listing) → had .procs ≡ procCount (s .program) → had .nodes ≡ nodeCount (s .program) → had .edges ≡ edgeCount (s .program) → after (accepted s) ≡ k) where
+      done : (x : Reading Listing) → Told x had w → had .number ≡ 0 → 8128 ≤ length w → TakenBy after x (record { job = k; number = 0; place = 0; nodes = had .nodes }) l (copiedLinks w had l) w
+      unfolding takenOf answered countRead linksRead recordsRead
       done (refused k p) t n b = absurd (let y : ⊥ = omega (arith, t .0, t .2) in y)
       done (accepted s) t n b =
           record {
-            taken = rw (t .2 .procs-n, t .2 .nodes-n, t .2 .edges-n);
+            taken = rw (moved s (t .2 .procs-n) (t .2 .nodes-n) (t .2 .edges-n), t .2 .nodes-n);
             links-are = links-copied w had s (t .2) (h .small) b l;
             nodes-are = records-are w had s (t .2) (nodeCount (s .program)) (omega arith);
           }
 
-      pub taken-done : (number : ℕ) (l′ : List ℕ) (k : Job) → number ≡ had .number → number ≡ 0 → 8128 ≤ length w → l′ ≡ copiedLinks w had l → k ≡ withOld had
-          → OldTaken j room text (record { job = k; number = 0; place = 0; nodes = had .nodes }) l l′ work w
-      taken-done number l′ k en n b el ek =
-          subst (λ (x : Job). OldTaken j room text (record { job = x; number = 0; place = 0; nodes = had .nodes }) l l′ work w) (sym ek)
-          (subst (λ (x : List ℕ). OldTaken j room text (record { job = withOld had; number = 0; place = 0; nodes = had .nodes }) l x work w) (sym el)
-          (by-reading _ (copiedLinks w had l) w (done (readListing text) (h .told) (sym en ∙ n) b)))
+      pub text-taken : (number : ℕ) (l′ : List ℕ) → number ≡ had .number → number ≡ 0 → 8128 ≤ length w → l′ ≡ copiedLinks w had l
+          → TakenBy after (programRead due text) (record { job = k; number = 0; place = 0; nodes = had .nodes }) l l′ w
+      text-taken number l′ en n b el =
+          subst (λ (x : List ℕ). TakenBy after (programRead due text) (record { job = k; number = 0; place = 0; nodes = had .nodes }) l x w) (sym el)
+          (subst (λ (x : Reading Listing). TakenBy after x (record { job = k; number = 0; place = 0; nodes = had .nodes }) l (copiedLinks w had l) w) (sym goes-by) (done (readListing text) (h .told) (sym en ∙ n) b))
 
-pub ruleset all = (due-stage, due-nodes, due-links, due-work, due-none, due-job, due-room, with-old, taken-due, taken-refused, taken-done)
+-- ---- `take_old`
 
--- ---- `read_old`
+module _ (j : Job) (room : ℕ) (text : Bytes) (l : List ℕ) (work due : ℕ) (ed : due ≡ oldDue j room (length l) work) where
+  by-due : (r : Taken) (l′ w : List ℕ) → TakenBy (oldJob j) (programRead due text) r l l′ w → OldTaken j room text r l l′ work w
+  by-due r l′ w t = record { by = subst (λ (k : ℕ). TakenBy (oldJob j) (programRead k text) r l l′ w) ed t }
+
+  stays : (k p : ℕ) → oldJob j (refused k p) ≡ j
+  unfolding oldJob
+  stays k p = refl
+
+  pub taken-due : (w : List ℕ) (r : Taken) → (due ≡ 0 → ⊥) → r ≡ refusedTaken j due 0 → OldTaken j room text r l l work w
+  taken-due w r h e = by-due r l w (due-taken (oldJob j) j stays text l due w r h e)
+
+  module _ (z : due ≡ 0) (had : Count) (w : List ℕ) (h : ReadInto text had w) where
+    pub taken-refused : (number : ℕ) (r : Taken) → number ≡ had .number → (number ≡ 0 → ⊥) → r ≡ refusedTaken j number (had .place) → OldTaken j room text r l l work w
+    taken-refused number r en n e = by-due r l w (text-refused (oldJob j) j stays text l due z had w h number r en n e)
+
+    pub taken-done : (number : ℕ) (l′ : List ℕ) (k : Job) → number ≡ had .number → number ≡ 0 → 8128 ≤ length w → l′ ≡ copiedLinks w had l → k ≡ withOld had
+        → OldTaken j room text (record { job = k; number = 0; place = 0; nodes = had .nodes }) l l′ work w
+    taken-done number l′ k en n b el ek =
+        by-due _ l′ w (text-taken (oldJob j) j stays text l due z had w h k (λ s p q r. moved s p q r ∙ sym ek) number l′ en n b el)
+      where
+        moved : (s : Listing) → had .procs ≡ procCount (s .program) → had .nodes ≡ nodeCount (s .program) → had .edges ≡ edgeCount (s .program) → oldJob j (accepted s) ≡ withOld had
+        moved s p q r = job-counted j s had p q r
+
+pub ruleset all = (room-nodes, room-links, room-work, room-all, fresh-yes, fresh-no, due-stage, due-fresh, due-short, due-room, with-old, taken-due, taken-refused, taken-done)
+
+-- ---- reading a program over lent memory
+
+pub left-is : (after : Reading Listing → Job) (a : Reading Listing) (n n′ : List Node) (l l′ w v w′ : List ℕ) (r : Taken) → TakenBy after a r l l′ v → n′ ≡ sets n 0 (nodesOf v (r .nodes)) → w′ ≡ replicate (length v) 0
+    → length v ≡ length w → LeftBy after a n l w (record { number = r .number; place = r .place }) (r .job) n′ l′ w′
+unfolding takenOf
+left-is after a n n′ l l′ w v w′ r b en ew e =
+    record {
+      answer-is = ap (λ (x : Taken). record { number = x .number; place = x .place }) (b .taken);
+      job-is = ap (λ (x : Taken). x .job) (b .taken);
+      nodes-are = en ∙ ap (λ (x : Taken). sets n 0 (nodesOf v (x .nodes))) (b .taken) ∙ ap (sets n 0) (b .nodes-are);
+      links-are = b .links-are;
+      scratch-is = ew ∙ ap (λ (k : ℕ). replicate k 0) e;
+    }
 
 pub read-old-is : (j : Job) (text : Bytes) (n n′ : List Node) (l l′ w v w′ : List ℕ) (r : Taken) → OldTaken j (length n) text r l l′ (length w) v → n′ ≡ sets n 0 (nodesOf v (r .nodes)) → w′ ≡ replicate (length v) 0
     → length v ≡ length w → ReadOld j text n l w (record { number = r .number; place = r .place }) (r .job) n′ l′ w′
-unfolding takenOf
-read-old-is j text n n′ l l′ w v w′ r t en ew e =
-    let b = t .by in
-    record {
-      left = record {
-        answer-is = ap (λ (x : Taken). record { number = x .number; place = x .place }) (b .taken);
-        job-is = ap (λ (x : Taken). x .job) (b .taken);
-        nodes-are = en ∙ ap (λ (x : Taken). sets n 0 (nodesOf v (x .nodes))) (b .taken) ∙ ap (sets n 0) (b .nodes-are);
-        links-are = b .links-are;
-        scratch-is = ew ∙ ap (λ (k : ℕ). replicate k 0) e;
-      };
-    }
+read-old-is j text n n′ l l′ w v w′ r t en ew e = record { left = left-is (oldJob j) _ n n′ l l′ w v w′ r (t .by) en ew e }

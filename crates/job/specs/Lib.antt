@@ -1,2 +1,4 @@
 pub mod ReadOld
 pub mod ReadOldLaws
+pub mod ReadNew
+pub mod ReadTests

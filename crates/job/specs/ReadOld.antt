@@ -26,18 +26,25 @@ use Rattle.job.specs.declared.Taken.{Taken}
 unfoldable pub roomy : ℕ → ℕ → ℕ → Bool
 roomy nodes links work = leb 512 nodes and (leb 6080 links and leb 8128 work)
 
+-- 14 where the job is not a fresh one, else 0.
+unfoldable pub freshDue : Job → ℕ
+freshDue j = choose (sameJob j fresh) 0 14
+
 -- 13, 14, or 0 where neither is due.
 unfoldable pub oldDue : Job → ℕ → ℕ → ℕ → ℕ
-oldDue j nodes links work = choose (ofStage read-old (j .stage)) (choose (roomy nodes links work and sameJob j fresh) 0 14) 13
+oldDue j nodes links work = choose (ofStage read-old (j .stage)) (choose (roomy nodes links work) (freshDue j) 14) 13
 
--- What the call has to go by: the refusal that is due, or what reading the text gives.
-unfoldable pub oldRead : Job → ℕ → ℕ → ℕ → Bytes → Reading Listing
-oldRead j nodes links work text = choose (eqb (oldDue j nodes links work) 0) (readListing text) (refused (oldDue j nodes links work) 0)
+-- What a call that reads a program has to go by: the refusal that is due, or what reading the text gives.
+unfoldable pub programRead : ℕ → Bytes → Reading Listing
+programRead due text = choose (eqb due 0) (readListing text) (refused due 0)
+
+abbrev pub oldRead : Job → ℕ → ℕ → ℕ → Bytes → Reading Listing
+oldRead j nodes links work text = programRead (oldDue j nodes links work) text
 
 -- ---- what it leaves
 
 -- The number and place.
-unfoldable pub answered : Reading Listing → Answer
+unfoldable pub answered : {A : Type 0} → Reading A → Answer
 answered (refused k p) = record { number = k; place = p }
 answered (accepted s) = record { number = 0; place = 0 }
 
@@ -77,9 +84,9 @@ jobWithOld procs nodes edges =
       tests = 0;
     }
 
-unfoldable pub oldJob : Reading Listing → Job → Job
-oldJob (refused k p) j = j
-oldJob (accepted s) j = jobWithOld (procCount (s .program)) (nodeCount (s .program)) (edgeCount (s .program))
+unfoldable pub oldJob : Job → Reading Listing → Job
+oldJob j (refused k p) = j
+oldJob j (accepted s) = jobWithOld (procCount (s .program)) (nodeCount (s .program)) (edgeCount (s .program))
 
 -- ---- the contracts
 
@@ -91,25 +98,27 @@ refusedTaken j k p = record { job = j; number = k; place = p; nodes = 0 }
 unfoldable pub withOld : Count → Job
 withOld c = jobWithOld (c .procs) (c .nodes) (c .edges)
 
--- `take_old`: what is left on values, with the numbers of the nodes in the scratch.
-unfoldable pub takenOf : Reading Listing → Job → Taken
-takenOf a j = record { job = oldJob a j; number = answered a .number; place = answered a .place; nodes = countRead a }
+-- Reading a program on values, where `after` is the job afterwards by what the call goes by; the numbers of the nodes are in the work table.
+unfoldable pub takenOf : Job → Reading Listing → Taken
+takenOf j a = record { job = j; number = answered a .number; place = answered a .place; nodes = countRead a }
 
-pub record TakenBy (a : Reading Listing) (j : Job) (r : Taken) (l l′ w : List ℕ) : Type 0 where
-  pub taken : r ≡ takenOf a j
+pub record TakenBy (after : Reading Listing → Job) (a : Reading Listing) (r : Taken) (l l′ w : List ℕ) : Type 0 where
+  pub taken : r ≡ takenOf (after a) a
   pub links-are : l′ ≡ linksRead a l
   pub nodes-are : nodesOf w (countRead a) ≡ recordsRead a
 
-pub record OldTaken (j : Job) (room : ℕ) (text : Bytes) (r : Taken) (l l′ : List ℕ) (work : ℕ) (w : List ℕ) : Type 0 where
-  pub by : TakenBy (oldRead j room (length l) work text) j r l l′ w
-
--- `read_old`: the answer, the job, the nodes and the links by what the call goes by; records and entries beyond the counts stay, and the scratch is zero.
-pub record LeftBy (a : Reading Listing) (j : Job) (n : List Node) (l w : List ℕ) (r : Answer) (j′ : Job) (n′ : List Node) (l′ w′ : List ℕ) : Type 0 where
+-- Reading a program over lent memory: the answer, the job, the nodes and the links; records and entries beyond the counts stay, and the scratch is zero.
+pub record LeftBy (after : Reading Listing → Job) (a : Reading Listing) (n : List Node) (l w : List ℕ) (r : Answer) (j′ : Job) (n′ : List Node) (l′ w′ : List ℕ) : Type 0 where
   pub answer-is : r ≡ answered a
-  pub job-is : j′ ≡ oldJob a j
+  pub job-is : j′ ≡ after a
   pub nodes-are : n′ ≡ sets n 0 (recordsRead a)
   pub links-are : l′ ≡ linksRead a l
   pub scratch-is : w′ ≡ replicate (length w) 0
 
+-- `take_old`
+pub record OldTaken (j : Job) (room : ℕ) (text : Bytes) (r : Taken) (l l′ : List ℕ) (work : ℕ) (w : List ℕ) : Type 0 where
+  pub by : TakenBy (oldJob j) (oldRead j room (length l) work text) r l l′ w
+
+-- `read_old`
 pub record ReadOld (j : Job) (text : Bytes) (n : List Node) (l w : List ℕ) (r : Answer) (j′ : Job) (n′ : List Node) (l′ w′ : List ℕ) : Type 0 where
-  pub left : LeftBy (oldRead j (length n) (length l) (length w) text) j n l w r j′ n′ l′ w′
+  pub left : LeftBy (oldJob j) (oldRead j (length n) (length l) (length w) text) n l w r j′ n′ l′ w′

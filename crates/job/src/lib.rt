@@ -3,10 +3,15 @@
 use reader::Count;
 use records::Job;
 use records::Node;
+use suite::Read;
+use text::run;
 ghost use mathlib.Core.Path.{_≡_};
 ghost use Prim.Native.Nat.{_≤_};
 ghost use lib.ListN.{length};
-ghost use Rattle.job.specs.ReadOld.{OldTaken, ReadOld, oldDue, refusedTaken, withOld};
+ghost use Rattle.held.specs.Held.{lent, numbers};
+ghost use Rattle.job.specs.ReadOld.{OldTaken, ReadOld, freshDue, oldDue, refusedTaken, roomy, withOld};
+ghost use Rattle.job.specs.ReadNew.{NewTaken, ReadNew, newDue, newPart, oldPart, withNew};
+ghost use Rattle.job.specs.ReadTests.{ReadTests, TestsTaken, bothDue, movedBy, testsDue, testsRoomy, withTests};
 
 // What a call answers: a refusal by number and place, or 0 and how many bytes were written.
 #[repr(C)]
@@ -35,24 +40,28 @@ fn refused(job: Job, number: usize, place: usize) -> Taken
     }
 }
 
-// ---- reading the old program
-
-// 13 where the call is not of the job's stage, 14 where the tables are too short or the job is not a fresh one, else 0.
-fn old_due(job: Job, nodes: usize, links: usize, work: usize) -> usize
-    ensures { λ r. ⌜ r ≡ oldDue job nodes links work ⌝ }
+// Whether the lengths of what is lent are enough to read a program: records of nodes, links, scratch.
+fn long_enough(nodes: usize, links: usize, work: usize) -> bool
+    ensures { λ r. ⌜ r ≡ roomy nodes links work ⌝ }
 {
-    if job.stage != 0 {
-        return 13;
-    }
     if nodes < 512 {
-        return 14;
+        return false;
     }
     if links < 6080 {
-        return 14;
+        return false;
     }
     if work < 8128 {
-        return 14;
+        return false;
     }
+    true
+}
+
+// ---- reading the old program
+
+// 14 where the job is not a fresh one, else 0.
+fn fresh_due(job: Job) -> usize
+    ensures { λ r. ⌜ r ≡ freshDue job ⌝ }
+{
     let start = Job {
         stage: 0,
         old_procs: 0,
@@ -65,6 +74,19 @@ fn old_due(job: Job, nodes: usize, links: usize, work: usize) -> usize
     };
     if records::same_job(job, start) {
         return 0;
+    }
+    14
+}
+
+// 13 where the call is not of the job's stage, 14 where the tables are too short or the job is not a fresh one, else 0.
+fn old_due(job: Job, nodes: usize, links: usize, work: usize) -> usize
+    ensures { λ r. ⌜ r ≡ oldDue job nodes links work ⌝ }
+{
+    if job.stage != 0 {
+        return 13;
+    }
+    if long_enough(nodes, links, work) {
+        return fresh_due(job);
     }
     14
 }
@@ -119,6 +141,315 @@ pub fn read_old(
 {
     let r = take_old(*job, nodes.len(), old, links, scratch);
     records::store(scratch, r.nodes, nodes);
+    *job = r.job;
+    Answer {
+        number: r.number,
+        place: r.place,
+    }
+}
+
+// ---- reading the new program
+
+// The job once the new program was read too.
+fn with_new(job: Job, had: Count) -> Job
+    ensures { λ r. ⌜ r ≡ withNew job had ⌝ }
+{
+    Job {
+        stage: 2,
+        old_procs: job.old_procs,
+        old_nodes: job.old_nodes,
+        old_edges: job.old_edges,
+        new_procs: had.procs,
+        new_nodes: had.nodes,
+        new_edges: had.edges,
+        tests: 0,
+    }
+}
+
+// 13 where the call is not of the job's stage, 14 where what is lent is too short or the old version and the job are not what reading the old
+// text leaves, else 0. The numbers of the old nodes stand at the front of the scratch.
+fn new_due(
+    job: Job,
+    room: usize,
+    old: &[u8],
+    joins: &[usize],
+    nodes: usize,
+    links: usize,
+    scratch: &[usize],
+) -> usize
+    ensures { λ r. ⌜ r ≡ newDue job (numbers room (now (old .entry)) (oldPart (now (scratch .entry))) (now (joins .entry))) nodes links (length (now (scratch .entry))) ⌝ }
+{
+    if job.stage != 1 {
+        return 13;
+    }
+    if long_enough(nodes, links, scratch.len()) {
+        let mut work = [0usize; 8128];
+        let had = held::version_left(room, old, run(scratch, 0, 2048), joins, &mut work);
+        let number = had.number;
+        if number != 0 {
+            return 14;
+        }
+        if records::same_job(job, with_old(had)) {
+            return 0;
+        }
+        return 14;
+    }
+    14
+}
+
+// Reads the new program, for `nodes` records: its links go to `lent`, and the numbers of its nodes stay in the scratch, which has the numbers of
+// the old nodes at its front before.
+fn take_new(
+    job: Job,
+    room: usize,
+    old: &[u8],
+    joins: &[usize],
+    new: &[u8],
+    nodes: usize,
+    lent: &mut [usize],
+    scratch: &mut [usize],
+) -> Taken
+    ensures { λ r. ⌜ NewTaken job (numbers room (now (old .entry)) (oldPart (now (scratch .entry))) (now (joins .entry))) nodes (now (new .entry)) r (now (lent .entry)) (now (lent .exit)) (length (now (scratch .entry))) (now (scratch .exit)) ⌝ }
+{
+    let due = new_due(job, room, old, joins, nodes, lent.len(), scratch);
+    if due != 0 {
+        return refused(job, due, 0);
+    }
+    let had = reader::read_into(new, scratch);
+    let number = had.number;
+    if number != 0 {
+        return refused(job, number, had.place);
+    }
+    program::copy_links(scratch, had, lent);
+    Taken {
+        job: with_new(job, had),
+        number: 0,
+        place: 0,
+        nodes: had.nodes,
+    }
+}
+
+// Reads the new program, with the old version as it was read. After a refusal the job, the nodes and the links are as they were. The scratch is
+// zero afterwards.
+pub fn read_new(
+    job: &mut Job,
+    old: &[u8],
+    oldnodes: &[Node],
+    oldlinks: &[usize],
+    new: &[u8],
+    nodes: &mut [Node],
+    links: &mut [usize],
+    scratch: &mut [usize],
+) -> Answer
+    ensures { λ r. ⌜ ReadNew (now (job .entry)) (lent (now (old .entry)) (now (oldnodes .entry)) (now (oldlinks .entry))) (now (new .entry)) (now (nodes .entry)) (now (links .entry)) (now (scratch .entry)) r (now (job .exit)) (now (nodes .exit)) (now (links .exit)) (now (scratch .exit)) ⌝ }
+{
+    records::load(oldnodes, 512, scratch, 0);
+    let r = take_new(
+        *job,
+        oldnodes.len(),
+        old,
+        oldlinks,
+        new,
+        nodes.len(),
+        links,
+        scratch,
+    );
+    records::store(scratch, r.nodes, nodes);
+    *job = r.job;
+    Answer {
+        number: r.number,
+        place: r.place,
+    }
+}
+
+// ---- reading the tests
+
+// What reading the tests leaves on values: the job and the answer.
+pub struct Moved {
+    pub job: Job,
+    pub number: usize,
+    pub place: usize,
+}
+
+// The job once the tests were read.
+fn with_tests(job: Job, count: usize) -> Job
+    ensures { λ r. ⌜ r ≡ withTests job count ⌝ }
+{
+    Job {
+        stage: 3,
+        old_procs: job.old_procs,
+        old_nodes: job.old_nodes,
+        old_edges: job.old_edges,
+        new_procs: job.new_procs,
+        new_nodes: job.new_nodes,
+        new_edges: job.new_edges,
+        tests: count,
+    }
+}
+
+// Whether the lengths of what is lent are enough to read the tests: numbers, words, scratch.
+fn wide_enough(tests: usize, rows: usize, work: usize) -> bool
+    ensures { λ r. ⌜ r ≡ testsRoomy tests rows work ⌝ }
+{
+    if tests < 400 {
+        return false;
+    }
+    if rows < 3200 {
+        return false;
+    }
+    if work < 8128 {
+        return false;
+    }
+    true
+}
+
+// 14 where the two versions and the job are not what reading the two texts leaves, else 0. The numbers of the old nodes stand at the front of
+// the scratch, those of the new ones from the place 2,048 on.
+fn both_due(
+    job: Job,
+    room: usize,
+    old: &[u8],
+    joins: &[usize],
+    space: usize,
+    new: &[u8],
+    links: &[usize],
+    scratch: &[usize],
+) -> usize
+    ensures { λ r. ⌜ r ≡ bothDue job (numbers room (now (old .entry)) (oldPart (now (scratch .entry))) (now (joins .entry))) (numbers space (now (new .entry)) (newPart (now (scratch .entry))) (now (links .entry))) ⌝ }
+{
+    let mut work = [0usize; 8128];
+    let had = held::version_left(room, old, run(scratch, 0, 2048), joins, &mut work);
+    let number = had.number;
+    if number != 0 {
+        return 14;
+    }
+    let next = held::version_left(space, new, run(scratch, 2048, 2048), links, &mut work);
+    let number = next.number;
+    if number != 0 {
+        return 14;
+    }
+    if records::same_job(job, with_new(with_old(had), next)) {
+        return 0;
+    }
+    14
+}
+
+// 13 where the call is not of the job's stage, 14 where what is lent is too short or not what reading the two texts leaves, else 0.
+fn tests_due(
+    job: Job,
+    room: usize,
+    old: &[u8],
+    joins: &[usize],
+    space: usize,
+    new: &[u8],
+    links: &[usize],
+    tests: usize,
+    rows: usize,
+    scratch: &[usize],
+) -> usize
+    ensures { λ r. ⌜ r ≡ testsDue job (numbers room (now (old .entry)) (oldPart (now (scratch .entry))) (now (joins .entry))) (numbers space (now (new .entry)) (newPart (now (scratch .entry))) (now (links .entry))) tests rows (length (now (scratch .entry))) ⌝ }
+{
+    if job.stage != 2 {
+        return 13;
+    }
+    if wide_enough(tests, rows, scratch.len()) {
+        return both_due(job, room, old, joins, space, new, links, scratch);
+    }
+    14
+}
+
+// The job and the answer once the tests were read, or refused.
+fn moved_by(job: Job, had: Read) -> Moved
+    ensures { λ r. ⌜ r ≡ movedBy job had ⌝ }
+{
+    let number = had.number;
+    if number != 0 {
+        return Moved {
+            job,
+            number,
+            place: had.place,
+        };
+    }
+    Moved {
+        job: with_tests(job, had.count),
+        number: 0,
+        place: 0,
+    }
+}
+
+// Reads the tests into `tests` and `rows`. The scratch has the numbers of both versions' nodes.
+fn take_tests(
+    job: Job,
+    room: usize,
+    old: &[u8],
+    joins: &[usize],
+    space: usize,
+    new: &[u8],
+    links: &[usize],
+    text: &[u8],
+    tests: &mut [usize],
+    rows: &mut [u64],
+    scratch: &[usize],
+) -> Moved
+    ensures { λ r. ⌜ TestsTaken job (numbers room (now (old .entry)) (oldPart (now (scratch .entry))) (now (joins .entry))) (numbers space (now (new .entry)) (newPart (now (scratch .entry))) (now (links .entry))) (now (text .entry)) r (now (tests .entry)) (now (tests .exit)) (now (rows .entry)) (now (rows .exit)) (length (now (scratch .entry))) ⌝ }
+{
+    let due = tests_due(
+        job,
+        room,
+        old,
+        joins,
+        space,
+        new,
+        links,
+        tests.len(),
+        rows.len(),
+        scratch,
+    );
+    if due != 0 {
+        return Moved {
+            job,
+            number: due,
+            place: 0,
+        };
+    }
+    let mut work = [0usize; 400];
+    let mut words = [0u64; 3200];
+    let had = lent_tests::read_lent_tests(text, job.old_edges, tests, rows, &mut work, &mut words);
+    moved_by(job, had)
+}
+
+// Reads the tests, with both versions as they were read. After a refusal the job, `tests` and `rows` are as they were. The scratch is zero
+// afterwards.
+pub fn read_tests(
+    job: &mut Job,
+    old: &[u8],
+    oldnodes: &[Node],
+    oldlinks: &[usize],
+    new: &[u8],
+    newnodes: &[Node],
+    newlinks: &[usize],
+    text: &[u8],
+    tests: &mut [usize],
+    rows: &mut [u64],
+    scratch: &mut [usize],
+) -> Answer
+    ensures { λ r. ⌜ ReadTests (now (job .entry)) (lent (now (old .entry)) (now (oldnodes .entry)) (now (oldlinks .entry))) (lent (now (new .entry)) (now (newnodes .entry)) (now (newlinks .entry))) (now (text .entry)) (now (tests .entry)) (now (rows .entry)) (now (scratch .entry)) r (now (job .exit)) (now (tests .exit)) (now (rows .exit)) (now (scratch .exit)) ⌝ }
+{
+    records::load_both(oldnodes, newnodes, scratch);
+    let r = take_tests(
+        *job,
+        oldnodes.len(),
+        old,
+        oldlinks,
+        newnodes.len(),
+        new,
+        newlinks,
+        text,
+        tests,
+        rows,
+        scratch,
+    );
+    text::clear(scratch);
     *job = r.job;
     Answer {
         number: r.number,

@@ -1,0 +1,96 @@
+-- Reading the tests into lent memory: what is due before it, and what it leaves.
+use mathlib.Core.Path.{_≡_}
+use mathlib.Core.Bool.{Bool}
+use mathlib.Core.List.{List}
+use Prim.Native.Nat.{ℕ}
+use lib.Dec.{eqb, leb}
+use lib.ListN.{length, replicate}
+use Rattle.laws.specs.Tests.{_and_, after, choose}
+use Rattle.rules.specs.Text.{Bytes, Answer as Reading, refused, accepted}
+use Rattle.rules.specs.SuiteFile.{TestListing, readTests, testCount}
+use Rattle.rules.specs.Job.{ofStage, read-tests, stageAfter}
+use Rattle.suite.specs.declared.Read.{Read}
+use Rattle.lent_tests.specs.Lent.{testsAfter, rowsAfter}
+use Rattle.records.specs.declared.Job.{Job}
+use Rattle.held.specs.Held.{Lent, heldNew}
+use Rattle.job.specs.declared.Answer.{Answer}
+use Rattle.job.specs.declared.Moved.{Moved}
+use Rattle.job.specs.ReadOld.{answered}
+
+-- ---- what is due before reading
+
+-- The lengths of what is lent are enough: numbers and words of the tests, scratch.
+unfoldable pub testsRoomy : ℕ → ℕ → ℕ → Bool
+testsRoomy tests rows work = leb 400 tests and (leb 3200 rows and leb 8128 work)
+
+-- 14 where the old version v, the new one v′ and the job are not what reading the two texts leaves, else 0.
+unfoldable pub bothDue : Job → Lent → Lent → ℕ
+bothDue j v v′ = after (heldNew j v v′) 14 (λ h. 0)
+
+-- 13, 14, or 0 where neither is due.
+unfoldable pub testsDue : Job → Lent → Lent → ℕ → ℕ → ℕ → ℕ
+testsDue j v v′ tests rows work = choose (ofStage read-tests (j .stage)) (choose (testsRoomy tests rows work) (bothDue j v v′) 14) 13
+
+-- What the call has to go by: the refusal that is due, or what reading the tests gives, where the old program has as many edges as the job says.
+unfoldable pub testsBy : ℕ → ℕ → Bytes → Reading TestListing
+testsBy due edges text = choose (eqb due 0) (readTests edges text) (refused due 0)
+
+abbrev pub testsRead : Job → Lent → Lent → ℕ → ℕ → ℕ → Bytes → Reading TestListing
+testsRead j v v′ tests rows work text = testsBy (testsDue j v v′ tests rows work) (j .«old_edges») text
+
+-- ---- what it leaves
+
+-- The job afterwards.
+unfoldable pub withTests : Job → ℕ → Job
+withTests j count =
+    record {
+      stage = stageAfter read-tests;
+      «old_procs» = j .«old_procs»;
+      «old_nodes» = j .«old_nodes»;
+      «old_edges» = j .«old_edges»;
+      «new_procs» = j .«new_procs»;
+      «new_nodes» = j .«new_nodes»;
+      «new_edges» = j .«new_edges»;
+      tests = count;
+    }
+
+unfoldable pub testsJob : Job → Reading TestListing → Job
+testsJob j (refused k p) = j
+testsJob j (accepted l) = withTests j (testCount (l .suite))
+
+-- Where the names stand, and the rows, afterwards.
+unfoldable pub namesLeft : Reading TestListing → List ℕ → List ℕ
+namesLeft (refused k p) t = t
+namesLeft (accepted l) t = testsAfter l t
+
+unfoldable pub rowsLeft : Reading TestListing → List ℕ → List ℕ
+rowsLeft (refused k p) w = w
+rowsLeft (accepted l) w = rowsAfter l w
+
+-- ---- the contracts
+
+-- `moved_by`
+unfoldable pub movedBy : Job → Read → Moved
+movedBy j c =
+    choose (eqb (c .number) 0) (record { job = withTests j (c .count); number = 0; place = 0 }) (record { job = j; number = c .number; place = c .place })
+
+-- `take_tests`: what is left on values.
+pub record MovedBy (j : Job) (a : Reading TestListing) (r : Moved) (t t′ w w′ : List ℕ) : Type 0 where
+  pub moved : r ≡ record { job = testsJob j a; number = answered a .number; place = answered a .place }
+  pub tests-are : t′ ≡ namesLeft a t
+  pub rows-are : w′ ≡ rowsLeft a w
+
+pub record TestsTaken (j : Job) (v v′ : Lent) (text : Bytes) (r : Moved) (t t′ w w′ : List ℕ) (work : ℕ) : Type 0 where
+  pub by : MovedBy j (testsRead j v v′ (length t) (length w) work text) r t t′ w w′
+
+-- `read_tests`: the answer, the job and the tables by what the call goes by; entries beyond the counts stay, and the scratch s is zero.
+pub record TestsLeftBy (j : Job) (a : Reading TestListing) (t w s : List ℕ) (r : Answer) (j′ : Job) (t′ w′ s′ : List ℕ) : Type 0 where
+  pub answer-is : r ≡ answered a
+  pub job-is : j′ ≡ testsJob j a
+  pub tests-are : t′ ≡ namesLeft a t
+  pub rows-are : w′ ≡ rowsLeft a w
+  pub scratch-is : s′ ≡ replicate (length s) 0
+
+-- With the old version v and the new one v′.
+pub record ReadTests (j : Job) (v v′ : Lent) (text : Bytes) (t w s : List ℕ) (r : Answer) (j′ : Job) (t′ w′ s′ : List ℕ) : Type 0 where
+  pub left : TestsLeftBy j (testsRead j v v′ (length t) (length w) (length s) text) t w s r j′ t′ w′ s′

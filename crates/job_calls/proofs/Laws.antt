@@ -1,0 +1,485 @@
+-- The returns of the functions on values, and what the calls make of them.
+use mathlib.Core.Path.{_≡_, refl, sym, ap, ap₂, _∙_, subst}
+use mathlib.Core.Bool.{Bool, true, false, true≢false}
+use mathlib.Core.List.{List, [], _++_, append-nil}
+use mathlib.Core.Option.{Option, none, some}
+use Prim.Native.Nat.{ℕ, _+_, _*_, _≤_, _<_}
+use native.Mathlib.Omega.{arith}
+use lib.Dec.{eqb, leb, ltb}
+use lib.ListN.{length, take, drop, replicate, length-replicate, length-take}
+use lib.Seq.{sets, length-sets, length-take-le}
+use borrow.Author.Tests.{eq-eqb, ne-eqb, eqb-true, le-leb, lt-leb, leb-true}
+use Rattle.laws.specs.Tests.{after, choose}
+use Rattle.laws.specs.Slices.{below-or, sets-front, part-sets, part-sets-before, drop-end}
+use Rattle.rules.specs.Text.{Bytes, Answer as Reading, refused, accepted}
+use Rattle.rules.specs.Graph.{nodeCount, edgeCount}
+use Rattle.rules.specs.ProgramFile.{Listing}
+use Rattle.rules.specs.SuiteFile.{TestListing, testCount}
+use Rattle.rules.specs.Job.{Call, Given, Outcome, check-sheet, judged, numberOf, ofStage, outcome, outputAfter, placeOf, recordBytes, refusal, sheetBytes, show-label, stageAfter, write-record, write-sheet, writing}
+use Rattle.rules.specs.Proofs.ProgramLaws.{Sound}
+use Rattle.reader.specs.declared.Count.{Count}
+use Rattle.reader.specs.Result.{Small}
+use Rattle.suite.specs.declared.Read.{Read}
+use Rattle.versions.specs.Memory.{memory}
+use Rattle.intake.specs.declared.Texts.{Texts}
+use Rattle.intake.specs.Ready.{Few, Ready, refusedTexts}
+use Rattle.writer.specs.declared.Answer.{Answer as Written}
+use Rattle.writer.specs.Sheets.{Told}
+use Rattle.rules.specs.Sheet.{readSheet}
+use Rattle.checker.specs.declared.Answer.{Answer as Checked}
+use Rattle.checker.specs.Checking.{Answered, Checks}
+use Rattle.work.specs.Work.{Done, RecordDone, SheetDone}
+use Rattle.records.specs.declared.Job.{Job}
+use Rattle.records.specs.declared.Node.{Node}
+use Rattle.records.specs.Jobs.{sameJob}
+use Rattle.records.specs.Nodes.{flat}
+use Rattle.records.specs.NodeLaws.{flat-length}
+use Rattle.held.specs.Held.{AllRead, Lent, countLeft, heldTests, jobTests, lent, numbers, readLeft, suiteLeft, versionLeft}
+use Rattle.held.specs.HeldLaws.{count-small, front-left, suite-accepted, suite-few, suite-holds, version-memory, version-sound}
+use Rattle.job.specs.declared.Answer.{Answer}
+use Rattle.job_calls.specs.Calls.{Called, CalledOn, LentJob, Wrote, WroteOn, checkCall, countsBy, dueTexts, givenBy, goesBy, jobBy, lentJob, loadedJob, recordCall, sheetCall, textsDue, unloaded}
+
+-- ---- `suite_due`
+
+module _ (j : Job) (o p : Count) where
+  pub suite-stop : (x : Option TestListing) (t : Read) (r : Texts) → t ≡ readLeft x → (t .number ≡ 0 → ⊥) → r ≡ refusedTexts 14 0 → r ≡ textsDue j o p x
+  unfolding readLeft textsDue
+  suite-stop none t r e z q = q
+  suite-stop (some l) t r e z q = absurd (z (ap (λ (y : Read). y .number) e))
+
+  module _ (t : Read) (z : t .number ≡ 0) (u : Bool)
+      (d : u ≡ sameJob j (record { stage = 3; «old_procs» = o .procs; «old_nodes» = o .nodes; «old_edges» = o .edges; «new_procs» = p .procs; «new_nodes» = p .nodes; «new_edges» = p .edges; tests = t .count })) where
+    same-is : (l : TestListing) → t ≡ readLeft (some l) → u ≡ sameJob j (jobBy o p (testCount (l .suite)))
+    unfolding readLeft jobBy stageAfter
+    same-is l e =
+        d ∙ ap (λ (y : Read). sameJob j (record { stage = 3; «old_procs» = o .procs; «old_nodes» = o .nodes; «old_edges» = o .edges; «new_procs» = p .procs; «new_nodes» = p .nodes; «new_edges» = p .edges; tests = y .count })) e
+
+    pub suite-goes : (x : Option TestListing) → t ≡ readLeft x → u ≡ true
+        → record { number = 0; place = 0; «old_nodes» = o .nodes; «old_edges» = o .edges; «new_nodes» = p .nodes; «new_edges» = p .edges; tests = t .count } ≡ textsDue j o p x
+    unfolding readLeft textsDue choose countsBy
+    suite-goes none e y = absurd (let v : ⊥ = omega (arith, z, ap (λ (y : Read). y .number) e) in v)
+    suite-goes (some l) e y =
+        ap (λ (v : Read). countsBy o p (v .count)) e ∙ ap (λ (b : Bool). choose b (countsBy o p (testCount (l .suite))) (refusedTexts 14 0)) (sym y ∙ same-is l e)
+
+    pub suite-other : (x : Option TestListing) (r : Texts) → t ≡ readLeft x → u ≡ false → r ≡ refusedTexts 14 0 → r ≡ textsDue j o p x
+    unfolding readLeft textsDue choose
+    suite-other none r e y q = q
+    suite-other (some l) r e y q = q ∙ ap (λ (b : Bool). choose b (countsBy o p (testCount (l .suite))) (refusedTexts 14 0)) (sym y ∙ same-is l e)
+
+-- ---- `due`
+
+due-last : (s s′ : Listing) (l : TestListing) (u : Bool) → choose u (countsBy (countLeft (some s)) (countLeft (some s′)) (testCount (l .suite))) (refusedTexts 14 0)
+    ≡ dueTexts (after (choose u (some (record { old = s; new = s′; tests = l })) none) (refused 14 0) (λ h. accepted h))
+unfolding choose countsBy countLeft dueTexts
+due-last s s′ l true = refl
+due-last s s′ l false = refl
+
+module _ (j : Job) (asked had olds : ℕ) (ot on ol : List ℕ) (news : ℕ) (nt nn nl tt tests rows : List ℕ) where
+  abbrev old-lent : Lent
+  old-lent = numbers olds ot on ol
+
+  abbrev new-lent : Lent
+  new-lent = numbers news nt nn nl
+
+  abbrev lent-job : LentJob
+  lent-job = lentJob j old-lent new-lent tt tests rows had
+
+  pub due-stage : (r : Texts) → (j .stage ≡ 3 → ⊥) → r ≡ refusedTexts 13 0 → r ≡ dueTexts (goesBy write-sheet asked lent-job)
+  unfolding goesBy ofStage choose dueTexts
+  due-stage r h q = q ∙ simp (ne-eqb _ _ h)
+
+  module _ (st : j .stage ≡ 3) where
+    pub due-short : (r : Texts) → had < asked → r ≡ refusedTexts 14 0 → r ≡ dueTexts (goesBy write-sheet asked lent-job)
+    unfolding goesBy ofStage choose dueTexts
+    due-short r h q = q ∙ simp (eq-eqb _ _ st, lt-leb asked had h)
+
+    module _ (room : asked ≤ had) where
+      goes-held : (x : Option AllRead) → heldTests j old-lent new-lent tt tests rows ≡ x → goesBy write-sheet asked lent-job ≡ after x (refused 14 0) (λ h. accepted h)
+      unfolding goesBy ofStage choose
+      goes-held x e = simp (eq-eqb _ _ st, le-leb asked had room, e)
+
+      -- The first table that is not left.
+      none-old : (x : Option Listing) (c : Count) → c ≡ countLeft x → (c .number ≡ 0 → ⊥) → x ≡ none
+      unfolding countLeft
+      none-old none c e z = refl
+      none-old (some s) c e z = absurd (z (ap (λ (y : Count). y .number) e))
+
+      some-old : (x : Option Listing) (c : Count) → c ≡ countLeft x → c .number ≡ 0 → (s : Listing) × (x ≡ some s)
+      unfolding countLeft
+      some-old none c e z = absurd (let v : ⊥ = omega (arith, z, ap (λ (y : Count). y .number) e) in v)
+      some-old (some s) c e z = (s, refl)
+
+      held-none : (r : Texts) → heldTests j old-lent new-lent tt tests rows ≡ none → r ≡ refusedTexts 14 0 → r ≡ dueTexts (goesBy write-sheet asked lent-job)
+      unfolding dueTexts
+      held-none r e q = q ∙ sym (ap dueTexts (goes-held none e))
+
+      pub due-old : (r : Texts) (c : Count) → c ≡ countLeft (versionLeft old-lent) → (c .number ≡ 0 → ⊥) → r ≡ refusedTexts 14 0 → r ≡ dueTexts (goesBy write-sheet asked lent-job)
+      unfolding heldTests
+      due-old r c e z q = held-none r (simp (none-old (versionLeft old-lent) c e z)) q
+
+      module _ (o : Count) (eo : o ≡ countLeft (versionLeft old-lent)) (zo : o .number ≡ 0) where
+        pub due-new : (r : Texts) (c : Count) → c ≡ countLeft (versionLeft new-lent) → (c .number ≡ 0 → ⊥) → r ≡ refusedTexts 14 0 → r ≡ dueTexts (goesBy write-sheet asked lent-job)
+        unfolding heldTests
+        due-new r c e z q = let s = some-old (versionLeft old-lent) o eo zo in held-none r (simp (s .1, none-old (versionLeft new-lent) c e z)) q
+
+        pub due-edges : o .edges ≤ 1024
+        due-edges = subst (λ (c : Count). c .edges ≤ 1024) (sym eo) (count-small old-lent .few-edges)
+
+        module _ (p : Count) (ep : p ≡ countLeft (versionLeft new-lent)) (zp : p .number ≡ 0) where
+          module _ (s s′ : Listing) (es : versionLeft old-lent ≡ some s) (es′ : versionLeft new-lent ≡ some s′) where
+            due-by : (x : Option TestListing) → textsDue j (countLeft (some s)) (countLeft (some s′)) x
+                ≡ dueTexts (after (after x none (λ l. choose (sameJob j (jobTests s s′ l)) (some (record { old = s; new = s′; tests = l })) none)) (refused 14 0) (λ h. accepted h))
+            unfolding textsDue dueTexts countLeft jobBy jobTests countsBy
+            due-by none = refl
+            due-by (some l) = due-last s s′ l (sameJob j (jobTests s s′ l))
+
+            due-is : (r : Texts) → r ≡ textsDue j o p (suiteLeft (o .edges) tt tests rows) → r ≡ dueTexts (goesBy write-sheet asked lent-job)
+            unfolding heldTests countLeft
+            due-is r e =
+                e ∙ ap₂ (λ (a b : Count). textsDue j a b (suiteLeft (a .edges) tt tests rows)) (eo ∙ ap countLeft es) (ep ∙ ap countLeft es′)
+                ∙ due-by (suiteLeft (edgeCount (s .program)) tt tests rows)
+                ∙ sym (ap dueTexts (goes-held (after (suiteLeft (edgeCount (s .program)) tt tests rows) none (λ l. choose (sameJob j (jobTests s s′ l)) (some (record { old = s; new = s′; tests = l })) none)) (simp (es, es′))))
+
+          pub due-done : (r : Texts) → r ≡ textsDue j o p (suiteLeft (o .edges) tt tests rows) → r ≡ dueTexts (goesBy write-sheet asked lent-job)
+          due-done r e =
+              let s = some-old (versionLeft old-lent) o eo zo in
+              let s′ = some-old (versionLeft new-lent) p ep zp in
+              due-is (s .0) (s′ .0) (s .1) (s′ .1) r e
+
+pub ruleset dues = (suite-stop, suite-goes, suite-other, due-stage, due-short, due-old, due-new, due-edges, due-done)
+
+-- ---- what is held
+
+module _ (j : Job) (v v′ : Lent) (text t w : List ℕ) where
+  -- The tables of each.
+  abbrev Parts : AllRead → Type 0
+  Parts h = (versionLeft v ≡ some (h .old)) × (versionLeft v′ ≡ some (h .new)) × (suiteLeft (edgeCount (h .old .program)) text t w ≡ some (h .tests))
+
+  parts-of : (o p : Listing) (l : TestListing) (h : AllRead) → versionLeft v ≡ some o → versionLeft v′ ≡ some p → suiteLeft (edgeCount (o .program)) text t w ≡ some l
+      → (u : Bool) → choose u (some (record { old = o; new = p; tests = l })) none ≡ some h → Parts h
+  unfolding choose
+  parts-of o p l h eo ep el true e = let q : record { old = o; new = p; tests = l } ≡ h = cc in subst Parts q (eo, ep, el)
+  parts-of o p l h eo ep el false e = absurd (true≢false (let z : true ≡ false = cc in z))
+
+  by-suite : (o p : Listing) (h : AllRead) → versionLeft v ≡ some o → versionLeft v′ ≡ some p → (x : Option TestListing) → suiteLeft (edgeCount (o .program)) text t w ≡ x
+      → after x none (λ l. choose (sameJob j (jobTests o p l)) (some (record { old = o; new = p; tests = l })) none) ≡ some h → Parts h
+  by-suite o p h eo ep none el e = absurd (true≢false (let z : true ≡ false = cc in z))
+  by-suite o p h eo ep (some l) el e = parts-of o p l h eo ep el (sameJob j (jobTests o p l)) e
+
+  by-new : (o : Listing) (h : AllRead) → versionLeft v ≡ some o → (x : Option Listing) → versionLeft v′ ≡ x
+      → after x none (λ p. after (suiteLeft (edgeCount (o .program)) text t w) none (λ l. choose (sameJob j (jobTests o p l)) (some (record { old = o; new = p; tests = l })) none)) ≡ some h → Parts h
+  by-new o h eo none ep e = absurd (true≢false (let z : true ≡ false = cc in z))
+  by-new o h eo (some p) ep e = by-suite o p h eo ep (suiteLeft (edgeCount (o .program)) text t w) refl e
+
+  by-old : (h : AllRead) (x : Option Listing) → versionLeft v ≡ x
+      → after x none (λ o. after (versionLeft v′) none (λ p. after (suiteLeft (edgeCount (o .program)) text t w) none (λ l. choose (sameJob j (jobTests o p l)) (some (record { old = o; new = p; tests = l })) none))) ≡ some h → Parts h
+  by-old h none eo e = absurd (true≢false (let z : true ≡ false = cc in z))
+  by-old h (some o) eo e = by-new o h eo (versionLeft v′) refl e
+
+  held-parts : (h : AllRead) → heldTests j v v′ text t w ≡ some h → Parts h
+  unfolding heldTests
+  held-parts h e = by-old h (versionLeft v) refl e
+
+-- 13 or 14 is due, or job and tables hold what was read.
+module _ {X : Type 0} (asked : ℕ) (k : LentJob) (no : (q : ℕ) → 0 < q → goesBy write-sheet asked k ≡ refused q 0 → X)
+    (yes : (h : AllRead) → goesBy write-sheet asked k ≡ accepted h → asked ≤ k .scratch → Parts (k .job) (k .old) (k .new) (k .text) (k .tests) (k .rows) h → X) where
+  case-held : eqb (k .job .stage) 3 ≡ true → leb asked (k .scratch) ≡ true → (x : Option AllRead) → heldTests (k .job) (k .old) (k .new) (k .text) (k .tests) (k .rows) ≡ x → X
+  unfolding goesBy ofStage choose
+  case-held a b none e = no 14 (omega arith) (simp (a, b, e))
+  case-held a b (some h) e = yes h (simp (a, b, e)) (leb-true _ _ b) (held-parts (k .job) (k .old) (k .new) (k .text) (k .tests) (k .rows) h e)
+
+  case-room : eqb (k .job .stage) 3 ≡ true → (u : Bool) → leb asked (k .scratch) ≡ u → X
+  unfolding goesBy ofStage choose
+  case-room a true b = case-held a b _ refl
+  case-room a false b = no 14 (omega arith) (simp (a, b))
+
+  case-stage : (u : Bool) → eqb (k .job .stage) 3 ≡ u → X
+  unfolding goesBy ofStage choose
+  case-stage true a = case-room a _ refl
+  case-stage false a = no 13 (omega arith) (simp a)
+
+  pub due-cases : X
+  due-cases = case-stage _ refl
+
+-- The memories of what is held are ready, and its counts are within their limits.
+module _ (k : LentJob) (h : AllRead) (parts : Parts (k .job) (k .old) (k .new) (k .text) (k .tests) (k .rows) h) where
+  old-few : Sound (h .old .program)
+  old-few = version-sound (k .old) (h .old) (parts .0)
+
+  new-few : Sound (h .new .program)
+  new-few = version-sound (k .new) (h .new) (parts .1)
+
+  pub held-few : Few (dueTexts (accepted h))
+  unfolding dueTexts
+  held-few =
+      record {
+        few-old-nodes = old-few .fewNodes;
+        few-old-edges = old-few .fewEdges;
+        few-new-nodes = new-few .fewNodes;
+        few-new-edges = new-few .fewEdges;
+        few-tests = suite-few (edgeCount (h .old .program)) (k .text) (k .tests) (k .rows) (h .tests) (parts .2);
+      }
+
+  pub held-ready : 2048 ≤ length (k .old .nodes) → 2048 ≤ length (k .new .nodes)
+      → Ready (memory (k .old .text) (k .old .nodes) (k .old .links)) (memory (k .new .text) (k .new .nodes) (k .new .links)) (k .text) (k .tests) (k .rows) (dueTexts (accepted h)) (givenBy h)
+  unfolding dueTexts
+  held-ready a b =
+      let l = suite-accepted (edgeCount (h .old .program)) (k .text) (k .tests) (k .rows) (h .tests) (parts .2) in
+      record {
+        o = h .old;
+        p = h .new;
+        l = h .tests;
+        old-in = version-memory (k .old) (h .old) (parts .0) a;
+        new-in = version-memory (k .new) (h .new) (parts .1) b;
+        tests-read = l;
+        tests-in = suite-holds (edgeCount (h .old .program)) (k .text) (k .tests) (k .rows) (h .tests) (parts .2) (old-few .fewEdges);
+        given-is = refl;
+        old-nodes-n = refl;
+        old-edges-n = refl;
+        new-nodes-n = refl;
+        new-edges-n = refl;
+      }
+
+none-few : (q : ℕ) → Few (refusedTexts q 0)
+none-few q = record { few-old-nodes = omega arith; few-old-edges = omega arith; few-new-nodes = omega arith; few-new-edges = omega arith; few-tests = omega arith }
+
+refused-texts : (q p : ℕ) → dueTexts (refused q p) ≡ refusedTexts q p
+unfolding dueTexts
+refused-texts q p = refl
+
+accepted-number : (h : AllRead) → dueTexts (accepted h) .number ≡ 0
+unfolding dueTexts
+accepted-number h = refl
+
+module _ (asked : ℕ) (k : LentJob) (had : Texts) (eh : had ≡ dueTexts (goesBy write-sheet asked k)) where
+  pub due-few : Few had
+  due-few =
+      due-cases asked k (λ q b e. subst Few (sym (eh ∙ ap dueTexts e ∙ refused-texts q 0)) (none-few q)) (λ h e room parts. subst Few (sym (eh ∙ ap dueTexts e)) (held-few k h parts))
+
+  due-room : had .number ≡ 0 → asked ≤ k .scratch
+  due-room z =
+      due-cases asked k
+      (λ q c e. absurd (let v : ⊥ = omega (arith, z, c, ap (λ (t : Texts). t .number) (eh ∙ ap dueTexts e ∙ refused-texts q 0)) in v))
+      (λ h e room parts. room)
+
+  pub due-asks : had .number ≡ 0 → (had .«old_nodes» ≤ 512) × (had .«new_nodes» ≤ 512) × (had .«old_edges» ≤ 1024) × (had .tests ≤ 200) × (asked ≤ k .scratch)
+  due-asks z = (due-few .few-old-nodes, due-few .few-new-nodes, due-few .few-old-edges, due-few .few-tests, due-room z)
+
+  -- A refusal is the answer, whatever follows.
+  due-stops : (f : AllRead → Outcome) → (had .number ≡ 0 → ⊥) → outcome (goesBy write-sheet asked k) f ≡ refusal (had .number) (had .place)
+  unfolding outcome
+  due-stops f z =
+      due-cases asked k
+      (λ q b e. ap (λ (x : Reading AllRead). outcome x f) e ∙ sym (ap (λ (t : Texts). refusal (t .number) (t .place)) (eh ∙ ap dueTexts e ∙ refused-texts q 0)))
+      (λ h e room parts. absurd (z (ap (λ (t : Texts). t .number) (eh ∙ ap dueTexts e) ∙ accepted-number h)))
+
+  -- Else what follows is the answer.
+  due-goes : (f : AllRead → Outcome) (P : Outcome → Type 0) → had .number ≡ 0 → 2048 ≤ length (k .old .nodes) → 2048 ≤ length (k .new .nodes)
+      → ((h : AllRead) → asked ≤ k .scratch → Ready (memory (k .old .text) (k .old .nodes) (k .old .links)) (memory (k .new .text) (k .new .nodes) (k .new .links)) (k .text) (k .tests) (k .rows) had (givenBy h) → P (f h))
+      → P (outcome (goesBy write-sheet asked k) f)
+  unfolding outcome
+  due-goes f P z a b go =
+      due-cases asked k
+      (λ q c e. absurd (let v : ⊥ = omega (arith, z, c, ap (λ (t : Texts). t .number) (eh ∙ ap dueTexts e ∙ refused-texts q 0)) in v))
+      (λ h e room parts.
+      let r = subst (λ (t : Texts). Ready (memory (k .old .text) (k .old .nodes) (k .old .links)) (memory (k .new .text) (k .new .nodes) (k .new .links)) (k .text) (k .tests) (k .rows) t (givenBy h)) (sym (eh ∙ ap dueTexts e)) (held-ready k h parts a b) in
+      subst P (sym (ap (λ (x : Reading AllRead). outcome x f) e)) (go h room r))
+
+-- ---- the numbers of the nodes, out of the scratch
+
+pub unloads : (w z r d : List ℕ) (k : ℕ) → z ≡ replicate 2048 0 → r ≡ take 2048 (drop k w) → d ≡ sets z 0 r → d ≡ unloaded k w
+unfolding unloaded
+unloads w z r d k ez er ed = ed ∙ ap₂ (λ (a b : List ℕ). sets a 0 b) ez er
+
+unloaded-length : (k : ℕ) (w : List ℕ) → 2048 ≤ length (unloaded k w)
+unfolding unloaded
+unloaded-length k w = omega (arith, length-sets (replicate 2048 0) 0 (take 2048 (drop k w)), length-replicate {A = ℕ} 2048 0)
+
+module _ (j : Job) (olds : ℕ) (ot on ol : List ℕ) (news : ℕ) (nt nn nl tt tests rows w : List ℕ) (eo : on ≡ unloaded 0 w) (en : nn ≡ unloaded 2048 w) where
+  abbrev the-job : LentJob
+  the-job = lentJob j (numbers olds ot on ol) (numbers news nt nn nl) tt tests rows (length w)
+
+  is-loaded : the-job ≡ loadedJob j olds ot ol news nt nl tt tests rows w
+  is-loaded = ap₂ (λ (a b : List ℕ). lentJob j (numbers olds ot a ol) (numbers news nt b nl) tt tests rows (length w)) eo en
+
+  wide-old : 2048 ≤ length on
+  wide-old = subst (λ (l : List ℕ). 2048 ≤ length l) (sym eo) (unloaded-length 0 w)
+
+  wide-new : 2048 ≤ length nn
+  wide-new = subst (λ (l : List ℕ). 2048 ≤ length l) (sym en) (unloaded-length 2048 w)
+
+  -- ---- `sheet_in`
+
+  module _ (had : Texts) (eh : had ≡ dueTexts (goesBy write-sheet 12800 the-job)) where
+    told-stop : (f : AllRead → Outcome) (out : Bytes) → (had .number ≡ 0 → ⊥) → Told (outcome (goesBy write-sheet 12800 the-job) f) (record { number = had .number; place = had .place }) out out
+    unfolding outputAfter
+    told-stop f out z =
+        subst (λ (x : Outcome). Told x (record { number = had .number; place = had .place }) out out) (sym (due-stops 12800 the-job had eh f z)) (record { numbered = refl; placed = refl; output = refl })
+
+    pub sheet-stop : (out : Bytes) → (had .number ≡ 0 → ⊥) → Told (sheetCall (loadedJob j olds ot ol news nt nl tt tests rows w) (length out)) (record { number = had .number; place = had .place }) out out
+    unfolding sheetCall
+    sheet-stop out z = subst (λ (k : LentJob). Told (sheetCall k (length out)) (record { number = had .number; place = had .place }) out out) is-loaded (told-stop _ out z)
+
+    pub sheet-goes : (w′ out out′ : List ℕ) (r : Written) → had .number ≡ 0 → Done w w′ out out′ (SheetDone (memory ot on ol) (memory nt nn nl) tt tests rows had w out r out′)
+        → Told (sheetCall (loadedJob j olds ot ol news nt nl tt tests rows w) (length out)) r out out′
+    unfolding sheetCall SheetDone
+    sheet-goes w′ out out′ r z d =
+        subst (λ (k : LentJob). Told (sheetCall k (length out)) r out out′) is-loaded
+        (due-goes 12800 the-job had eh _ (λ x. Told x r out out′) z wide-old wide-new (λ h room y. d .claim (givenBy h) y room))
+
+    -- ---- `record_in`
+
+    pub record-stop : (i : ℕ) (out : Bytes) → (had .number ≡ 0 → ⊥) → Told (recordCall (loadedJob j olds ot ol news nt nl tt tests rows w) i (length out)) (record { number = had .number; place = had .place }) out out
+    unfolding recordCall goesBy ofStage
+    record-stop i out z = subst (λ (k : LentJob). Told (recordCall k i (length out)) (record { number = had .number; place = had .place }) out out) is-loaded (told-stop _ out z)
+
+    pub record-goes : (i : ℕ) (w′ out out′ : List ℕ) (r : Written) → had .number ≡ 0 → Done w w′ out out′ (RecordDone (memory ot on ol) (memory nt nn nl) tt tests rows had i w out r out′)
+        → Told (recordCall (loadedJob j olds ot ol news nt nl tt tests rows w) i (length out)) r out out′
+    unfolding recordCall RecordDone goesBy ofStage
+    record-goes i w′ out out′ r z d =
+        subst (λ (k : LentJob). Told (recordCall k i (length out)) r out out′) is-loaded
+        (due-goes 12800 the-job had eh _ (λ x. Told x r out out′) z wide-old wide-new (λ h room y. d .claim (givenBy h) y room))
+
+    -- ---- `check_in`
+
+    pub check-stop : (sheet : Bytes) → (had .number ≡ 0 → ⊥) → Answered (checkCall (loadedJob j olds ot ol news nt nl tt tests rows w) sheet) (record { number = had .number; place = had .place })
+    unfolding checkCall goesBy ofStage
+    check-stop sheet z =
+        subst (λ (k : LentJob). Answered (checkCall k sheet) (record { number = had .number; place = had .place })) is-loaded
+        (subst (λ (x : Outcome). Answered x (record { number = had .number; place = had .place })) (sym (due-stops 12800 the-job had eh _ z)) (record { number-is = refl; place-is = refl }))
+
+    pub check-goes : (sheet : Bytes) (r : Checked) → had .number ≡ 0
+        → Checks (memory ot on ol) (memory nt nn nl) (had .«old_nodes») (had .«new_nodes») (had .«old_edges») tt tests rows (had .tests) sheet r
+        → Answered (checkCall (loadedJob j olds ot ol news nt nl tt tests rows w) sheet) r
+    unfolding checkCall Checks goesBy ofStage
+    check-goes sheet r z d =
+        subst (λ (k : LentJob). Answered (checkCall k sheet) r) is-loaded
+        (due-goes 12800 the-job had eh _ (λ x. Answered x r) z wide-old wide-new
+        (λ h room y. subst (λ (g : Given). Answered (outcome (readSheet (g .old) (g .new) (g .suite) sheet) (judged g)) r) (sym (y .given-is))
+        (d (y .o) (y .p) (y .l) (y .old-in) (y .new-in) (y .tests-read) (y .tests-in) (y .old-nodes-n) (y .new-nodes-n) (y .old-edges-n))))
+
+-- ---- `sheet_on`, `record_on`, `check_on`
+
+pub on-called : (x : Outcome) (a : Checked) (w w₁ w₂ : List ℕ) → Answered x a → length w₁ ≡ length w → w₂ ≡ replicate (length w₁) 0 → CalledOn x (record { number = a .number; place = a .place }) w w₂
+on-called x a w w₁ w₂ t e q = record { number-is = t .number-is; place-is = t .place-is; scratch-is = q ∙ ap (λ (n : ℕ). replicate n 0) e }
+
+pub on-wrote : (x : Outcome) (a : Written) (w w₁ w₂ out out′ : List ℕ) → Told x a out out′ → length w₁ ≡ length w → w₂ ≡ replicate (length w₁) 0 → WroteOn x (record { number = a .number; place = a .place }) w w₂ out out′
+on-wrote x a w w₁ w₂ out out′ t e q =
+    record { called = record { number-is = t .numbered; place-is = t .placed; scratch-is = q ∙ ap (λ (n : ℕ). replicate n 0) e }; output-is = t .output }
+
+-- ---- the calls: what is lent is what the scratch was loaded with
+
+module _ (on nn : List Node) (w w₁ : List ℕ) (loaded : w₁ ≡ sets (sets w 0 (flat (take 512 on))) 2048 (flat (take 512 nn))) (long : 4096 ≤ length w) where
+  flat-front : (n : List Node) → 512 ≤ length n → length (flat (take 512 n)) ≡ 2048
+  flat-front n h = omega (arith, flat-length (take 512 n), length-take-le 512 n h)
+
+  flat-short : (n : List Node) → length (flat (take 512 n)) ≤ 2048
+  flat-short n = omega (arith, flat-length (take 512 n), length-take 512 n)
+
+  abbrev w₀ : List ℕ
+  w₀ = sets w 0 (flat (take 512 on))
+
+  same-w : length w₁ ≡ length w
+  same-w = ap length loaded ∙ length-sets w₀ 2048 (flat (take 512 nn)) ∙ length-sets w 0 (flat (take 512 on))
+
+  -- Numbers that fill their table are the table.
+  fill : (l : List ℕ) → length l ≡ 2048 → sets (replicate 2048 0) 0 l ≡ l
+  fill l e =
+      sets-front (replicate 2048 0) l (omega (arith, length-replicate {A = ℕ} 2048 0))
+      ∙ ap (λ (x : List ℕ). l ++ x) (drop-end (replicate 2048 0) (length l) (omega (arith, length-replicate {A = ℕ} 2048 0)))
+      ∙ append-nil l
+
+  old-unloaded : 512 ≤ length on → unloaded 0 w₁ ≡ flat (take 512 on)
+  unfolding unloaded
+  old-unloaded h =
+      let f : List ℕ = flat (take 512 on) in
+      let e : length f ≡ 2048 = flat-front on h in
+      let t : take 2048 (drop 0 w₁) ≡ f
+      = ap (λ (x : List ℕ). take 2048 (drop 0 x)) loaded
+      ∙ part-sets-before (flat (take 512 nn)) w₀ 2048 0 2048 (omega arith)
+      ∙ ap (λ (k : ℕ). take k (drop 0 w₀)) (sym e)
+      ∙ part-sets f w 0 (omega arith) in
+      ap (λ (x : List ℕ). sets (replicate 2048 0) 0 x) t ∙ fill f e
+
+  new-unloaded : 512 ≤ length nn → unloaded 2048 w₁ ≡ flat (take 512 nn)
+  unfolding unloaded
+  new-unloaded h =
+      let f : List ℕ = flat (take 512 nn) in
+      let e : length f ≡ 2048 = flat-front nn h in
+      let t : take 2048 (drop 2048 w₁) ≡ f
+      = ap (λ (x : List ℕ). take 2048 (drop 2048 x)) loaded
+      ∙ ap (λ (k : ℕ). take k (drop 2048 (sets w₀ 2048 f))) (sym e)
+      ∙ part-sets f w₀ 2048 (omega (arith, length-sets w 0 (flat (take 512 on)))) in
+      ap (λ (x : List ℕ). sets (replicate 2048 0) 0 x) t ∙ fill f e
+
+  old-held : (t : Bytes) (l : List ℕ) → versionLeft (numbers (length on) t (unloaded 0 w₁) l) ≡ versionLeft (lent t on l)
+  old-held t l = front-left t on l (unloaded 0 w₁) old-unloaded
+
+  new-held : (t : Bytes) (l : List ℕ) → versionLeft (numbers (length nn) t (unloaded 2048 w₁) l) ≡ versionLeft (lent t nn l)
+  new-held t l = front-left t nn l (unloaded 2048 w₁) new-unloaded
+
+module _ (j : Job) (ot : Bytes) (on : List Node) (ol nt : List ℕ) (nn : List Node) (nl tt tests rows w w₁ : List ℕ) (loaded : w₁ ≡ sets (sets w 0 (flat (take 512 on))) 2048 (flat (take 512 nn))) where
+  abbrev job-loaded : LentJob
+  job-loaded = loadedJob j (length on) ot ol (length nn) nt nl tt tests rows w₁
+
+  abbrev job-lent : LentJob
+  job-lent = lentJob j (lent ot on ol) (lent nt nn nl) tt tests rows (length w)
+
+  long-same : length w₁ ≡ length w
+  long-same = ap length loaded ∙ length-sets (sets w 0 (flat (take 512 on))) 2048 (flat (take 512 nn)) ∙ length-sets w 0 (flat (take 512 on))
+
+  held-same : 4096 ≤ length w → heldTests j (job-loaded .old) (job-loaded .new) tt tests rows ≡ heldTests j (lent ot on ol) (lent nt nn nl) tt tests rows
+  unfolding heldTests
+  held-same h =
+      ap₂ (λ (x y : Option Listing). after x none (λ o. after y none (λ p. after (suiteLeft (edgeCount (o .program)) tt tests rows) none (λ l. choose (sameJob j (jobTests o p l)) (some (record { old = o; new = p; tests = l })) none))))
+      (old-held on nn w w₁ loaded h ot ol) (new-held on nn w w₁ loaded h nt nl)
+
+  goes-same : (c : Call) (asked : ℕ) → 4096 ≤ asked → goesBy c asked job-loaded ≡ goesBy c asked job-lent
+  unfolding goesBy choose
+  goes-same c asked h =
+      below-or (length w) asked
+      (λ b. let b₁ : length w₁ < asked = omega (arith, long-same) in simp (lt-leb asked (length w) b, lt-leb asked (length w₁) b₁))
+      (λ b. ap₂ (λ (n : ℕ) (x : Option AllRead). choose (ofStage c (j .stage)) (choose (leb asked n) (after x (refused 14 0) (λ g. accepted g)) (refused 14 0)) (refused 13 0)) long-same (held-same (omega arith)))
+
+  sheet-same : (room : ℕ) → sheetCall job-loaded room ≡ sheetCall job-lent room
+  unfolding sheetCall
+  sheet-same room = ap (λ (x : Reading AllRead). outcome x (λ h. writing (givenBy h) room (sheetBytes (givenBy h)))) (goes-same write-sheet 12800 (omega arith))
+
+  wrote-is : (x y : Outcome) (r : Answer) (w₂ out out′ : List ℕ) → x ≡ y → WroteOn x r w₁ w₂ out out′ → Wrote y r j j w w₂ out out′
+  wrote-is x y r w₂ out out′ e h =
+      subst (λ (z : Outcome). Wrote z r j j w w₂ out out′) e
+      (record {
+        called = record { number-is = h .called .number-is; place-is = h .called .place-is; job-is = refl; scratch-is = h .called .scratch-is ∙ ap (λ (n : ℕ). replicate n 0) long-same };
+        output-is = h .output-is;
+      })
+
+  -- `write_sheet`
+  pub sheet-is : (r : Answer) (w₂ out out′ : List ℕ) → WroteOn (sheetCall job-loaded (length out)) r w₁ w₂ out out′ → Wrote (sheetCall job-lent (length out)) r j j w w₂ out out′
+  sheet-is r w₂ out out′ h = wrote-is _ _ r w₂ out out′ (sheet-same (length out)) h
+
+  record-same : (i room : ℕ) → recordCall job-loaded i room ≡ recordCall job-lent i room
+  unfolding recordCall
+  record-same i room =
+      ap (λ (x : Reading AllRead). outcome x (λ h. choose (ltb i (testCount (givenBy h .suite))) (writing (givenBy h) room (recordBytes (givenBy h) i)) (refusal 6 0))) (goes-same write-record 12800 (omega arith))
+
+  -- `write_record`
+  pub record-is : (i : ℕ) (r : Answer) (w₂ out out′ : List ℕ) → WroteOn (recordCall job-loaded i (length out)) r w₁ w₂ out out′ → Wrote (recordCall job-lent i (length out)) r j j w w₂ out out′
+  record-is i r w₂ out out′ h = wrote-is _ _ r w₂ out out′ (record-same i (length out)) h
+
+  called-is : (x y : Outcome) (r : Answer) (w₂ : List ℕ) → x ≡ y → CalledOn x r w₁ w₂ → Called y r j j w w₂
+  called-is x y r w₂ e h =
+      subst (λ (z : Outcome). Called z r j j w w₂) e
+      (record { number-is = h .number-is; place-is = h .place-is; job-is = refl; scratch-is = h .scratch-is ∙ ap (λ (n : ℕ). replicate n 0) long-same })
+
+  check-same : (sheet : Bytes) → checkCall job-loaded sheet ≡ checkCall job-lent sheet
+  unfolding checkCall
+  check-same sheet =
+      ap (λ (x : Reading AllRead). outcome x (λ h. outcome (readSheet (h .old .program) (h .new .program) (h .tests .suite) sheet) (judged (givenBy h)))) (goes-same check-sheet 12800 (omega arith))
+
+  -- `check_sheet`
+  pub check-is : (sheet : Bytes) (r : Answer) (w₂ : List ℕ) → CalledOn (checkCall job-loaded sheet) r w₁ w₂ → Called (checkCall job-lent sheet) r j j w w₂
+  check-is sheet r w₂ h = called-is _ _ r w₂ (check-same sheet) h
+
+pub ruleset sheets = (unloads, due-few, sheet-stop, sheet-goes, record-stop, record-goes, on-wrote, check-stop, check-goes, on-called)
+
+pub ruleset all = (dues, sheets)

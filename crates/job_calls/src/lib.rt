@@ -1,0 +1,505 @@
+// The calls of a job at stage 3, over lent memory: the sheet, a record line, the check of a sheet, a label. The work of each is done on
+// values and tables of numbers; the call itself takes the job and the nodes out of what is lent. The scratch is zero afterwards.
+use intake::Texts;
+use job::Answer;
+use reader::Count;
+use records::Job;
+use records::Node;
+use text::clear;
+use text::copy;
+use text::run;
+ghost use mathlib.Core.Path.{_≡_};
+ghost use Prim.Native.Nat.{_≤_};
+ghost use lib.ListN.{length};
+ghost use Rattle.rules.specs.Job.{write-sheet};
+ghost use Rattle.checker.specs.Checking.{Answered};
+ghost use Rattle.intake.specs.Ready.{refusedTexts};
+ghost use Rattle.held.specs.Held.{lent, numbers, suiteLeft};
+ghost use Rattle.writer.specs.Sheets.{Told};
+ghost use Rattle.job_calls.specs.Calls.{Called, CalledOn, Wrote, WroteOn, checkCall, dueTexts, goesBy, lentJob, loadedJob, recordCall, sheetCall, textsDue};
+
+// ---- 13 and 14
+
+// A refusal, by number.
+fn refused(number: usize) -> Texts
+    ensures { λ r. ⌜ r ≡ refusedTexts number 0 ⌝ }
+{
+    Texts {
+        number,
+        place: 0,
+        old_nodes: 0,
+        old_edges: 0,
+        new_nodes: 0,
+        new_edges: 0,
+        tests: 0,
+    }
+}
+
+// The counts, where the tables of the tests and the job are what reading leaves, else 14.
+fn suite_due(job: Job, o: Count, p: Count, tt: &[u8], tests: &[usize], rows: &[u64]) -> Texts
+    requires { ⌜ o .edges ≤ 1024 ⌝ }
+    ensures { λ r. ⌜ r ≡ textsDue job o p (suiteLeft (o .edges) (now (tt .entry)) (now (tests .entry)) (now (rows .entry))) ⌝ }
+{
+    let mut names = [0usize; 400];
+    let mut words = [0u64; 3200];
+    let t = held::suite_left(tt, o.edges, tests, rows, &mut names, &mut words);
+    if t.number != 0 {
+        return refused(14);
+    }
+    let left = Job {
+        stage: 3,
+        old_procs: o.procs,
+        old_nodes: o.nodes,
+        old_edges: o.edges,
+        new_procs: p.procs,
+        new_nodes: p.nodes,
+        new_edges: p.edges,
+        tests: t.count,
+    };
+    if records::same_job(job, left) {
+        return Texts {
+            number: 0,
+            place: 0,
+            old_nodes: o.nodes,
+            old_edges: o.edges,
+            new_nodes: p.nodes,
+            new_edges: p.edges,
+            tests: t.count,
+        };
+    }
+    refused(14)
+}
+
+// 13, 14, or the counts of what job and tables hold, for a call that asks for so many numbers of scratch where `had` are lent.
+fn due(
+    job: Job,
+    asked: usize,
+    had: usize,
+    olds: usize,
+    ot: &[u8],
+    on: &[usize],
+    ol: &[usize],
+    news: usize,
+    nt: &[u8],
+    nn: &[usize],
+    nl: &[usize],
+    tt: &[u8],
+    tests: &[usize],
+    rows: &[u64],
+) -> Texts
+    ensures { λ r. ⌜ r ≡ dueTexts (goesBy write-sheet asked (lentJob job (numbers olds (now (ot .entry)) (now (on .entry)) (now (ol .entry))) (numbers news (now (nt .entry)) (now (nn .entry)) (now (nl .entry))) (now (tt .entry)) (now (tests .entry)) (now (rows .entry)) had)) ⌝ }
+{
+    if job.stage != 3 {
+        return refused(13);
+    }
+    if had < asked {
+        return refused(14);
+    }
+    let mut work = [0usize; 8128];
+    let o = held::version_left(olds, ot, on, ol, &mut work);
+    if o.number != 0 {
+        return refused(14);
+    }
+    let p = held::version_left(news, nt, nn, nl, &mut work);
+    if p.number != 0 {
+        return refused(14);
+    }
+    suite_due(job, o, p, tt, tests, rows)
+}
+
+// ---- the sheet
+
+// Writes the sheet; the scratch holds the numbers of the nodes, and is then the table of the pairs.
+fn sheet_in(
+    job: Job,
+    olds: usize,
+    news: usize,
+    ot: &[u8],
+    ol: &[usize],
+    nt: &[u8],
+    nl: &[usize],
+    tt: &[u8],
+    tests: &[usize],
+    rows: &[u64],
+    scratch: &mut [usize],
+    out: &mut [u8],
+) -> writer::Answer
+    ensures { λ r. ⌜ Told (sheetCall (loadedJob job olds (now (ot .entry)) (now (ol .entry)) news (now (nt .entry)) (now (nl .entry)) (now (tt .entry)) (now (tests .entry)) (now (rows .entry)) (now (scratch .entry))) (length (now (out .entry)))) r (now (out .entry)) (now (out .exit)) ⌝ }
+{
+    let mut on = [0usize; 2048];
+    let mut nn = [0usize; 2048];
+    copy(&mut on, 0, run(scratch, 0, 2048));
+    copy(&mut nn, 0, run(scratch, 2048, 2048));
+    let had = due(
+        job,
+        12800,
+        scratch.len(),
+        olds,
+        ot,
+        &on,
+        ol,
+        news,
+        nt,
+        &nn,
+        nl,
+        tt,
+        tests,
+        rows,
+    );
+    if had.number != 0 {
+        return writer::Answer {
+            number: had.number,
+            place: had.place,
+        };
+    }
+    work::write_sheet(ot, &on, ol, nt, &nn, nl, tt, tests, rows, had, scratch, out)
+}
+
+// The same, and the scratch is zero.
+fn sheet_on(
+    job: Job,
+    olds: usize,
+    news: usize,
+    ot: &[u8],
+    ol: &[usize],
+    nt: &[u8],
+    nl: &[usize],
+    tt: &[u8],
+    tests: &[usize],
+    rows: &[u64],
+    scratch: &mut [usize],
+    out: &mut [u8],
+) -> Answer
+    ensures { λ r. ⌜ WroteOn (sheetCall (loadedJob job olds (now (ot .entry)) (now (ol .entry)) news (now (nt .entry)) (now (nl .entry)) (now (tt .entry)) (now (tests .entry)) (now (rows .entry)) (now (scratch .entry))) (length (now (out .entry)))) r (now (scratch .entry)) (now (scratch .exit)) (now (out .entry)) (now (out .exit)) ⌝ }
+{
+    let a = sheet_in(
+        job,
+        olds,
+        news,
+        ot,
+        ol,
+        nt,
+        nl,
+        tt,
+        tests,
+        rows,
+        scratch,
+        out,
+    );
+    clear(scratch);
+    Answer {
+        number: a.number,
+        place: a.place,
+    }
+}
+
+// Writes the sheet that the selector gives.
+pub fn write_sheet(
+    job: &mut Job,
+    ot: &[u8],
+    on: &[Node],
+    ol: &[usize],
+    nt: &[u8],
+    nn: &[Node],
+    nl: &[usize],
+    tt: &[u8],
+    tests: &[usize],
+    rows: &[u64],
+    scratch: &mut [usize],
+    out: &mut [u8],
+) -> Answer
+    ensures { λ r. ⌜ Wrote (sheetCall (lentJob (now (job .entry)) (lent (now (ot .entry)) (now (on .entry)) (now (ol .entry))) (lent (now (nt .entry)) (now (nn .entry)) (now (nl .entry))) (now (tt .entry)) (now (tests .entry)) (now (rows .entry)) (length (now (scratch .entry)))) (length (now (out .entry)))) r (now (job .entry)) (now (job .exit)) (now (scratch .entry)) (now (scratch .exit)) (now (out .entry)) (now (out .exit)) ⌝ }
+{
+    records::load_both(on, nn, scratch);
+    sheet_on(
+        *job,
+        on.len(),
+        nn.len(),
+        ot,
+        ol,
+        nt,
+        nl,
+        tt,
+        tests,
+        rows,
+        scratch,
+        out,
+    )
+}
+
+// ---- a record line
+
+// Writes the record line of a test; the scratch holds the numbers of the nodes, and is then the table of the pairs.
+fn record_in(
+    job: Job,
+    olds: usize,
+    news: usize,
+    ot: &[u8],
+    ol: &[usize],
+    nt: &[u8],
+    nl: &[usize],
+    tt: &[u8],
+    tests: &[usize],
+    rows: &[u64],
+    test: usize,
+    scratch: &mut [usize],
+    out: &mut [u8],
+) -> writer::Answer
+    ensures { λ r. ⌜ Told (recordCall (loadedJob job olds (now (ot .entry)) (now (ol .entry)) news (now (nt .entry)) (now (nl .entry)) (now (tt .entry)) (now (tests .entry)) (now (rows .entry)) (now (scratch .entry))) test (length (now (out .entry)))) r (now (out .entry)) (now (out .exit)) ⌝ }
+{
+    let mut on = [0usize; 2048];
+    let mut nn = [0usize; 2048];
+    copy(&mut on, 0, run(scratch, 0, 2048));
+    copy(&mut nn, 0, run(scratch, 2048, 2048));
+    let had = due(
+        job,
+        12800,
+        scratch.len(),
+        olds,
+        ot,
+        &on,
+        ol,
+        news,
+        nt,
+        &nn,
+        nl,
+        tt,
+        tests,
+        rows,
+    );
+    if had.number != 0 {
+        return writer::Answer {
+            number: had.number,
+            place: had.place,
+        };
+    }
+    work::write_record(
+        ot,
+        &on,
+        ol,
+        nt,
+        &nn,
+        nl,
+        tt,
+        tests,
+        rows,
+        had,
+        test,
+        scratch,
+        out,
+    )
+}
+
+// The same, and the scratch is zero.
+fn record_on(
+    job: Job,
+    olds: usize,
+    news: usize,
+    ot: &[u8],
+    ol: &[usize],
+    nt: &[u8],
+    nl: &[usize],
+    tt: &[u8],
+    tests: &[usize],
+    rows: &[u64],
+    test: usize,
+    scratch: &mut [usize],
+    out: &mut [u8],
+) -> Answer
+    ensures { λ r. ⌜ WroteOn (recordCall (loadedJob job olds (now (ot .entry)) (now (ol .entry)) news (now (nt .entry)) (now (nl .entry)) (now (tt .entry)) (now (tests .entry)) (now (rows .entry)) (now (scratch .entry))) test (length (now (out .entry)))) r (now (scratch .entry)) (now (scratch .exit)) (now (out .entry)) (now (out .exit)) ⌝ }
+{
+    let a = record_in(
+        job,
+        olds,
+        news,
+        ot,
+        ol,
+        nt,
+        nl,
+        tt,
+        tests,
+        rows,
+        test,
+        scratch,
+        out,
+    );
+    clear(scratch);
+    Answer {
+        number: a.number,
+        place: a.place,
+    }
+}
+
+// Writes the record line of a test, by its number.
+pub fn write_record(
+    job: &mut Job,
+    ot: &[u8],
+    on: &[Node],
+    ol: &[usize],
+    nt: &[u8],
+    nn: &[Node],
+    nl: &[usize],
+    tt: &[u8],
+    tests: &[usize],
+    rows: &[u64],
+    test: usize,
+    scratch: &mut [usize],
+    out: &mut [u8],
+) -> Answer
+    ensures { λ r. ⌜ Wrote (recordCall (lentJob (now (job .entry)) (lent (now (ot .entry)) (now (on .entry)) (now (ol .entry))) (lent (now (nt .entry)) (now (nn .entry)) (now (nl .entry))) (now (tt .entry)) (now (tests .entry)) (now (rows .entry)) (length (now (scratch .entry)))) test (length (now (out .entry)))) r (now (job .entry)) (now (job .exit)) (now (scratch .entry)) (now (scratch .exit)) (now (out .entry)) (now (out .exit)) ⌝ }
+{
+    records::load_both(on, nn, scratch);
+    record_on(
+        *job,
+        on.len(),
+        nn.len(),
+        ot,
+        ol,
+        nt,
+        nl,
+        tt,
+        tests,
+        rows,
+        test,
+        scratch,
+        out,
+    )
+}
+
+// ---- the check of a sheet
+
+// Checks a sheet; the scratch holds the numbers of the nodes, and is then the table of the listed pairs.
+fn check_in(
+    job: Job,
+    olds: usize,
+    news: usize,
+    ot: &[u8],
+    ol: &[usize],
+    nt: &[u8],
+    nl: &[usize],
+    tt: &[u8],
+    tests: &[usize],
+    rows: &[u64],
+    sheet: &[u8],
+    scratch: &mut [usize],
+) -> checker::Answer
+    ensures { λ r. ⌜ Answered (checkCall (loadedJob job olds (now (ot .entry)) (now (ol .entry)) news (now (nt .entry)) (now (nl .entry)) (now (tt .entry)) (now (tests .entry)) (now (rows .entry)) (now (scratch .entry))) (now (sheet .entry))) r ⌝ }
+{
+    let mut on = [0usize; 2048];
+    let mut nn = [0usize; 2048];
+    copy(&mut on, 0, run(scratch, 0, 2048));
+    copy(&mut nn, 0, run(scratch, 2048, 2048));
+    let had = due(
+        job,
+        12800,
+        scratch.len(),
+        olds,
+        ot,
+        &on,
+        ol,
+        news,
+        nt,
+        &nn,
+        nl,
+        tt,
+        tests,
+        rows,
+    );
+    if had.number != 0 {
+        return checker::Answer {
+            number: had.number,
+            place: had.place,
+        };
+    }
+    let mut sets = [0u64; 20];
+    checker::check_sheet(
+        ot,
+        &on,
+        ol,
+        nt,
+        &nn,
+        nl,
+        had.old_nodes,
+        had.new_nodes,
+        had.old_edges,
+        tt,
+        tests,
+        rows,
+        had.tests,
+        sheet,
+        scratch,
+        &mut sets,
+    )
+}
+
+// The same, and the scratch is zero.
+fn check_on(
+    job: Job,
+    olds: usize,
+    news: usize,
+    ot: &[u8],
+    ol: &[usize],
+    nt: &[u8],
+    nl: &[usize],
+    tt: &[u8],
+    tests: &[usize],
+    rows: &[u64],
+    sheet: &[u8],
+    scratch: &mut [usize],
+) -> Answer
+    ensures { λ r. ⌜ CalledOn (checkCall (loadedJob job olds (now (ot .entry)) (now (ol .entry)) news (now (nt .entry)) (now (nl .entry)) (now (tt .entry)) (now (tests .entry)) (now (rows .entry)) (now (scratch .entry))) (now (sheet .entry))) r (now (scratch .entry)) (now (scratch .exit)) ⌝ }
+{
+    let a = check_in(
+        job,
+        olds,
+        news,
+        ot,
+        ol,
+        nt,
+        nl,
+        tt,
+        tests,
+        rows,
+        sheet,
+        scratch,
+    );
+    clear(scratch);
+    Answer {
+        number: a.number,
+        place: a.place,
+    }
+}
+
+// Checks a sheet, the selector's or another's. Success is to pass.
+pub fn check_sheet(
+    job: &mut Job,
+    ot: &[u8],
+    on: &[Node],
+    ol: &[usize],
+    nt: &[u8],
+    nn: &[Node],
+    nl: &[usize],
+    tt: &[u8],
+    tests: &[usize],
+    rows: &[u64],
+    sheet: &[u8],
+    scratch: &mut [usize],
+) -> Answer
+    ensures { λ r. ⌜ Called (checkCall (lentJob (now (job .entry)) (lent (now (ot .entry)) (now (on .entry)) (now (ol .entry))) (lent (now (nt .entry)) (now (nn .entry)) (now (nl .entry))) (now (tt .entry)) (now (tests .entry)) (now (rows .entry)) (length (now (scratch .entry)))) (now (sheet .entry))) r (now (job .entry)) (now (job .exit)) (now (scratch .entry)) (now (scratch .exit)) ⌝ }
+{
+    records::load_both(on, nn, scratch);
+    check_on(
+        *job,
+        on.len(),
+        nn.len(),
+        ot,
+        ol,
+        nt,
+        nl,
+        tt,
+        tests,
+        rows,
+        sheet,
+        scratch,
+    )
+}
