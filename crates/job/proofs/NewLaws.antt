@@ -3,7 +3,7 @@ use mathlib.Core.Path.{_≡_, refl, sym, ap, ap₂, _∙_, subst}
 use mathlib.Core.Bool.{Bool, true, false}
 use mathlib.Core.List.{List}
 use mathlib.Core.Option.{Option, none, some}
-use Prim.Native.Nat.{ℕ, _*_, _≤_, _<_}
+use Prim.Native.Nat.{ℕ, _*_, _≤_}
 use native.Mathlib.Omega.{arith}
 use lib.ListN.{length, replicate, take, drop}
 use lib.Seq.{sets, length-take-le}
@@ -25,8 +25,8 @@ use Rattle.records.specs.NodeLaws.{flat-length}
 use Rattle.held.specs.Held.{Lent, numbers, lent, versionLeft, countLeft, jobOld, heldOld}
 use Rattle.held.specs.HeldLaws.{front-left}
 use Rattle.job.specs.declared.Taken.{Taken}
-use Rattle.job.specs.ReadOld.{roomy, programRead, jobWithOld, refusedTaken, withOld, TakenBy, LeftBy}
-use Rattle.job.specs.ReadNew.{oldPart, oldHeldDue, newDue, newRead, jobWithNew, newJob, withNew, NewTaken, ReadNew}
+use Rattle.job.specs.ReadOld.{roomy, programRead, jobWithOld, refusedTaken, withOld, TakenBy}
+use Rattle.job.specs.ReadNew.{oldPart, oldHeldDue, newDue, jobWithNew, newJob, withNew, NewTaken, ReadNew}
 use Rattle.job.proofs.Laws.{roomy-work, none-due, due-taken, text-refused, text-taken, left-is}
 
 -- ---- `with_new`

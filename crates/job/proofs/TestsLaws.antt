@@ -3,7 +3,7 @@ use mathlib.Core.Path.{_≡_, refl, sym, ap, ap₂, _∙_, subst}
 use mathlib.Core.Bool.{Bool, true, false}
 use mathlib.Core.List.{List}
 use mathlib.Core.Option.{Option, none, some}
-use Prim.Native.Nat.{ℕ, _*_, _+_, _≤_, _<_}
+use Prim.Native.Nat.{ℕ, _*_, _≤_, _<_}
 use native.Mathlib.Omega.{arith}
 use lib.ListN.{length, replicate, take, drop}
 use lib.Seq.{sets, length-sets, length-take-le}
@@ -14,7 +14,7 @@ use Rattle.laws.specs.Slices.{part-sets, part-sets-before}
 use Rattle.rules.specs.Text.{Bytes, Answer as Reading, refused, accepted}
 use Rattle.rules.specs.Graph.{edgeCount}
 use Rattle.rules.specs.ProgramFile.{Listing}
-use Rattle.rules.specs.SuiteFile.{TestListing, readTests, testCount}
+use Rattle.rules.specs.SuiteFile.{TestListing, readTests}
 use Rattle.rules.specs.Job.{ofStage, read-tests, stageAfter}
 use Rattle.reader.specs.declared.Count.{Count}
 use Rattle.suite.specs.declared.Read.{Read}
@@ -29,7 +29,7 @@ use Rattle.held.specs.HeldLaws.{front-left, version-sound}
 use Rattle.job.specs.declared.Moved.{Moved}
 use Rattle.job.specs.ReadOld.{answered, jobWithOld, withOld}
 use Rattle.job.specs.ReadNew.{oldPart, newPart, jobWithNew, withNew}
-use Rattle.job.specs.ReadTests.{testsRoomy, bothDue, testsDue, testsBy, withTests, testsJob, namesLeft, rowsLeft, movedBy, MovedBy, TestsTaken, TestsLeftBy, ReadTests}
+use Rattle.job.specs.ReadTests.{testsRoomy, bothDue, testsDue, testsBy, withTests, testsJob, namesLeft, rowsLeft, movedBy, MovedBy, TestsTaken, ReadTests}
 use Rattle.job.proofs.Laws.{none-due}
 use Rattle.job.proofs.NewLaws.{number-none, front-flat}
 

@@ -2,3 +2,4 @@ pub mod ReadOld
 pub mod ReadOldLaws
 pub mod ReadNew
 pub mod ReadTests
+pub mod Stages

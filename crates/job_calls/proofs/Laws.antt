@@ -3,24 +3,24 @@ use mathlib.Core.Path.{_≡_, refl, sym, ap, ap₂, _∙_, subst}
 use mathlib.Core.Bool.{Bool, true, false, true≢false}
 use mathlib.Core.List.{List, [], _++_, append-nil}
 use mathlib.Core.Option.{Option, none, some}
-use Prim.Native.Nat.{ℕ, _+_, _*_, _≤_, _<_}
+use Prim.Native.Nat.{ℕ, zero, suc, _+_, _*_, _≤_, _<_}
 use native.Mathlib.Omega.{arith}
 use lib.Dec.{eqb, leb, ltb}
-use lib.ListN.{length, take, drop, replicate, length-replicate, length-take}
+use lib.ListN.{length, getD, take, drop, replicate, length-replicate, length-take}
 use lib.Seq.{sets, length-sets, length-take-le}
-use borrow.Author.Tests.{eq-eqb, ne-eqb, eqb-true, le-leb, lt-leb, leb-true}
+use borrow.Author.Tests.{eq-eqb, ne-eqb, eqb-true, le-leb, lt-leb, leb-true, le-ltb, lt-ltb, ltb-true}
 use Rattle.laws.specs.Tests.{after, choose}
-use Rattle.laws.specs.Slices.{below-or, sets-front, part-sets, part-sets-before, drop-end}
+use Rattle.laws.specs.Slices.{below-or, same-or, sets-front, part-sets, part-sets-before, drop-end}
 use Rattle.rules.specs.Text.{Bytes, Answer as Reading, refused, accepted}
 use Rattle.rules.specs.Graph.{nodeCount, edgeCount}
 use Rattle.rules.specs.ProgramFile.{Listing}
 use Rattle.rules.specs.SuiteFile.{TestListing, testCount}
-use Rattle.rules.specs.Job.{Call, Given, Outcome, check-sheet, judged, numberOf, ofStage, outcome, outputAfter, placeOf, recordBytes, refusal, sheetBytes, show-label, stageAfter, write-record, write-sheet, writing}
+use Rattle.rules.specs.Job.{Call, Given, Outcome, Version, bySide, check-sheet, isNodeOfVersion, judged, labelAnswer, labelPart, labelShown, numberOf, ofStage, outcome, outputAfter, placeOf, recordBytes, refusal, sheetBytes, show-label, stageAfter, success, write-record, write-sheet, writing}
 use Rattle.rules.specs.Proofs.ProgramLaws.{Sound}
 use Rattle.reader.specs.declared.Count.{Count}
 use Rattle.reader.specs.Result.{Small}
 use Rattle.suite.specs.declared.Read.{Read}
-use Rattle.versions.specs.Memory.{memory}
+use Rattle.versions.specs.Memory.{InMemory, memory}
 use Rattle.intake.specs.declared.Texts.{Texts}
 use Rattle.intake.specs.Ready.{Few, Ready, refusedTexts}
 use Rattle.writer.specs.declared.Answer.{Answer as Written}
@@ -36,8 +36,10 @@ use Rattle.records.specs.Nodes.{flat}
 use Rattle.records.specs.NodeLaws.{flat-length}
 use Rattle.held.specs.Held.{AllRead, Lent, countLeft, heldTests, jobTests, lent, numbers, readLeft, suiteLeft, versionLeft}
 use Rattle.held.specs.HeldLaws.{count-small, front-left, suite-accepted, suite-few, suite-holds, version-memory, version-sound}
+use Rattle.records.specs.Shown.{partShown}
 use Rattle.job.specs.declared.Answer.{Answer}
-use Rattle.job_calls.specs.Calls.{Called, CalledOn, LentJob, Wrote, WroteOn, checkCall, countsBy, dueTexts, givenBy, goesBy, jobBy, lentJob, loadedJob, recordCall, sheetCall, textsDue, unloaded}
+use Rattle.job_calls.specs.declared.Label.{Label}
+use Rattle.job_calls.specs.Calls.{Called, CalledOn, Labelled, LentJob, Shown, Wrote, WroteOn, checkCall, countsBy, dueTexts, givenBy, goesBy, jobBy, labelBySide, labelCall, labelOfNode, labelPartCall, lentJob, loadedJob, recordCall, noLabel, sheetCall, shownBy, textsDue, unloaded, versionOf}
 
 -- ---- `suite_due`
 
@@ -358,6 +360,137 @@ module _ (j : Job) (olds : ℕ) (ot on ol : List ℕ) (news : ℕ) (nt nn nl tt 
         (λ h room y. subst (λ (g : Given). Answered (outcome (readSheet (g .old) (g .new) (g .suite) sheet) (judged g)) r) (sym (y .given-is))
         (d (y .o) (y .p) (y .l) (y .old-in) (y .new-in) (y .tests-read) (y .tests-in) (y .old-nodes-n) (y .new-nodes-n) (y .old-edges-n))))
 
+-- ---- `label_at`, `label_of`
+
+pub label-none : (count n : ℕ) (nodes : List ℕ) → count ≤ n → record { number = 6; place = 0; start = 0; len = 0 } ≡ labelOfNode count nodes n
+unfolding labelOfNode choose
+label-none count n nodes h = simp (le-ltb n count h)
+
+pub label-found : (count n : ℕ) (nodes : List ℕ) (a b : ℕ) → n < count → a ≡ getD nodes (4 * n + 1) 0 → b ≡ getD nodes (4 * n + 2) 0 → record { number = 0; place = 0; start = a; len = b } ≡ labelOfNode count nodes n
+unfolding labelOfNode choose
+label-found count n nodes a b h ea eb = rw (ea, eb) (simp (lt-ltb n count h))
+
+module _ (side olds : ℕ) (on : List ℕ) (news : ℕ) (nn : List ℕ) (n : ℕ) where
+  pub side-old : (r : Label) → side ≡ 0 → r ≡ labelOfNode olds on n → r ≡ labelBySide side olds on news nn n
+  unfolding labelBySide choose
+  side-old r e q = q ∙ simp (eq-eqb _ _ e)
+
+  pub side-new : (r : Label) → (side ≡ 0 → ⊥) → side ≡ 1 → r ≡ labelOfNode news nn n → r ≡ labelBySide side olds on news nn n
+  unfolding labelBySide choose
+  side-new r z e q = q ∙ simp (ne-eqb _ _ z, eq-eqb _ _ e)
+
+  pub side-none : (side ≡ 0 → ⊥) → (side ≡ 1 → ⊥) → record { number = 6; place = 0; start = 0; len = 0 } ≡ labelBySide side olds on news nn n
+  unfolding labelBySide choose
+  side-none z e = simp (ne-eqb _ _ z, ne-eqb _ _ e)
+
+-- ---- `label_in`
+
+-- The label of a node of a version in memory.
+module _ (t nodes links : List ℕ) (s : Listing) (h : InMemory (memory t nodes links) s) (n : ℕ) where
+  abbrev version : Version
+  version = record { text = t; listing = s }
+
+  abbrev found : Label
+  found = record { number = 0; place = 0; start = getD nodes (4 * n + 1) 0; len = getD nodes (4 * n + 2) 0 }
+
+  abbrev Fits : Bool → Type 0
+  Fits u =
+      (choose u found noLabel .number ≡ numberOf (choose u success (refusal 6 0))) × (choose u found noLabel .place ≡ placeOf (choose u success (refusal 6 0)))
+      × (take (choose u found noLabel .len) (drop (choose u found noLabel .start) t) ≡ choose u (labelPart version n) [])
+
+  label-fits : (u : Bool) → ltb n (nodeCount (s .program)) ≡ u → Fits u
+  unfolding choose labelPart
+  label-fits true e =
+      let b : n < nodeCount (s .program) = ltb-true _ _ e in
+      (refl, refl, ap₂ (λ (x y : ℕ). take x (drop y t)) (h .nodes n b 2 (omega arith)) (h .nodes n b 1 (omega arith)))
+  label-fits false e = (refl, refl, refl)
+
+  pub version-label : (labelOfNode (nodeCount (s .program)) nodes n .number ≡ numberOf (choose (isNodeOfVersion version n) success (refusal 6 0)))
+      × (labelOfNode (nodeCount (s .program)) nodes n .place ≡ placeOf (choose (isNodeOfVersion version n) success (refusal 6 0)))
+      × (take (labelOfNode (nodeCount (s .program)) nodes n .len) (drop (labelOfNode (nodeCount (s .program)) nodes n .start) t) ≡ choose (isNodeOfVersion version n) (labelPart version n) [])
+  unfolding labelOfNode isNodeOfVersion
+  version-label = label-fits (ltb n (nodeCount (s .program))) refl
+
+module _ (t nodes links t′ nodes′ links′ : List ℕ) (s s′ : Listing) (h : InMemory (memory t nodes links) s) (h′ : InMemory (memory t′ nodes′ links′) s′) (n : ℕ) where
+  abbrev label-by : ℕ → Label
+  label-by side = labelBySide side (nodeCount (s .program)) nodes (nodeCount (s′ .program)) nodes′ n
+
+  abbrev shows-as : ℕ → Type 0
+  shows-as side =
+      (label-by side .number ≡ numberOf (labelAnswer (record { text = t; listing = s }) (record { text = t′; listing = s′ }) side n))
+      × (label-by side .place ≡ placeOf (labelAnswer (record { text = t; listing = s }) (record { text = t′; listing = s′ }) side n))
+      × (partShown t t′ side (label-by side .start) (label-by side .len) ≡ labelShown (record { text = t; listing = s }) (record { text = t′; listing = s′ }) side n)
+
+  shown-side : (side : ℕ) → shows-as side
+  unfolding labelBySide labelAnswer labelShown bySide partShown choose
+  shown-side zero = version-label t nodes links s h n
+  shown-side (suc zero) = version-label t′ nodes′ links′ s′ h′ n
+  shown-side (suc (suc m)) =
+      let a : eqb (suc (suc m)) 0 ≡ false = ne-eqb (suc (suc m)) 0 (λ e. let z : ⊥ = omega arith in z) in
+      let b : eqb (suc (suc m)) 1 ≡ false = ne-eqb (suc (suc m)) 1 (λ e. let z : ⊥ = omega arith in z) in
+      (simp (a, b), simp (a, b), simp (a, b))
+
+module _ (j : Job) (olds : ℕ) (ot on ol : List ℕ) (news : ℕ) (nt nn nl tt tests rows w : List ℕ) (eo : on ≡ unloaded 0 w) (en : nn ≡ unloaded 2048 w) (had : Texts)
+    (eh : had ≡ dueTexts (goesBy write-sheet 4096 (the-job j olds ot on ol news nt nn nl tt tests rows w eo en))) (side n : ℕ) where
+  abbrev label-job : LentJob
+  label-job = the-job j olds ot on ol news nt nn nl tt tests rows w eo en
+
+  part-none : partShown ot nt side 0 0 ≡ []
+  unfolding partShown choose
+  part-none = same-or side 0 (λ e. simp (eq-eqb _ _ e)) (λ z. same-or side 1 (λ e. simp (ne-eqb _ _ z, eq-eqb _ _ e)) (λ e. simp (ne-eqb _ _ z, ne-eqb _ _ e)))
+
+  label-refused : (q : ℕ) → goesBy write-sheet 4096 label-job ≡ refused q 0 → Labelled label-job side n (record { number = q; place = 0; start = 0; len = 0 })
+  unfolding labelCall labelPartCall goesBy ofStage outcome shownBy
+  label-refused q e =
+      record {
+        number-is = sym (ap (λ (x : Reading AllRead). numberOf (outcome x (λ h. labelAnswer (versionOf (label-job .old) (h .old)) (versionOf (label-job .new) (h .new)) side n))) e);
+        place-is = sym (ap (λ (x : Reading AllRead). placeOf (outcome x (λ h. labelAnswer (versionOf (label-job .old) (h .old)) (versionOf (label-job .new) (h .new)) side n))) e);
+        part-is = part-none ∙ sym (ap (λ (x : Reading AllRead). shownBy x label-job side n) e);
+      }
+
+  pub label-stop : (had .number ≡ 0 → ⊥) → Labelled (loadedJob j olds ot ol news nt nl tt tests rows w) side n (record { number = had .number; place = had .place; start = 0; len = 0 })
+  label-stop z =
+      subst (λ (k : LentJob). Labelled k side n (record { number = had .number; place = had .place; start = 0; len = 0 })) (is-loaded j olds ot on ol news nt nn nl tt tests rows w eo en)
+      (due-cases 4096 label-job
+      (λ q b e. subst (λ (t : Texts). Labelled label-job side n (record { number = t .number; place = t .place; start = 0; len = 0 })) (sym (eh ∙ ap dueTexts e ∙ refused-texts q 0)) (label-refused q e))
+      (λ h e room parts. absurd (z (ap (λ (t : Texts). t .number) (eh ∙ ap dueTexts e) ∙ accepted-number h))))
+
+  label-accepted : (h : AllRead) → goesBy write-sheet 4096 label-job ≡ accepted h → Parts j (label-job .old) (label-job .new) tt tests rows h
+      → Labelled label-job side n (labelBySide side (nodeCount (h .old .program)) on (nodeCount (h .new .program)) nn n)
+  unfolding labelCall labelPartCall goesBy ofStage outcome shownBy
+  label-accepted h e parts =
+      let y = shown-side ot on ol nt nn nl (h .old) (h .new) (version-memory (label-job .old) (h .old) (parts .0) (wide-old j olds ot on ol news nt nn nl tt tests rows w eo en))
+      (version-memory (label-job .new) (h .new) (parts .1) (wide-new j olds ot on ol news nt nn nl tt tests rows w eo en)) n side in
+      record {
+        number-is = y .0 ∙ sym (ap (λ (x : Reading AllRead). numberOf (outcome x (λ g. labelAnswer (versionOf (label-job .old) (g .old)) (versionOf (label-job .new) (g .new)) side n))) e);
+        place-is = y .1 ∙ sym (ap (λ (x : Reading AllRead). placeOf (outcome x (λ g. labelAnswer (versionOf (label-job .old) (g .old)) (versionOf (label-job .new) (g .new)) side n))) e);
+        part-is = y .2 ∙ sym (ap (λ (x : Reading AllRead). shownBy x label-job side n) e);
+      }
+
+  counts-of : (h : AllRead) → (dueTexts (accepted h) .«old_nodes» ≡ nodeCount (h .old .program)) × (dueTexts (accepted h) .«new_nodes» ≡ nodeCount (h .new .program))
+  unfolding dueTexts
+  counts-of h = (refl, refl)
+
+  pub label-goes : (r : Label) → had .number ≡ 0 → r ≡ labelBySide side (had .«old_nodes») on (had .«new_nodes») nn n → Labelled (loadedJob j olds ot ol news nt nl tt tests rows w) side n r
+  label-goes r z er =
+      subst (λ (k : LentJob). Labelled k side n r) (is-loaded j olds ot on ol news nt nn nl tt tests rows w eo en)
+      (due-cases 4096 label-job
+      (λ q c e. absurd (let v : ⊥ = omega (arith, z, c, ap (λ (t : Texts). t .number) (eh ∙ ap dueTexts e ∙ refused-texts q 0)) in v))
+      (λ h e room parts.
+      let a : had .«old_nodes» ≡ nodeCount (h .old .program) = ap (λ (t : Texts). t .«old_nodes») (eh ∙ ap dueTexts e) ∙ counts-of h .0 in
+      let b : had .«new_nodes» ≡ nodeCount (h .new .program) = ap (λ (t : Texts). t .«new_nodes») (eh ∙ ap dueTexts e) ∙ counts-of h .1 in
+      subst (λ (x : Label). Labelled label-job side n x) (sym (er ∙ ap₂ (λ (x y : ℕ). labelBySide side x on y nn n) a b)) (label-accepted h e parts)))
+
+-- ---- `label_on`, `shown_on`
+
+pub on-labelled : (k : LentJob) (side n : ℕ) (a : Label) (w w₂ : List ℕ) → Labelled k side n a → w₂ ≡ replicate (length w) 0 → CalledOn (labelCall k side n) (record { number = a .number; place = a .place }) w w₂
+on-labelled k side n a w w₂ t q = record { number-is = t .number-is; place-is = t .place-is; scratch-is = q }
+
+pub on-shown : (k : LentJob) (side n : ℕ) (a : Label) (r : List ℕ) → Labelled k side n a → r ≡ partShown (k .old .text) (k .new .text) side (a .start) (a .len) → r ≡ labelPartCall k side n
+on-shown k side n a r t e = e ∙ t .part-is
+
+pub ruleset labels = (label-none, label-found, side-old, side-new, side-none, label-stop, label-goes, on-labelled, on-shown)
+
 -- ---- `sheet_on`, `record_on`, `check_on`
 
 pub on-called : (x : Outcome) (a : Checked) (w w₁ w₂ : List ℕ) → Answered x a → length w₁ ≡ length w → w₂ ≡ replicate (length w₁) 0 → CalledOn x (record { number = a .number; place = a .place }) w w₂
@@ -480,6 +613,28 @@ module _ (j : Job) (ot : Bytes) (on : List Node) (ol nt : List ℕ) (nn : List N
   pub check-is : (sheet : Bytes) (r : Answer) (w₂ : List ℕ) → CalledOn (checkCall job-loaded sheet) r w₁ w₂ → Called (checkCall job-lent sheet) r j j w w₂
   check-is sheet r w₂ h = called-is _ _ r w₂ (check-same sheet) h
 
+  label-same : (side n : ℕ) → labelCall job-loaded side n ≡ labelCall job-lent side n
+  unfolding labelCall
+  label-same side n =
+      ap (λ (x : Reading AllRead). outcome x (λ h. labelAnswer (versionOf (lent ot on ol) (h .old)) (versionOf (lent nt nn nl) (h .new)) side n)) (goes-same show-label 4096 (omega arith))
+
+  -- `label_answer`
+  pub label-is : (side n : ℕ) (r : Answer) (w₂ : List ℕ) → CalledOn (labelCall job-loaded side n) r w₁ w₂ → Called (labelCall job-lent side n) r j j w w₂
+  label-is side n r w₂ h = called-is _ _ r w₂ (label-same side n) h
+
+  shown-by : (side n : ℕ) (x : Reading AllRead) → shownBy x job-loaded side n ≡ shownBy x job-lent side n
+  unfolding shownBy
+  shown-by side n (refused q p) = refl
+  shown-by side n (accepted h) = refl
+
+  part-same : (side n : ℕ) → labelPartCall job-loaded side n ≡ labelPartCall job-lent side n
+  unfolding labelPartCall
+  part-same side n = shown-by side n (goesBy show-label 4096 job-loaded) ∙ ap (λ (x : Reading AllRead). shownBy x job-lent side n) (goes-same show-label 4096 (omega arith))
+
+  -- `label_shown`
+  pub shown-is : (side n : ℕ) (r w₂ : List ℕ) → r ≡ labelPartCall job-loaded side n → w₂ ≡ replicate (length w₁) 0 → Shown (labelPartCall job-lent side n) r j j w w₂
+  shown-is side n r w₂ e q = record { part-is = e ∙ part-same side n; job-is = refl; scratch-is = q ∙ ap (λ (k : ℕ). replicate k 0) long-same }
+
 pub ruleset sheets = (unloads, due-few, sheet-stop, sheet-goes, record-stop, record-goes, on-wrote, check-stop, check-goes, on-called)
 
-pub ruleset all = (dues, sheets)
+pub ruleset all = (dues, sheets, labels)

@@ -2,9 +2,9 @@
 use mathlib.Core.Path.{_≡_}
 use mathlib.Core.List.{List, []}
 use mathlib.Core.Option.{Option, none, some}
-use Prim.Native.Nat.{ℕ}
-use lib.Dec.{leb, ltb}
-use lib.ListN.{length, take, drop, replicate}
+use Prim.Native.Nat.{ℕ, _+_, _*_}
+use lib.Dec.{eqb, leb, ltb}
+use lib.ListN.{length, getD, take, drop, replicate}
 use lib.Seq.{sets}
 use Rattle.laws.specs.Tests.{after, choose}
 use Rattle.rules.specs.Text.{Bytes, Answer as Reading, refused, accepted}
@@ -18,8 +18,10 @@ use Rattle.intake.specs.declared.Texts.{Texts}
 use Rattle.intake.specs.Ready.{refusedTexts}
 use Rattle.records.specs.declared.Job.{Job}
 use Rattle.records.specs.Jobs.{sameJob}
+use Rattle.records.specs.Shown.{partShown}
 use Rattle.held.specs.Held.{AllRead, Lent, heldTests, numbers}
 use Rattle.job.specs.declared.Answer.{Answer}
+use Rattle.job_calls.specs.declared.Label.{Label}
 
 -- ---- what is lent
 
@@ -97,6 +99,12 @@ pub record Wrote (x : Outcome) (r : Answer) (j j′ : Job) (w w′ out out′ : 
   pub called : Called x r j j′ w w′
   pub output-is : out′ ≡ outputAfter x out
 
+-- A call that shows a part of a text.
+pub record Shown (part r : Bytes) (j j′ : Job) (w w′ : List ℕ) : Type 0 where
+  pub part-is : r ≡ part
+  pub job-is : j′ ≡ j
+  pub scratch-is : w′ ≡ replicate (length w) 0
+
 -- ---- the functions on values
 
 -- 2,048 numbers of a scratch, from the place k on.
@@ -152,3 +160,20 @@ pub record CalledOn (x : Outcome) (r : Answer) (w w′ : List ℕ) : Type 0 wher
 pub record WroteOn (x : Outcome) (r : Answer) (w w′ out out′ : List ℕ) : Type 0 where
   pub called : CalledOn x r w w′
   pub output-is : out′ ≡ outputAfter x out
+
+-- `label_at`: where the label of the node n stands, in a version that has so many nodes, or 6.
+abbrev pub noLabel : Label
+noLabel = record { number = 6; place = 0; start = 0; len = 0 }
+
+unfoldable pub labelOfNode : ℕ → List ℕ → ℕ → Label
+labelOfNode count nodes n = choose (ltb n count) (record { number = 0; place = 0; start = getD nodes (4 * n + 1) 0; len = getD nodes (4 * n + 2) 0 }) noLabel
+
+-- `label_of`: the same by side, 0 the old version, 1 the new one.
+unfoldable pub labelBySide : ℕ → ℕ → List ℕ → ℕ → List ℕ → ℕ → Label
+labelBySide side olds on news nn n = choose (eqb side 0) (labelOfNode olds on n) (choose (eqb side 1) (labelOfNode news nn n) noLabel)
+
+-- `label_in`: number and place, and where the part that is shown stands.
+pub record Labelled (k : LentJob) (side n : ℕ) (r : Label) : Type 0 where
+  pub number-is : r .number ≡ numberOf (labelCall k side n)
+  pub place-is : r .place ≡ placeOf (labelCall k side n)
+  pub part-is : partShown (k .old .text) (k .new .text) side (r .start) (r .len) ≡ labelPartCall k side n

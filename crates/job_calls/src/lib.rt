@@ -7,16 +7,17 @@ use records::Job;
 use records::Node;
 use text::clear;
 use text::copy;
+use text::get;
 use text::run;
 ghost use mathlib.Core.Path.{_≡_};
 ghost use Prim.Native.Nat.{_≤_};
-ghost use lib.ListN.{length};
+ghost use lib.ListN.{length, replicate};
 ghost use Rattle.rules.specs.Job.{write-sheet};
 ghost use Rattle.checker.specs.Checking.{Answered};
 ghost use Rattle.intake.specs.Ready.{refusedTexts};
 ghost use Rattle.held.specs.Held.{lent, numbers, suiteLeft};
 ghost use Rattle.writer.specs.Sheets.{Told};
-ghost use Rattle.job_calls.specs.Calls.{Called, CalledOn, Wrote, WroteOn, checkCall, dueTexts, goesBy, lentJob, loadedJob, recordCall, sheetCall, textsDue};
+ghost use Rattle.job_calls.specs.Calls.{Called, CalledOn, Labelled, Shown, Wrote, WroteOn, checkCall, dueTexts, goesBy, labelBySide, labelCall, labelOfNode, labelPartCall, lentJob, loadedJob, recordCall, sheetCall, textsDue};
 
 // ---- 13 and 14
 
@@ -500,6 +501,256 @@ pub fn check_sheet(
         tests,
         rows,
         sheet,
+        scratch,
+    )
+}
+
+// ---- a label
+
+// Where a label stands in its text, or a refusal by number and place.
+pub struct Label {
+    pub number: usize,
+    pub place: usize,
+    pub start: usize,
+    pub len: usize,
+}
+
+// The label of a node of a version that has so many: 6 where there is none.
+fn label_at(count: usize, nodes: &[usize], node: usize) -> Label
+    requires { ⌜ count ≤ 512 ⌝ }
+    ensures { λ r. ⌜ r ≡ labelOfNode count (now (nodes .entry)) node ⌝ }
+{
+    if count <= node {
+        return Label {
+            number: 6,
+            place: 0,
+            start: 0,
+            len: 0,
+        };
+    }
+    let start = get(nodes, 4 * node + 1);
+    let len = get(nodes, 4 * node + 2);
+    Label {
+        number: 0,
+        place: 0,
+        start,
+        len,
+    }
+}
+
+// The label of a node of the version of a side: 0 the old one, 1 the new one, 6 for any other.
+fn label_of(side: usize, olds: usize, on: &[usize], news: usize, nn: &[usize], node: usize) -> Label
+    requires { ⌜ (olds ≤ 512) × (news ≤ 512) ⌝ }
+    ensures { λ r. ⌜ r ≡ labelBySide side olds (now (on .entry)) news (now (nn .entry)) node ⌝ }
+{
+    if side == 0 {
+        return label_at(olds, on, node);
+    }
+    if side == 1 {
+        return label_at(news, nn, node);
+    }
+    Label {
+        number: 6,
+        place: 0,
+        start: 0,
+        len: 0,
+    }
+}
+
+// Finds a label; the scratch holds the numbers of the nodes.
+fn label_in(
+    job: Job,
+    olds: usize,
+    news: usize,
+    ot: &[u8],
+    ol: &[usize],
+    nt: &[u8],
+    nl: &[usize],
+    tt: &[u8],
+    tests: &[usize],
+    rows: &[u64],
+    side: usize,
+    node: usize,
+    scratch: &[usize],
+) -> Label
+    ensures { λ r. ⌜ Labelled (loadedJob job olds (now (ot .entry)) (now (ol .entry)) news (now (nt .entry)) (now (nl .entry)) (now (tt .entry)) (now (tests .entry)) (now (rows .entry)) (now (scratch .entry))) side node r ⌝ }
+{
+    let mut on = [0usize; 2048];
+    let mut nn = [0usize; 2048];
+    copy(&mut on, 0, run(scratch, 0, 2048));
+    copy(&mut nn, 0, run(scratch, 2048, 2048));
+    let had = due(
+        job,
+        4096,
+        scratch.len(),
+        olds,
+        ot,
+        &on,
+        ol,
+        news,
+        nt,
+        &nn,
+        nl,
+        tt,
+        tests,
+        rows,
+    );
+    if had.number != 0 {
+        return Label {
+            number: had.number,
+            place: had.place,
+            start: 0,
+            len: 0,
+        };
+    }
+    label_of(side, had.old_nodes, &on, had.new_nodes, &nn, node)
+}
+
+// The number and place of showing a label, and the scratch is zero.
+fn label_on(
+    job: Job,
+    olds: usize,
+    news: usize,
+    ot: &[u8],
+    ol: &[usize],
+    nt: &[u8],
+    nl: &[usize],
+    tt: &[u8],
+    tests: &[usize],
+    rows: &[u64],
+    side: usize,
+    node: usize,
+    scratch: &mut [usize],
+) -> Answer
+    ensures { λ r. ⌜ CalledOn (labelCall (loadedJob job olds (now (ot .entry)) (now (ol .entry)) news (now (nt .entry)) (now (nl .entry)) (now (tt .entry)) (now (tests .entry)) (now (rows .entry)) (now (scratch .entry))) side node) r (now (scratch .entry)) (now (scratch .exit)) ⌝ }
+{
+    let a = label_in(
+        job,
+        olds,
+        news,
+        ot,
+        ol,
+        nt,
+        nl,
+        tt,
+        tests,
+        rows,
+        side,
+        node,
+        scratch,
+    );
+    clear(scratch);
+    Answer {
+        number: a.number,
+        place: a.place,
+    }
+}
+
+// The number and place of showing the label of a node, by side and node number.
+pub fn label_answer(
+    job: &mut Job,
+    ot: &[u8],
+    on: &[Node],
+    ol: &[usize],
+    nt: &[u8],
+    nn: &[Node],
+    nl: &[usize],
+    tt: &[u8],
+    tests: &[usize],
+    rows: &[u64],
+    side: usize,
+    node: usize,
+    scratch: &mut [usize],
+) -> Answer
+    ensures { λ r. ⌜ Called (labelCall (lentJob (now (job .entry)) (lent (now (ot .entry)) (now (on .entry)) (now (ol .entry))) (lent (now (nt .entry)) (now (nn .entry)) (now (nl .entry))) (now (tt .entry)) (now (tests .entry)) (now (rows .entry)) (length (now (scratch .entry)))) side node) r (now (job .entry)) (now (job .exit)) (now (scratch .entry)) (now (scratch .exit)) ⌝ }
+{
+    records::load_both(on, nn, scratch);
+    label_on(
+        *job,
+        on.len(),
+        nn.len(),
+        ot,
+        ol,
+        nt,
+        nl,
+        tt,
+        tests,
+        rows,
+        side,
+        node,
+        scratch,
+    )
+}
+
+// The part of its text that holds a label, and the scratch is zero.
+fn shown_on<'a>(
+    job: Job,
+    olds: usize,
+    news: usize,
+    ot: &'a [u8],
+    ol: &[usize],
+    nt: &'a [u8],
+    nl: &[usize],
+    tt: &[u8],
+    tests: &[usize],
+    rows: &[u64],
+    side: usize,
+    node: usize,
+    scratch: &mut [usize],
+) -> &'a [u8]
+    ensures { λ r. ⌜ (now r ≡ labelPartCall (loadedJob job olds (now (ot .entry)) (now (ol .entry)) news (now (nt .entry)) (now (nl .entry)) (now (tt .entry)) (now (tests .entry)) (now (rows .entry)) (now (scratch .entry))) side node) × (now (scratch .exit) ≡ replicate (length (now (scratch .entry))) 0) ⌝ }
+{
+    let a = label_in(
+        job,
+        olds,
+        news,
+        ot,
+        ol,
+        nt,
+        nl,
+        tt,
+        tests,
+        rows,
+        side,
+        node,
+        scratch,
+    );
+    clear(scratch);
+    records::shown_part(ot, nt, side, a.start, a.len)
+}
+
+// The part of the old text (side 0) or of the new one (side 1) that holds the label of a node: no bytes when refused.
+pub fn label_shown<'a>(
+    job: &mut Job,
+    ot: &'a [u8],
+    on: &[Node],
+    ol: &[usize],
+    nt: &'a [u8],
+    nn: &[Node],
+    nl: &[usize],
+    tt: &[u8],
+    tests: &[usize],
+    rows: &[u64],
+    side: usize,
+    node: usize,
+    scratch: &mut [usize],
+) -> &'a [u8]
+    ensures { λ r. ⌜ Shown (labelPartCall (lentJob (now (job .entry)) (lent (now (ot .entry)) (now (on .entry)) (now (ol .entry))) (lent (now (nt .entry)) (now (nn .entry)) (now (nl .entry))) (now (tt .entry)) (now (tests .entry)) (now (rows .entry)) (length (now (scratch .entry)))) side node) (now r) (now (job .entry)) (now (job .exit)) (now (scratch .entry)) (now (scratch .exit)) ⌝ }
+{
+    records::load_both(on, nn, scratch);
+    shown_on(
+        *job,
+        on.len(),
+        nn.len(),
+        ot,
+        ol,
+        nt,
+        nl,
+        tt,
+        tests,
+        rows,
+        side,
+        node,
         scratch,
     )
 }

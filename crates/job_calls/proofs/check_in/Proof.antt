@@ -1,6 +1,6 @@
 use mathlib.Core.Path.{refl}
 use borrow.Author.Needs.{needs}
-use Rattle.job_calls.proofs.Laws.{all, check-goes, due-asks, unloads}
+use Rattle.job_calls.proofs.Laws.{sheets, check-goes, due-asks, unloads}
 use Rattle.job_calls.proofs.check_in.Statement.{statement}
 use Rattle.job_calls.proofs.check_in.Tie as tie
 
@@ -35,7 +35,7 @@ same-length : tie.Need-same-length
 same-length c = search needs
 
 returns : tie.Need-returns
-returns c = search (all, needs)
+returns c = search (sheets, needs)
 
 slice-aggregate-check-sheet : tie.Need-slice-aggregate-check-sheet
 slice-aggregate-check-sheet c = search needs

@@ -1,5 +1,5 @@
 use borrow.Author.Needs.{needs}
-use Rattle.job_calls.proofs.Laws.{all}
+use Rattle.job_calls.proofs.Laws.{sheets}
 use Rattle.job_calls.proofs.check_on.Statement.{statement}
 use Rattle.job_calls.proofs.check_on.Tie as tie
 
@@ -13,7 +13,7 @@ same-length : tie.Need-same-length
 same-length c = search needs
 
 returns : tie.Need-returns
-returns c = search (all, needs)
+returns c = search (sheets, needs)
 
 pub check-on-spec : {M : Type 1} → statement M
 check-on-spec =

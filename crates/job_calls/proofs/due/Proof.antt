@@ -1,5 +1,5 @@
 use borrow.Author.Needs.{needs}
-use Rattle.job_calls.proofs.Laws.{all}
+use Rattle.job_calls.proofs.Laws.{dues}
 use Rattle.job_calls.proofs.due.Statement.{statement}
 use Rattle.job_calls.proofs.due.Tie as tie
 
@@ -7,13 +7,13 @@ refused-requires : tie.Need-refused-requires
 refused-requires c κs = search needs
 
 returns : tie.Need-returns
-returns c = search (all, needs)
+returns c = search (dues, needs)
 
 refused-requires-2 : tie.Need-refused-requires-2
 refused-requires-2 c κs = search needs
 
 returns-2 : tie.Need-returns-2
-returns-2 c = search (all, needs)
+returns-2 c = search (dues, needs)
 
 slice-aggregate-version-left : tie.Need-slice-aggregate-version-left
 slice-aggregate-version-left c = search needs
@@ -25,7 +25,7 @@ refused-requires-3 : tie.Need-refused-requires-3
 refused-requires-3 c κs = search needs
 
 returns-3 : tie.Need-returns-3
-returns-3 c = search (all, needs)
+returns-3 c = search (dues, needs)
 
 slice-aggregate-version-left-2 : tie.Need-slice-aggregate-version-left-2
 slice-aggregate-version-left-2 c = search needs
@@ -37,13 +37,13 @@ refused-requires-4 : tie.Need-refused-requires-4
 refused-requires-4 c κs = search needs
 
 returns-4 : tie.Need-returns-4
-returns-4 c = search (all, needs)
+returns-4 c = search (dues, needs)
 
 suite-due-requires : tie.Need-suite-due-requires
-suite-due-requires c κs = search (all, needs)
+suite-due-requires c κs = search (dues, needs)
 
 returns-5 : tie.Need-returns-5
-returns-5 c = search (all, needs)
+returns-5 c = search (dues, needs)
 
 pub due-spec : {M : Type 1} → statement M
 due-spec =

@@ -1,6 +1,6 @@
 use mathlib.Core.Path.{refl}
 use borrow.Author.Needs.{needs}
-use Rattle.job_calls.proofs.Laws.{all, record-goes, unloads}
+use Rattle.job_calls.proofs.Laws.{sheets, record-goes, unloads}
 use Rattle.job_calls.proofs.record_in.Statement.{statement}
 use Rattle.job_calls.proofs.record_in.Tie as tie
 
@@ -35,7 +35,7 @@ same-length : tie.Need-same-length
 same-length c = search needs
 
 returns : tie.Need-returns
-returns c = search (all, needs)
+returns c = search (sheets, needs)
 
 slice-aggregate-write-record : tie.Need-slice-aggregate-write-record
 slice-aggregate-write-record c = search needs
@@ -44,7 +44,7 @@ slice-aggregate-write-record-2 : tie.Need-slice-aggregate-write-record-2
 slice-aggregate-write-record-2 c = search needs
 
 write-record-requires : tie.Need-write-record-requires
-write-record-requires c κs = search (all, needs)
+write-record-requires c κs = search (sheets, needs)
 
 same-length-2 : tie.Need-same-length-2
 same-length-2 c = search needs

@@ -1,6 +1,6 @@
 use mathlib.Core.Path.{refl}
 use borrow.Author.Needs.{needs}
-use Rattle.job_calls.proofs.Laws.{all, sheet-goes, unloads}
+use Rattle.job_calls.proofs.Laws.{sheets, sheet-goes, unloads}
 use Rattle.job_calls.proofs.sheet_in.Statement.{statement}
 use Rattle.job_calls.proofs.sheet_in.Tie as tie
 
@@ -35,7 +35,7 @@ same-length : tie.Need-same-length
 same-length c = search needs
 
 returns : tie.Need-returns
-returns c = search (all, needs)
+returns c = search (sheets, needs)
 
 slice-aggregate-write-sheet : tie.Need-slice-aggregate-write-sheet
 slice-aggregate-write-sheet c = search needs
@@ -44,7 +44,7 @@ slice-aggregate-write-sheet-2 : tie.Need-slice-aggregate-write-sheet-2
 slice-aggregate-write-sheet-2 c = search needs
 
 write-sheet-requires : tie.Need-write-sheet-requires
-write-sheet-requires c κs = search (all, needs)
+write-sheet-requires c κs = search (sheets, needs)
 
 same-length-2 : tie.Need-same-length-2
 same-length-2 c = search needs

@@ -1,0 +1,339 @@
+-- What a call that reads leaves is what the next call holds: after the three calls the job and the tables are held, with what the three texts read to.
+use mathlib.Core.Path.{_≡_, refl, sym, ap, ap₂, _∙_, subst}
+use mathlib.Core.Bool.{Bool, true, false, true≢false}
+use mathlib.Core.List.{List, [], _∷_}
+use mathlib.Core.Option.{Option, none, some}
+use Prim.Native.Nat.{ℕ, suc, _+_, _*_, _≤_, _<_}
+use native.Mathlib.Nat.{add-zero}
+use native.Mathlib.Omega.{arith}
+use lib.Dec.{eqb}
+use lib.ListN.{length, getD, set}
+use lib.Seq.{sets, length-sets, set-getD}
+use borrow.Author.Tests.{le-leb, leb-true, eqb-true}
+use Rattle.laws.specs.Tests.{_and_, after, choose}
+use Rattle.laws.specs.TestLaws.{and-both, and-left, and-right}
+use Rattle.laws.specs.Slices.{sets-again, getD-sets-before, getD-sets-in}
+use Rattle.laws.specs.Tables.{rows, rows-length}
+use Rattle.rules.specs.Text.{Bytes, Answer as Reading, refused, accepted, then}
+use Rattle.rules.specs.Graph.{procCount, nodeCount, edgeCount}
+use Rattle.rules.specs.ProgramFile.{Listing, readListing, readProgram}
+use Rattle.rules.specs.SuiteFile.{TestListing, readTests, readSuite, testCount}
+use Rattle.rules.specs.Job.{Given, Outcome, ofStage, read-old, read-new, read-tests, numberOf, placeOf, success, outcome, readJob, readNewAnswer, readTestsAnswer}
+use Rattle.rules.specs.Proofs.TextLaws.{same-of, then-passes}
+use Rattle.rules.specs.Proofs.ProgramLaws.{Sound, read-sound}
+use Rattle.graph.specs.Table.{nodeRow, procRow, edgeRow, headOf, nodesAfter, linksAfter}
+use Rattle.program.specs.Lent.{isLeft}
+use Rattle.lent_tests.specs.Lent.{testRow, coverageRow, testsAfter, rowsAfter}
+use Rattle.lent_tests.specs.Held.{after-left}
+use Rattle.records.specs.declared.Job.{Job}
+use Rattle.records.specs.declared.Node.{Node}
+use Rattle.records.specs.Jobs.{sameJob, job-same, job-self}
+use Rattle.records.specs.Nodes.{flat}
+use Rattle.held.specs.Held.{Lent, Versions, lent, longEnough, leftBy, versionLeft, testsLong, testsBy as suiteBy, suiteLeft, jobOld, jobNew, jobTests, heldOld, heldNew, heldTests}
+use Rattle.job.specs.declared.Answer.{Answer}
+use Rattle.job.specs.ReadOld.{roomy, freshDue, oldDue, programRead, oldRead, answered, recordsOf, recordsRead, linksRead, jobWithOld, oldJob, LeftBy, ReadOld}
+use Rattle.job.specs.ReadOldLaws.{records-after}
+use Rattle.job.specs.ReadNew.{oldHeldDue, newDue, newRead, jobWithNew, newJob, ReadNew}
+use Rattle.job.specs.ReadTests.{testsRoomy, bothDue, testsDue, testsBy, testsRead, withTests, testsJob, namesLeft, rowsLeft, TestsLeftBy, ReadTests}
+
+-- ---- stores that change nothing
+
+-- A run that stands there already.
+sets-there : {A : Type 0} (vs l : List A) (i : ℕ) (d : A) → ((k : ℕ) → k < length vs → getD l (i + k) d ≡ getD vs k d) → sets l i vs ≡ l
+sets-there [] l i d h = refl
+sets-there {A = A} (v ∷ vs) l i d h =
+    let kept : set l i v ≡ l = ap (set l i) (sym (ap (λ (k : ℕ). getD l k d) (sym (add-zero i)) ∙ h 0 (omega arith))) ∙ set-getD l i d in
+    ap (λ (x : List A). sets x (suc i) vs) kept
+    ∙ sets-there vs l (suc i) d (λ k b. let e : suc i + k ≡ i + suc k = omega arith in ap (λ (m : ℕ). getD l m d) e ∙ h (suc k) (omega arith))
+
+module _ (s : Listing) (t : List ℕ) (sound : Sound (s .program)) (long : 6080 ≤ length t) where
+  abbrev P : List ℕ
+  P = rows (procRow s) (procCount (s .program))
+
+  abbrev E : List ℕ
+  E = rows (edgeRow s) (edgeCount (s .program))
+
+  abbrev H : List ℕ
+  H = rows (λ n. headOf s n ∷ []) (nodeCount (s .program))
+
+  abbrev L : List ℕ
+  L = sets (sets (sets t 0 P) 448 E) 5568 H
+
+  length-p : length P ≡ 7 * procCount (s .program)
+  length-p = rows-length 7 (procRow s) (λ i. refl) (procCount (s .program))
+
+  length-e : length E ≡ 5 * edgeCount (s .program)
+  length-e = rows-length 5 (edgeRow s) (λ i. refl) (edgeCount (s .program))
+
+  length-h : length H ≡ 1 * nodeCount (s .program)
+  length-h = rows-length 1 (λ n. headOf s n ∷ []) (λ i. refl) (nodeCount (s .program))
+
+  procs-there : sets L 0 P ≡ L
+  procs-there =
+      sets-there P L 0 0 (λ k b.
+      getD-sets-before H (sets (sets t 0 P) 448 E) 5568 (0 + k) 0 (omega (arith, b, length-p, sound .fewProcs))
+      ∙ getD-sets-before E (sets t 0 P) 448 (0 + k) 0 (omega (arith, b, length-p, sound .fewProcs))
+      ∙ getD-sets-in P t 0 k 0 (omega (arith, length-p, sound .fewProcs, long)) b)
+
+  edges-there : sets L 448 E ≡ L
+  edges-there =
+      sets-there E L 448 0 (λ k b.
+      getD-sets-before H (sets (sets t 0 P) 448 E) 5568 (448 + k) 0 (omega (arith, b, length-e, sound .fewEdges))
+      ∙ getD-sets-in E (sets t 0 P) 448 k 0 (omega (arith, length-e, sound .fewEdges, long, length-sets t 0 P)) b)
+
+  links-again : linksAfter s (linksAfter s t) ≡ linksAfter s t
+  unfolding linksAfter
+  links-again =
+      ap (λ (x : List ℕ). sets (sets x 448 E) 5568 H) procs-there ∙ ap (λ (x : List ℕ). sets x 5568 H) edges-there ∙ sets-again H (sets (sets t 0 P) 448 E) 5568
+
+links-long : (s : Listing) (t : List ℕ) → length (linksAfter s t) ≡ length t
+unfolding linksAfter
+links-long s t =
+    let a : List ℕ = sets t 0 (rows (procRow s) (procCount (s .program))) in
+    let b : List ℕ = sets a 448 (rows (edgeRow s) (edgeCount (s .program))) in
+    length-sets b 5568 (rows (λ n. headOf s n ∷ []) (nodeCount (s .program))) ∙ length-sets a 448 (rows (edgeRow s) (edgeCount (s .program))) ∙ length-sets t 0 (rows (procRow s) (procCount (s .program)))
+
+-- ---- a version that was read
+
+sound-of : (text : Bytes) (s : Listing) → readListing text ≡ accepted s → Sound (s .program)
+unfolding readProgram
+sound-of text s e = read-sound text (s .program) (then-passes (λ (x : Listing). accepted (x .program)) e) .0
+
+module _ (text : Bytes) (s : Listing) (e : readListing text ≡ accepted s) (n : List Node) (l : List ℕ) (hn : 512 ≤ length n) (hl : 6080 ≤ length l) where
+  abbrev left : Lent
+  left = lent text (sets n 0 (recordsOf s (nodeCount (s .program)))) (linksAfter s l)
+
+  long-left : longEnough left ≡ true
+  unfolding longEnough
+  long-left =
+      and-both (le-leb 512 _ (subst (λ (k : ℕ). 512 ≤ k) (sym (length-sets n 0 (recordsOf s (nodeCount (s .program))))) hn)) (le-leb 6080 _ (subst (λ (k : ℕ). 6080 ≤ k) (sym (links-long s l)) hl))
+
+  nodes-again : nodesAfter s (nodesAfter s (flat n)) ≡ nodesAfter s (flat n)
+  unfolding nodesAfter
+  nodes-again = sets-again (rows (nodeRow s) (nodeCount (s .program))) (flat n) 0
+
+  is-left : isLeft s (left .nodes) (left .links) ≡ true
+  unfolding isLeft
+  is-left =
+      and-both (same-of (ap (nodesAfter s) (records-after s n) ∙ nodes-again ∙ sym (records-after s n))) (same-of (links-again s l (sound-of text s e) hl))
+
+  -- The tables that reading leaves are found to be left.
+  pub version-again : versionLeft left ≡ some s
+  unfolding versionLeft leftBy choose
+  version-again = ap (λ (x : Reading Listing). leftBy x left) e ∙ ap (λ (u : Bool). choose u (some s) none) (and-both long-left is-left)
+
+-- ---- what is due, and what was read
+
+refused-accepted : {A : Type 0} (k p : ℕ) (a : A) → refused k p ≡ accepted a → ⊥
+refused-accepted k p a e = true≢false (let z : true ≡ false = cc in z)
+
+none-some : {A : Type 0} (a : A) → none ≡ some a → ⊥
+none-some a e = true≢false (let z : true ≡ false = cc in z)
+
+-- Where a call goes by an accepted text nothing was due.
+pub program-read : (due : ℕ) (text : Bytes) (s : Listing) → programRead due text ≡ accepted s → (due ≡ 0) × (readListing text ≡ accepted s)
+unfolding programRead choose
+program-read due text s h = go (eqb due 0) refl h
+  where
+    go : (u : Bool) → eqb due 0 ≡ u → choose u (readListing text) (refused due 0) ≡ accepted s → (due ≡ 0) × (readListing text ≡ accepted s)
+    go true e q = (eqb-true due 0 e, q)
+    go false e q = absurd (refused-accepted due 0 s q)
+
+none-due : (t u : Bool) (d : ℕ) → choose t (choose u d 14) 13 ≡ 0 → (u ≡ true) × (d ≡ 0)
+unfolding choose
+none-due true true d h = (refl, h)
+none-due true false d h = absurd (let z : ⊥ = omega (arith, h) in z)
+none-due false u d h = absurd (let z : ⊥ = omega (arith, h) in z)
+
+roomy-long : (n l w : ℕ) → roomy n l w ≡ true → (512 ≤ n) × (6080 ≤ l)
+unfolding roomy
+roomy-long n l w h = (leb-true 512 n (and-left _ _ h), leb-true 6080 l (and-left _ _ (and-right _ _ h)))
+
+-- ---- after `read_old`
+
+job-old : (j : Job) (s : Listing) → oldJob j (accepted s) ≡ jobOld s
+unfolding oldJob jobWithOld jobOld
+job-old j s = refl
+
+module _ (j : Job) (text : Bytes) (n : List Node) (l w : List ℕ) (r : Answer) (j′ : Job) (n′ : List Node) (l′ w′ : List ℕ) (h : ReadOld j text n l w r j′ n′ l′ w′)
+    (s : Listing) (e : oldRead j (length n) (length l) (length w) text ≡ accepted s) where
+  read-old-due : (512 ≤ length n) × (6080 ≤ length l)
+  unfolding oldDue
+  read-old-due =
+      roomy-long _ _ (length w) (none-due (ofStage read-old (j .stage)) (roomy (length n) (length l) (length w)) (freshDue j) (program-read _ text s e .0) .0)
+
+  held-by : (v : Lent) → versionLeft v ≡ some s → heldOld (jobOld s) v ≡ some s
+  unfolding heldOld choose
+  held-by v q =
+      ap (λ (x : Option Listing). after x none (λ (o : Listing). choose (sameJob (jobOld s) (jobOld o)) (some o) none)) q ∙ ap (λ (u : Bool). choose u (some s) none) (job-self (jobOld s))
+
+  -- The job and the tables that `read_old` leaves are held, with what the text reads to.
+  pub old-held : heldOld j′ (lent text n′ l′) ≡ some s
+  unfolding recordsRead linksRead
+  old-held =
+      let b : LeftBy (oldJob j) (accepted s) n l w r j′ n′ l′ w′ = subst (λ (a : Reading Listing). LeftBy (oldJob j) a n l w r j′ n′ l′ w′) e (h .left) in
+      ap (λ (k : Job). heldOld k (lent text n′ l′)) (b .job-is ∙ job-old j s)
+      ∙ ap₂ (λ (x : List Node) (y : List ℕ). heldOld (jobOld s) (lent text x y)) (b .nodes-are) (b .links-are)
+      ∙ held-by _ (version-again text s (program-read _ text s e .1) n l (read-old-due .0) (read-old-due .1))
+
+-- ---- after `read_new`
+
+chosen-same : {A : Type 0} (a b : A) → choose true (some a) none ≡ some b → a ≡ b
+unfolding choose
+chosen-same a b q = cc
+
+chosen-none : {A : Type 0} (a b : A) → choose false (some a) none ≡ some b → ⊥
+unfolding choose
+chosen-none a b q = none-some b q
+
+-- What is held at stage 1, taken apart.
+pub held-old-parts : (j : Job) (v : Lent) (o : Listing) → heldOld j v ≡ some o → (versionLeft v ≡ some o) × (j ≡ jobOld o)
+unfolding heldOld
+held-old-parts j v o h = go (versionLeft v) refl h
+  where
+    pick : (a : Listing) (u : Bool) → sameJob j (jobOld a) ≡ u → choose u (some a) none ≡ some o → (some a ≡ some o) × (j ≡ jobOld o)
+    pick a true e q = let z : a ≡ o = chosen-same a o q in (ap some z, job-same j (jobOld a) e ∙ ap jobOld z)
+    pick a false e q = absurd (chosen-none a o q)
+
+    go : (x : Option Listing) → versionLeft v ≡ x → after x none (λ (a : Listing). choose (sameJob j (jobOld a)) (some a) none) ≡ some o → (versionLeft v ≡ some o) × (j ≡ jobOld o)
+    go none e q = absurd (none-some o q)
+    go (some a) e q = let p = pick a (sameJob j (jobOld a)) refl q in (e ∙ p .0, p .1)
+
+job-new : (j : Job) (o p : Listing) → j ≡ jobOld o → newJob j (accepted p) ≡ jobNew o p
+unfolding newJob jobWithNew jobNew jobOld
+job-new j o p e = ap (λ (k : Job). newJob k (accepted p)) e
+
+held-both : (v v′ : Lent) (o p : Listing) → versionLeft v ≡ some o → versionLeft v′ ≡ some p → heldNew (jobNew o p) v v′ ≡ some (record { old = o; new = p })
+unfolding heldNew choose
+held-both v v′ o p e q =
+    ap₂ (λ (x y : Option Listing). after x none (λ (a : Listing). after y none (λ (b : Listing). choose (sameJob (jobNew o p) (jobNew a b)) (some (record { old = a; new = b })) none))) e q
+    ∙ ap (λ (u : Bool). choose u (some (record { old = o; new = p })) none) (job-self (jobNew o p))
+
+module _ (j : Job) (v : Lent) (text : Bytes) (n : List Node) (l w : List ℕ) (r : Answer) (j′ : Job) (n′ : List Node) (l′ w′ : List ℕ) (h : ReadNew j v text n l w r j′ n′ l′ w′)
+    (p : Listing) (e : newRead j v (length n) (length l) (length w) text ≡ accepted p) (o : Listing) (held : heldOld j v ≡ some o) where
+  read-new-due : (512 ≤ length n) × (6080 ≤ length l)
+  unfolding newDue
+  read-new-due =
+      roomy-long _ _ (length w) (none-due (ofStage read-new (j .stage)) (roomy (length n) (length l) (length w)) (oldHeldDue j v) (program-read _ text p e .0) .0)
+
+  -- The job and the tables of both versions are held after `read_new`.
+  pub new-held : heldNew j′ v (lent text n′ l′) ≡ some (record { old = o; new = p })
+  unfolding recordsRead linksRead
+  new-held =
+      let b : LeftBy (newJob j) (accepted p) n l w r j′ n′ l′ w′ = subst (λ (a : Reading Listing). LeftBy (newJob j) a n l w r j′ n′ l′ w′) e (h .left) in
+      let parts : (versionLeft v ≡ some o) × (j ≡ jobOld o) = held-old-parts j v o held in
+      ap (λ (k : Job). heldNew k v (lent text n′ l′)) (b .job-is ∙ job-new j o p (parts .1))
+      ∙ ap₂ (λ (x : List Node) (y : List ℕ). heldNew (jobNew o p) v (lent text x y)) (b .nodes-are) (b .links-are)
+      ∙ held-both v _ o p (parts .0) (version-again text p (program-read _ text p e .1) n l (read-new-due .0) (read-new-due .1))
+
+-- ---- after `read_tests`
+
+-- What is held at stage 2, taken apart.
+pub held-new-parts : (j : Job) (v v′ : Lent) (h : Versions) → heldNew j v v′ ≡ some h → (versionLeft v ≡ some (h .old)) × (versionLeft v′ ≡ some (h .new)) × (j ≡ jobNew (h .old) (h .new))
+unfolding heldNew
+held-new-parts j v v′ h held = go (versionLeft v) (versionLeft v′) refl refl held
+  where
+    pick : (a b : Listing) (u : Bool) → sameJob j (jobNew a b) ≡ u → choose u (some (record { old = a; new = b })) none ≡ some h → (a ≡ h .old) × (b ≡ h .new) × (j ≡ jobNew (h .old) (h .new))
+    pick a b true e q =
+        let z : record { old = a; new = b } ≡ h = chosen-same (record { old = a; new = b }) h q in
+        (ap (λ (x : Versions). x .old) z, ap (λ (x : Versions). x .new) z, job-same j (jobNew a b) e ∙ ap (λ (x : Versions). jobNew (x .old) (x .new)) z)
+    pick a b false e q = absurd (chosen-none (record { old = a; new = b }) h q)
+
+    go : (x y : Option Listing) → versionLeft v ≡ x → versionLeft v′ ≡ y
+        → after x none (λ (a : Listing). after y none (λ (b : Listing). choose (sameJob j (jobNew a b)) (some (record { old = a; new = b })) none)) ≡ some h
+        → (versionLeft v ≡ some (h .old)) × (versionLeft v′ ≡ some (h .new)) × (j ≡ jobNew (h .old) (h .new))
+    go none y e e′ q = absurd (none-some h q)
+    go (some a) none e e′ q = absurd (none-some h q)
+    go (some a) (some b) e e′ q = let p = pick a b (sameJob j (jobNew a b)) refl q in (e ∙ ap some (p .0), e′ ∙ ap some (p .1), p .2)
+
+-- Where the call goes by accepted tests nothing was due.
+pub tests-read : (due m : ℕ) (text : Bytes) (l : TestListing) → testsBy due m text ≡ accepted l → (due ≡ 0) × (readTests m text ≡ accepted l)
+unfolding testsBy choose
+tests-read due m text l h = go (eqb due 0) refl h
+  where
+    go : (u : Bool) → eqb due 0 ≡ u → choose u (readTests m text) (refused due 0) ≡ accepted l → (due ≡ 0) × (readTests m text ≡ accepted l)
+    go true e q = (eqb-true due 0 e, q)
+    go false e q = absurd (refused-accepted due 0 l q)
+
+wide-long : (n l w : ℕ) → testsRoomy n l w ≡ true → (400 ≤ n) × (3200 ≤ l)
+unfolding testsRoomy
+wide-long n l w h = (leb-true 400 n (and-left _ _ h), leb-true 3200 l (and-left _ _ (and-right _ _ h)))
+
+-- The tables that reading the tests leaves are found to be left.
+module _ (m : ℕ) (text : Bytes) (l : TestListing) (e : readTests m text ≡ accepted l) (t w : List ℕ) (ht : 400 ≤ length t) (hw : 3200 ≤ length w) where
+  tests-long : testsLong (testsAfter l t) (rowsAfter l w) ≡ true
+  unfolding testsLong testsAfter rowsAfter
+  tests-long =
+      and-both (le-leb 400 _ (subst (λ (k : ℕ). 400 ≤ k) (sym (length-sets t 0 (rows (testRow l) (testCount (l .suite))))) ht)) (le-leb 3200 _ (subst (λ (k : ℕ). 3200 ≤ k) (sym (length-sets w 0 (rows (coverageRow l) (testCount (l .suite))))) hw))
+
+  pub suite-again : suiteLeft m text (testsAfter l t) (rowsAfter l w) ≡ some l
+  unfolding suiteLeft suiteBy choose
+  suite-again = ap (λ (x : Reading TestListing). suiteBy x (testsAfter l t) (rowsAfter l w)) e ∙ ap (λ (u : Bool). choose u (some l) none) (and-both tests-long (after-left l t w))
+
+job-tests : (j : Job) (o p : Listing) (l : TestListing) → j ≡ jobNew o p → testsJob j (accepted l) ≡ jobTests o p l
+unfolding testsJob withTests jobTests jobNew
+job-tests j o p l e = ap (λ (k : Job). testsJob k (accepted l)) e
+
+edges-new : (j : Job) (o p : Listing) → j ≡ jobNew o p → j .«old_edges» ≡ edgeCount (o .program)
+unfolding jobNew
+edges-new j o p e = ap (λ (k : Job). k .«old_edges») e
+
+held-all : (v v′ : Lent) (text : Bytes) (t w : List ℕ) (o p : Listing) (l : TestListing) → versionLeft v ≡ some o → versionLeft v′ ≡ some p → suiteLeft (edgeCount (o .program)) text t w ≡ some l
+    → heldTests (jobTests o p l) v v′ text t w ≡ some (record { old = o; new = p; tests = l })
+unfolding heldTests choose
+held-all v v′ text t w o p l e e′ q =
+    ap₂ (λ (x y : Option Listing). after x none (λ (a : Listing). after y none (λ (b : Listing). after (suiteLeft (edgeCount (a .program)) text t w) none
+    (λ (c : TestListing). choose (sameJob (jobTests o p l) (jobTests a b c)) (some (record { old = a; new = b; tests = c })) none)))) e e′
+    ∙ ap (λ (z : Option TestListing). after z none (λ (c : TestListing). choose (sameJob (jobTests o p l) (jobTests o p c)) (some (record { old = o; new = p; tests = c })) none)) q
+    ∙ ap (λ (u : Bool). choose u (some (record { old = o; new = p; tests = l })) none) (job-self (jobTests o p l))
+
+module _ (j : Job) (v v′ : Lent) (text : Bytes) (t w s : List ℕ) (r : Answer) (j′ : Job) (t′ w′ s′ : List ℕ) (h : ReadTests j v v′ text t w s r j′ t′ w′ s′)
+    (l : TestListing) (e : testsRead j v v′ (length t) (length w) (length s) text ≡ accepted l) (k : Versions) (held : heldNew j v v′ ≡ some k) where
+  read-tests-due : (400 ≤ length t) × (3200 ≤ length w)
+  unfolding testsDue
+  read-tests-due =
+      wide-long _ _ (length s) (none-due (ofStage read-tests (j .stage)) (testsRoomy (length t) (length w) (length s)) (bothDue j v v′) (tests-read _ _ text l e .0) .0)
+
+  -- The rows were read for as many edges as the old program has.
+  pub edges-read : readTests (edgeCount (k .old .program)) text ≡ accepted l
+  edges-read = ap (λ (m : ℕ). readTests m text) (sym (edges-new j (k .old) (k .new) (held-new-parts j v v′ k held .2))) ∙ tests-read _ _ text l e .1
+
+  -- The job and all tables are held after `read_tests`, with what the three texts read to.
+  pub tests-held : heldTests j′ v v′ text t′ w′ ≡ some (record { old = k .old; new = k .new; tests = l })
+  unfolding namesLeft rowsLeft
+  tests-held =
+      let b : TestsLeftBy j (accepted l) t w s r j′ t′ w′ s′ = subst (λ (a : Reading TestListing). TestsLeftBy j a t w s r j′ t′ w′ s′) e (h .left) in
+      let parts = held-new-parts j v v′ k held in
+      ap (λ (x : Job). heldTests x v v′ text t′ w′) (b .job-is ∙ job-tests j (k .old) (k .new) l (parts .2))
+      ∙ ap₂ (λ (x y : List ℕ). heldTests (jobTests (k .old) (k .new) l) v v′ text x y) (b .tests-are) (b .rows-are)
+      ∙ held-all v v′ text _ _ (k .old) (k .new) l (parts .0) (parts .1) (suite-again (edgeCount (k .old .program)) text l edges-read t w (read-tests-due .0) (read-tests-due .1))
+
+-- ---- the answers, by the definitions over whole texts
+
+-- The answer of an outcome.
+abbrev inFull : Outcome → Answer
+inFull x = record { number = numberOf x; place = placeOf x }
+
+-- Where the old text is accepted, the number and place of reading the new one are those of `readNewAnswer`.
+pub answer-new : (old new : Bytes) (o : Listing) → readListing old ≡ accepted o → answered (readListing new) ≡ inFull (readNewAnswer old new)
+unfolding answered readNewAnswer readProgram outcome then
+answer-new old new o e =
+    by-case (readListing new)
+    ∙ ap (λ (y : Reading Listing). inFull (outcome (then y (λ s. accepted (s .program))) (λ p. outcome (then (readListing new) (λ s. accepted (s .program))) (λ p′. success)))) (sym e)
+  where
+    by-case : (x : Reading Listing) → answered x ≡ inFull (outcome (then x (λ s. accepted (s .program))) (λ p′. success))
+    by-case (refused k p) = refl
+    by-case (accepted s) = refl
+
+-- Where both programs are accepted, those of reading the tests are those of `readTestsAnswer`.
+pub answer-tests : (old new text : Bytes) (o p : Listing) → readListing old ≡ accepted o → readListing new ≡ accepted p
+    → answered (readTests (edgeCount (o .program)) text) ≡ inFull (readTestsAnswer old new text)
+unfolding answered readTestsAnswer readJob readProgram readSuite outcome then
+answer-tests old new text o p e q =
+    by-case (readTests (edgeCount (o .program)) text)
+    ∙ ap₂ (λ (x y : Reading Listing). inFull (outcome {A = Given} (then (then x (λ s. accepted (s .program))) (λ a. then (then y (λ s. accepted (s .program)))
+    (λ b. then (then (readTests (edgeCount a) text) (λ l. accepted (l .suite))) (λ t. accepted (record { old = a; new = b; suite = t }))))) (λ g. success))) (sym e) (sym q)
+  where
+    by-case : (x : Reading TestListing) → answered x ≡ inFull (outcome {A = Given} (then (then x (λ l. accepted (l .suite))) (λ t. accepted (record { old = o .program; new = p .program; suite = t }))) (λ (g : Given). success))
+    by-case (refused k p) = refl
+    by-case (accepted s) = refl
