@@ -247,7 +247,7 @@ pub fn check_sheet(
     w: &mut [usize],
     sets: &mut [u64],
 ) -> Answer
-    requires { ⌜ (olds ≤ 512) × (news ≤ 512) × (edges ≤ 1024) × (count ≤ 200) × (12800 ≤ length (now w)) × (20 ≤ length (now sets)) ⌝ }
+    requires { ⌜ (olds ≤ 512) × (news ≤ 512) × (edges ≤ 1024) × (count ≤ 200) × (16896 ≤ length (now w)) × (20 ≤ length (now sets)) ⌝ }
     ensures { λ r. ⌜ Checks (memory (now (ot .entry)) (now (on .entry)) (now (ol .entry))) (memory (now (nt .entry)) (now (nn .entry)) (now (nl .entry))) olds news edges (now (tt .entry)) (now (tests .entry)) (now (rows .entry)) count (now (sheet .entry)) r ⌝ }
 {
     let read = sheet_reader::read_sheet(sheet, olds, news, edges, tt, tests, count, w, sets);

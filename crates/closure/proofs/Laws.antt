@@ -26,7 +26,7 @@ use Rattle.closure.specs.Claims.{Adds, AddsEntries, Enters, Grows, Sized
 
 -- Programs in memory are well-formed, and the old nodes have heads.
 pub formed-in : (a b : Memory) (o p : Listing) → InMemory a o → InMemory b p → Formed (o .program) (p .program)
-formed-in a b o p h g = record { old-formed = well-formed a o h; new-formed = well-formed b p g; few = sound a o h .fewNodes }
+formed-in a b o p h g = record { old-formed = well-formed a o h; new-formed = well-formed b p g; few = sound a o h .fewNodes; few-new = sound b p g .fewNodes }
 
 -- ---- `grow`, `add`
 

@@ -1,13 +1,12 @@
 -- The turns of the loops, and the returns of the functions over them, as `search` finds them: the premises are what the code holds there.
 use mathlib.Core.Path.{_≡_, refl, sym, ap, _∙_, subst, subst₂}
-use mathlib.Core.Bool.{Bool, true, false}
+use mathlib.Core.Bool.{Bool, true, false, false≢true}
 use mathlib.Core.List.{List}
 use Prim.Native.Nat.{ℕ, _+_, _-_, _≤_, _<_}
 use native.Mathlib.Numerals.{add-one}
 use native.Mathlib.Omega.{arith}
 use borrow.Author.Tests.{le-leb, lt-leb}
 use lib.ListN.{length, getD, replicate, length-replicate}
-use Rattle.laws.specs.Tests.{choose, listed}
 use Rattle.laws.specs.TestLaws.{both-ways}
 use Rattle.laws.specs.Lists.{choose-yes, choose-no}
 use Rattle.laws.specs.Slices.{below-or, same-or}
@@ -23,8 +22,8 @@ use Rattle.pairset.specs.StoreLaws.{listed-at, listed-of}
 use Rattle.versions.specs.Memory.{InMemory, Memory, memory}
 use Rattle.versions.specs.MemoryLaws.{edges-chained}
 use Rattle.versions.specs.Claims.{GoesOn}
-use Rattle.closure.specs.State.{EachDone, EdgeDone, EdgesDone, OnDone, PairDone, State, Step}
-use Rattle.closure.specs.Step.{pair-inside, state-none, step-map, step-none, step-then}
+use Rattle.closure.specs.State.{AllDone, EachDone, EdgeDone, EdgesDone, Lasts, OnDone, PairDone, PairFollowed, State, Step, Turn}
+use Rattle.closure.specs.Step.{call-lasts, edge-lasts, entries-lasts, followed-lasts, pair-inside, state-none, step-lasts, step-map, step-none, step-same, step-shows, step-then}
 use Rattle.closure.specs.Full.{all-counted, all-same}
 use Rattle.closure.specs.Claims.{AddsEntries, Closes, Enters, Finds, Follows, GoesOnWith, Passes, Sized, TriesEdge, Visits, VisitsAll}
 use Rattle.closure.proofs.Laws.{formed-in}
@@ -34,7 +33,7 @@ use Rattle.closure.proofs.Laws.{formed-in}
 -- At the place: the edges of n from it on were tried.
 pub record FollowedTo (old new : Program) (limit : ℕ) (w₀ : List ℕ) (c₀ n m : ℕ) (w : List ℕ) (c place : ℕ) : Type 0 where
   pub step : Step old new limit w₀ c₀ (λ M. M ≡ M) w c
-  pub walk : Walk (λ e. c ≡ c₀ → c ≤ limit → EdgeDone old new e m (pairsIn w₀ c₀)) (sourceAt old) n (edgeCount old) place
+  pub walk : Walk (λ e. c ≤ limit → EdgeDone old new e m (pairsIn w c)) (sourceAt old) n (edgeCount old) place
 
 unfoldable pub Following : Memory → Memory → ℕ → List ℕ → ℕ → ℕ → ℕ → List ℕ → ℕ → ℕ → Type 0
 Following a b limit w₀ c₀ n m w c place =
@@ -64,7 +63,7 @@ module _ (ot on ol nt nn nl : List ℕ) (limit : ℕ) (w₀ : List ℕ) (c₀ n 
   module _ (w : List ℕ) (c place : ℕ) (inv : Sized w₀ w (Following (memory ot on ol) (memory nt nn nl) limit w₀ c₀ n m w c place)) where
     pub follow-on : (e : ℕ) (v : List ℕ) (r x : ℕ) → 0 < place → e ≡ place - 1 → Sized w v (TriesEdge (memory ot on ol) (memory nt nn nl) limit w c e m v r)
         → x ≡ upTo e (getD ol (edgeBase e + 4) 0) → Sized w₀ v (Following (memory ot on ol) (memory nt nn nl) limit w₀ c₀ n m v r x)
-    unfolding Following TriesEdge
+    unfolding Following TriesEdge Lasts
     follow-on e v r x pos d t q =
         record {
           size = t .size ∙ inv .size;
@@ -73,13 +72,12 @@ module _ (ot on ol nt nn nl : List ℕ) (limit : ℕ) (w₀ : List ℕ) (c₀ n 
               let k : e < edgeCount (o .program) = omega (arith, i .walk .within) in
               let own : sourceAt (o .program) e ≡ n = ap (sourceAt (o .program)) d ∙ i .walk .owner pos in
               let j = t .claim o p h g (i .step .state) k (rw own y) (rw own z) in
-              let all : Step (o .program) (p .program) limit w₀ c₀ (EdgeDone (o .program) (p .program) e m) v r = step-then (i .step) j (λ _ _ f. f) in
               record {
-                step = step-map (λ _. refl) all;
+                step = step-then (λ M N _ _. refl) (i .step) j (λ _ _. refl);
                 walk = rw (q, d)
-                    (walk-step (edges-chained (memory ot on ol) o h) {Q = λ f. r ≡ c₀ → r ≤ limit → EdgeDone (o .program) (p .program) f m (pairsIn w₀ c₀)} (i .walk) pos
-                    (λ f u a b. u (omega (arith, i .step .more, j .more)) (omega (arith, j .more)))
-                    (rw (← d) (all .done)));
+                    (walk-step (edges-chained (memory ot on ol) o h) {Q = λ f. r ≤ limit → EdgeDone (o .program) (p .program) f m (pairsIn v r)} (i .walk) pos
+                    (λ f u b. step-lasts j _ (edge-lasts (o .program) (p .program) f m) b (u (omega (arith, j .more))))
+                    (rw (← d) (j .done)));
               };
         }
 
@@ -90,17 +88,22 @@ module _ (ot on ol nt nn nl : List ℕ) (limit : ℕ) (w₀ : List ℕ) (c₀ n 
           size = inv .size;
           claim = λ o p h g s y z.
               let i = inv .claim o p h g s y z in
-              record { state = i .step .state; more = i .step .more; same = i .step .same; done = λ a b e k own. walk-end (i .walk) l e k own a b };
+              step-shows (i .step) (λ b e k own. walk-end (i .walk) l e k own b);
         }
 
 pub ruleset follows = (follow-less, follow-start, follow-on, follow-end)
 
 -- ---- `go_on`, `visit`
 
-module _ (ot on ol nt nn nl : List ℕ) (limit : ℕ) (w : List ℕ) (c n m : ℕ) where
-  pub go-over : limit < c → Sized w w (GoesOnWith (memory ot on ol) (memory nt nn nl) limit w c n m w c)
+module _ (ot on ol nt nn nl : List ℕ) (limit : ℕ) (w : List ℕ) (c : ℕ) (z : Bool) (n m : ℕ) where
+  pub go-over : limit < c → Sized w w (GoesOnWith (memory ot on ol) (memory nt nn nl) limit w c z n m w c z)
   unfolding GoesOnWith
-  go-over l = record { size = refl; claim = λ o p h g s y. step-none s (λ k. absurd (let z : ⊥ = omega arith in z)) }
+  go-over l =
+      record {
+        size = refl;
+        claim = λ o p h g s y.
+            record { step = step-none s (λ k. absurd (let z : ⊥ = omega arith in z)); before = λ e. e; still = λ _ k. absurd (let z : ⊥ = omega arith in z) };
+      }
 
   module _ (t : Bool) (few : c ≤ limit) (is : GoesOn on ol nn nl w n m t) where
     -- What the test says of the list.
@@ -109,101 +112,178 @@ module _ (ot on ol nt nn nl : List ℕ) (limit : ℕ) (w : List ℕ) (c n m : �
     unfolding GoesOn
     test o p h g s y = let i = pair-inside (formed-in _ _ o p h g) y in is ot nt o p c h g (s .kept few .store) (i .0) (i .1)
 
-    pub go-wait : t ≡ false → Sized w w (GoesOnWith (memory ot on ol) (memory nt nn nl) limit w c n m w c)
+    pub go-wait : t ≡ false → Sized w w (GoesOnWith (memory ot on ol) (memory nt nn nl) limit w c z n m w c false)
     unfolding GoesOnWith OnDone
-    go-wait u = record { size = refl; claim = λ o p h g s y. step-none s (λ _ k. absurd (both-ways (test o p h g s y ∙ k) u)) }
+    go-wait u =
+        record {
+          size = refl;
+          claim = λ o p h g s y.
+              record {
+                step = step-none s (λ _ e. absurd (false≢true e));
+                before = λ e. absurd (false≢true e);
+                still = λ _ _ k. absurd (both-ways (test o p h g s y ∙ k) u);
+              };
+        }
 
     pub go-follow : (v : List ℕ) (r : ℕ) → t ≡ true → Sized w v (Follows (memory ot on ol) (memory nt nn nl) limit w c n m v r)
-        → Sized w v (GoesOnWith (memory ot on ol) (memory nt nn nl) limit w c n m v r)
+        → Sized w v (GoesOnWith (memory ot on ol) (memory nt nn nl) limit w c z n m v r z)
     unfolding GoesOnWith Follows OnDone
     go-follow v r u x =
         record {
           size = x .size;
           claim = λ o p h g s y.
               let on : goesOn (o .program) (p .program) (pairsIn w c) n m ≡ true = sym (test o p h g s y) ∙ u in
-              step-map (λ d _. d)
-              (x .claim o p h g s y (λ k. s .kept few .sound _ _ (goesOn-at (o .program) (p .program) (pairsIn w c) n m on k)));
+              let d = x .claim o p h g s y (λ k. s .kept few .sound _ _ (goesOn-at (o .program) (p .program) (pairsIn w c) n m on k)) in
+              record { step = step-map (λ k _. k) d; before = λ e. e; still = λ _ l _. d .done l };
         }
 
-  pub visit-done : (x : ℕ) (u v : List ℕ) (k r : ℕ) → n ≡ oldAt w x → m ≡ newAt w x → Sized w u (Enters on ol nn nl limit w c n m u k)
-      → Sized u v (GoesOnWith (memory ot on ol) (memory nt nn nl) limit u k n m v r) → Sized w v (Visits (memory ot on ol) (memory nt nn nl) limit w c x v r)
+  pub visit-done : (x : ℕ) (u v : List ℕ) (k r : ℕ) (z′ : Bool) → n ≡ oldAt w x → m ≡ newAt w x → Sized w u (Enters on ol nn nl limit w c n m u k)
+      → Sized u v (GoesOnWith (memory ot on ol) (memory nt nn nl) limit u k z n m v r z′) → Sized w v (Visits (memory ot on ol) (memory nt nn nl) limit w c z x v r z′)
   unfolding Enters GoesOnWith Visits
-  visit-done x u v k r d e y z =
+  visit-done x u v k r z′ d e y q =
       record {
-        size = z .size ∙ y .size;
+        size = q .size ∙ y .size;
         claim = λ o p h g s few l.
             let pair : Pair (o .program) (p .program) n m = s .kept few .sound n m (listed-of w n m c x l (sym d) (sym e)) in
             let i = y .claim ot nt o p h g s pair in
-            rw (← d, ← e) (step-then i (z .claim o p h g (i .state) pair) (λ _ a b. record { call = a; on = b }));
+            let j = q .claim o p h g (i .state) pair in
+            let lasts = call-lasts (o .program) (p .program) n m in
+            let t : Turn (o .program) (p .program) limit w c z (PairFollowed (o .program) (p .program) n m) (PairDone (o .program) (p .program) n m) v r z′
+            = record {
+              step = step-then lasts i (j .step) (λ a b f. record { call = a; edges = b f });
+              before = j .before;
+              still = λ f b. record {
+                call = step-lasts (j .step) _ lasts b (i .done (omega (arith, j .step .more)));
+                on = j .still (omega (arith, i .more, j .step .more)) b;
+              };
+            } in
+            rw (← d, ← e) t;
       }
 
 pub ruleset visits = (go-over, go-wait, go-follow, visit-done)
 
 -- ---- `visit_all`, `pass`
 
--- The pairs before x were visited.
-unfoldable pub VisitedTo : Program → Program → List ℕ → ℕ → ℕ → List (ℕ × ℕ) → Type 0
-VisitedTo old new w c x M = (k : ℕ) → k < x → k < c → PairDone old new (oldAt w k) (newAt w k) M
+-- The pairs before x have P.
+unfoldable pub Seen : (ℕ → ℕ → List (ℕ × ℕ) → Type 0) → List ℕ → ℕ → ℕ → Type 0
+Seen P w c x = (k : ℕ) → k < x → k < c → P (oldAt w k) (newAt w k) (pairsIn w c)
 
-unfoldable pub Visiting : Memory → Memory → ℕ → List ℕ → ℕ → List ℕ → ℕ → ℕ → Type 0
-Visiting a b limit w₀ c₀ w c x =
-    (o p : Listing) → InMemory a o → InMemory b p → State (o .program) (p .program) limit w₀ c₀
-    → Step (o .program) (p .program) limit w₀ c₀ (VisitedTo (o .program) (p .program) w₀ c₀ x) w c
+-- The pairs before x were visited.
+pub record VisitedTo (old new : Program) (limit : ℕ) (w₀ : List ℕ) (c₀ : ℕ) (w : List ℕ) (c : ℕ) (z : Bool) (x : ℕ) : Type 0 where
+  pub step : Step old new limit w₀ c₀ (λ M. M ≡ M) w c
+  pub followed : z ≡ true → c ≤ limit → Seen (PairFollowed old new) w c x
+  pub still : c ≡ c₀ → c ≤ limit → Seen (PairDone old new) w c x
+
+unfoldable pub Visiting : Memory → Memory → ℕ → List ℕ → ℕ → List ℕ → ℕ → Bool → ℕ → Type 0
+Visiting a b limit w₀ c₀ w c z x =
+    (o p : Listing) → InMemory a o → InMemory b p → State (o .program) (p .program) limit w₀ c₀ → VisitedTo (o .program) (p .program) limit w₀ c₀ w c z x
+
+-- One pair more, where P of a pair passes on to the list then.
+seen-more : (P : ℕ → ℕ → List (ℕ × ℕ) → Type 0) (w v : List ℕ) (c r x : ℕ) → x < c → ((k : ℕ) → k < c → (oldAt v k ≡ oldAt w k) × (newAt v k ≡ newAt w k))
+    → ((a b : ℕ) → P a b (pairsIn w c) → P a b (pairsIn v r)) → Seen P w c x → P (oldAt w x) (newAt w x) (pairsIn v r) → Seen P v r (x + 1)
+unfolding Seen
+seen-more P w v c r x l keeps f d t k kx kr =
+    let q = keeps k (omega arith) in
+    let i = keeps x l in
+    same-or k x
+    (λ e. subst (λ (j : ℕ). P (oldAt v j) (newAt v j) (pairsIn v r)) (sym e) (rw (i .0, i .1) t))
+    (λ e. rw (q .0, q .1) (f _ _ (d k (omega arith) (omega arith))))
+
+-- All pairs.
+seen-all : (old new : Program) (w : List ℕ) (c x : ℕ) → c ≤ x → Seen (PairDone old new) w c x → EachDone old new (pairsIn w c)
+unfolding Seen EachDone
+seen-all old new w c x l d n m t =
+    let k = listed-at w n m c t in
+    subst₂ (λ (a b : ℕ). PairDone old new a b (pairsIn w c)) (k .2) (k .3) (d (k .0) (omega (arith, k .1)) (k .1))
+
+followed-done : (old new : Program) (w : List ℕ) (c x : ℕ) → Seen (PairFollowed old new) w c x → Seen (PairDone old new) w c x
+unfolding Seen OnDone
+followed-done old new w c x d k kx kc = record { call = d k kx kc .call; on = λ _. d k kx kc .edges }
 
 module _ (a b : Memory) (limit : ℕ) (w₀ : List ℕ) (c₀ : ℕ) where
-  pub all-start : Sized w₀ w₀ (Visiting a b limit w₀ c₀ w₀ c₀ 0)
-  unfolding Visiting VisitedTo
-  all-start = record { size = refl; claim = λ o p h g s. step-none s (λ _ k l. absurd (let z : ⊥ = omega arith in z)) }
+  pub all-start : Sized w₀ w₀ (Visiting a b limit w₀ c₀ w₀ c₀ true 0)
+  unfolding Visiting Seen
+  all-start =
+      record {
+        size = refl;
+        claim = λ o p h g s.
+            record {
+              step = step-none s (λ _. refl);
+              followed = λ _ _ k l. absurd (let z : ⊥ = omega arith in z);
+              still = λ _ _ k l. absurd (let z : ⊥ = omega arith in z);
+            };
+      }
 
-  module _ (w : List ℕ) (c x : ℕ) (inv : Sized w₀ w (Visiting a b limit w₀ c₀ w c x)) where
-    pub all-on : (v : List ℕ) (r : ℕ) → x < c → c ≤ limit → Sized w v (Visits a b limit w c x v r) → Sized w₀ v (Visiting a b limit w₀ c₀ v r (x + 1))
-    unfolding Visiting VisitedTo Visits
-    all-on v r l few y =
+  module _ (w : List ℕ) (c : ℕ) (z : Bool) (x : ℕ) (inv : Sized w₀ w (Visiting a b limit w₀ c₀ w c z x)) where
+    pub all-on : (v : List ℕ) (r : ℕ) (z′ : Bool) → x < c → c ≤ limit → Sized w v (Visits a b limit w c z x v r z′) → Sized w₀ v (Visiting a b limit w₀ c₀ v r z′ (x + 1))
+    unfolding Visiting Visits Lasts
+    all-on v r z′ l few y =
         record {
           size = y .size ∙ inv .size;
           claim = λ o p h g s.
               let i = inv .claim o p h g s in
-              step-then i (y .claim o p h g (i .state) few l)
-              (λ e d t k kx kc.
-              same-or k x
-              (λ q. rw q (subst (λ (u : List ℕ). PairDone (o .program) (p .program) (oldAt u x) (newAt u x) (pairsIn w₀ c₀)) e t))
-              (λ q. d k (omega arith) kc));
+              let j = y .claim o p h g (i .step .state) few l in
+              record {
+                step = step-then (λ M N _ _. refl) (i .step) (j .step) (λ _ _. refl);
+                followed = λ e k.
+                    seen-more (PairFollowed (o .program) (p .program)) w v c r x l (j .step .keeps k)
+                    (λ n m. step-lasts (j .step) _ (followed-lasts (o .program) (p .program) n m) k)
+                    (i .followed (j .before e) few) (j .step .done k e);
+                still = λ e k.
+                    let rc : r ≡ c = omega (arith, i .step .more, j .step .more) in
+                    seen-more (PairDone (o .program) (p .program)) w v c r x l (j .step .keeps k)
+                    (λ n m. subst (PairDone (o .program) (p .program) n m) (step-same (j .step) k rc))
+                    (i .still (omega arith) few) (j .still rc k);
+              };
         }
 
-    pub all-over : limit < c → Sized w₀ w (VisitsAll a b limit w₀ c₀ w c)
+    pub all-over : limit < c → Sized w₀ w (VisitsAll a b limit w₀ c₀ w c z)
     unfolding Visiting VisitsAll
     all-over l =
         record {
           size = inv .size;
           claim = λ o p h g s.
               let i = inv .claim o p h g s in
-              record { state = i .state; more = i .more; same = i .same; done = λ e few. absurd (let z : ⊥ = omega arith in z) };
+              record {
+                step = step-shows (i .step) (λ few. absurd (let z : ⊥ = omega arith in z));
+                before = λ _. refl;
+                still = λ _ few. absurd (let z : ⊥ = omega arith in z);
+              };
         }
 
-    pub all-end : c ≤ x → Sized w₀ w (VisitsAll a b limit w₀ c₀ w c)
-    unfolding Visiting VisitedTo VisitsAll EachDone
+    pub all-end : c ≤ x → Sized w₀ w (VisitsAll a b limit w₀ c₀ w c z)
+    unfolding Visiting VisitsAll
     all-end l =
         record {
           size = inv .size;
           claim = λ o p h g s.
               let i = inv .claim o p h g s in
-              step-map
-              (λ d n m t.
-              let k = listed-at w₀ n m c₀ t in
-              subst₂ (λ (a b : ℕ). PairDone (o .program) (p .program) a b (pairsIn w₀ c₀)) (k .2) (k .3) (d (k .0) (omega (arith, k .1, i .more)) (k .1)))
-              i;
+              record {
+                step = step-shows (i .step) (λ few e. seen-all (o .program) (p .program) w c x l (followed-done (o .program) (p .program) w c x (i .followed e few)));
+                before = λ _. refl;
+                still = λ e few. seen-all (o .program) (p .program) w c x l (i .still e few);
+              };
         }
 
-pub pass-done : (ot on ol nt nn nl : List ℕ) (limit : ℕ) (w u v : List ℕ) (c k r : ℕ) → Sized w u (AddsEntries ol nl limit w c 0 0 u k)
-    → Sized u v (VisitsAll (memory ot on ol) (memory nt nn nl) limit u k v r) → Sized w v (Passes (memory ot on ol) (memory nt nn nl) limit w c v r)
+pub pass-done : (ot on ol nt nn nl : List ℕ) (limit : ℕ) (w u v : List ℕ) (c k r : ℕ) (z : Bool) → Sized w u (AddsEntries ol nl limit w c 0 0 u k)
+    → Sized u v (VisitsAll (memory ot on ol) (memory nt nn nl) limit u k v r z) → Sized w v (Passes (memory ot on ol) (memory nt nn nl) limit w c v r z)
 unfolding AddsEntries VisitsAll Passes
-pass-done ot on ol nt nn nl limit w u v c k r x y =
+pass-done ot on ol nt nn nl limit w u v c k r z x y =
     record {
       size = y .size ∙ x .size;
       claim = λ o p h g s.
           let f = formed-in _ _ o p h g in
           let i = x .claim ot on nt nn o p h g s (f .old-formed .begins) (f .new-formed .begins) first-entries in
-          step-then i (y .claim o p h g (i .state)) (λ _ d e. record { start = d; each = e });
+          let j = y .claim o p h g (i .state) in
+          let lasts = entries-lasts (o .program) (p .program) 0 0 in
+          record {
+            step = step-then lasts i (j .step) (λ d t e. record { start = d; each = t e });
+            before = j .before;
+            still = λ e l. record {
+              start = step-lasts (j .step) _ lasts l (i .done (omega (arith, j .step .more)));
+              each = j .still (omega (arith, i .more, j .step .more)) l;
+            };
+          };
     }
 
 pub ruleset passes = (all-start, all-on, all-over, all-end, pass-done)
@@ -219,10 +299,10 @@ pub repeat-start : (a b : Memory) (limit : ℕ) (w : List ℕ) → Sized w w (Re
 unfolding Repeating
 repeat-start a b limit w = record { size = refl; claim = λ o p h g s. s }
 
-module _ (a b : Memory) (limit : ℕ) (w₀ w : List ℕ) (c : ℕ) (v : List ℕ) (r : ℕ) (inv : Sized w₀ w (Repeating a b limit w₀ w c)) (x : Sized w v (Passes a b limit w c v r)) where
+module _ (a b : Memory) (limit : ℕ) (w₀ w : List ℕ) (c : ℕ) (v : List ℕ) (r : ℕ) (z : Bool) (inv : Sized w₀ w (Repeating a b limit w₀ w c)) (x : Sized w v (Passes a b limit w c v r z)) where
   pub repeat-on : Sized w₀ v (Repeating a b limit w₀ v r)
   unfolding Repeating Passes
-  repeat-on = record { size = x .size ∙ inv .size; claim = λ o p h g s. x .claim o p h g (inv .claim o p h g s) .state }
+  repeat-on = record { size = x .size ∙ inv .size; claim = λ o p h g s. x .claim o p h g (inv .claim o p h g s) .step .state }
 
   pub repeat-over : limit < r → Sized w₀ v (Finds a b limit w₀ v (limit + 1))
   unfolding Repeating Passes Finds
@@ -232,29 +312,37 @@ module _ (a b : Memory) (limit : ℕ) (w₀ w : List ℕ) (c : ℕ) (v : List �
         claim = λ o p h g s.
             let i = x .claim o p h g (inv .claim o p h g s) in
             record {
-              answer = add-one limit ∙ sym (choose-no _ _ (lt-leb (length (pairs (o .program) (p .program))) limit (i .state .over l)));
+              answer = add-one limit ∙ sym (choose-no _ _ (lt-leb (length (pairs (o .program) (p .program))) limit (i .step .state .over l)));
               held = λ k. absurd (let z : ⊥ = omega arith in z);
             };
       }
 
-  pub repeat-done : r ≤ limit → r ≤ c → Sized w₀ v (Finds a b limit w₀ v r)
+  -- Where the list has the three rules, the search is at its end.
+  ended : r ≤ limit
+      → ((o p : Listing) → Turn (o .program) (p .program) limit w c true (AllDone (o .program) (p .program)) (AllDone (o .program) (p .program)) v r z
+      → AllDone (o .program) (p .program) (pairsIn v r))
+      → Sized w₀ v (Finds a b limit w₀ v r)
   unfolding Repeating Passes Finds
-  repeat-done l e =
+  ended l all =
       record {
         size = x .size ∙ inv .size;
         claim = λ o p h g s.
             let f = formed-in a b o p h g in
-            let i = inv .claim o p h g s in
-            let j = x .claim o p h g i in
-            let rc : r ≡ c = omega (arith, j .more) in
-            let k = i .kept (omega (arith, j .more)) in
-            let d = j .done rc l in
-            let n : r ≡ length (pairs (o .program) (p .program)) = rc ∙ all-counted f k d in
+            let j = x .claim o p h g (inv .claim o p h g s) in
+            let k = j .step .state .kept l in
+            let d = all o p j in
+            let n : r ≡ length (pairs (o .program) (p .program)) = all-counted f k d in
             record {
               answer = n ∙ sym (choose-yes _ _ (le-leb (length (pairs (o .program) (p .program))) limit (omega arith)));
-              held = λ _. rw (j .same rc, rc) (record { store = k .store; counted = all-counted f k d; same = all-same f k d });
+              held = λ _. record { store = k .store; counted = n; same = all-same f k d };
             };
       }
+
+  pub repeat-still : r ≤ limit → r ≤ c → Sized w₀ v (Finds a b limit w₀ v r)
+  repeat-still l e = ended l (λ o p t. t .still (omega (arith, t .step .more)) l)
+
+  pub repeat-settled : r ≤ limit → z ≡ true → Sized w₀ v (Finds a b limit w₀ v r)
+  repeat-settled l e = ended l (λ o p t. t .step .done l e)
 
 pub close-done : (a b : Memory) (limit : ℕ) (w u v : List ℕ) (r : ℕ) → u ≡ replicate (length w) 0 → Sized u v (Finds a b limit u v r) → Sized w v (Closes a b limit w v r)
 unfolding Finds Closes
@@ -264,4 +352,4 @@ close-done a b limit w u v r e x =
       claim = λ o p h g l. x .claim o p h g (rw e (state-none (o .program) (p .program) limit (length w) l));
     }
 
-pub ruleset repeats = (repeat-start, repeat-on, repeat-over, repeat-done, close-done)
+pub ruleset repeats = (repeat-start, repeat-on, repeat-over, repeat-still, repeat-settled, close-done)

@@ -1,7 +1,7 @@
 -- What the functions of the search promise: whatever programs the memories hold, for a table in a state of the search. Each adds pairs of the rules only, and
--- where it adds none, the rules that it looks at hold within the list.
+-- the rules that it looks at then hold within the list; those of pairs that have to wait do where it adds none.
 use mathlib.Core.Path.{_≡_}
-use mathlib.Core.Bool.{false, true}
+use mathlib.Core.Bool.{Bool, false, true}
 use mathlib.Core.List.{List}
 use Prim.Native.Nat.{ℕ, suc, _+_, _*_, _≤_, _<_}
 use lib.Dec.{leb}
@@ -10,10 +10,10 @@ use Rattle.laws.specs.Tests.{choose, listed}
 use Rattle.rules.specs.Graph.{Program, edgeCount, entry, procCount, sourceAt}
 use Rattle.rules.specs.Closing.{MayGoOn, Pair, pairs}
 use Rattle.rules.specs.ProgramFile.{Listing}
-use Rattle.pairset.specs.Store.{newAt, oldAt, pairsIn}
+use Rattle.pairset.specs.Store.{newAt, oldAt, pairBase, pairsIn}
 use Rattle.versions.specs.Memory.{InMemory, Memory, memory}
 use Rattle.versions.specs.Held.{PairsHeld}
-use Rattle.closure.specs.State.{AllDone, CallDone, EachDone, EdgeDone, EdgesDone, EntriesDone, Formed, OnDone, PairDone, State, Step}
+use Rattle.closure.specs.State.{AllDone, CallDone, EachDone, EdgeDone, EdgesDone, EntriesDone, Formed, OnDone, PairDone, PairFollowed, State, Step, Turn}
 
 -- A claim, and the table as long as it was.
 pub record Sized (w v : List ℕ) (X : Type 0) : Type 0 where
@@ -57,25 +57,27 @@ module _ (a b : Memory) (limit : ℕ) (w : List ℕ) where
       (o p : Listing) → InMemory a o → InMemory b p → State (o .program) (p .program) limit w c → Pair (o .program) (p .program) n m → MayGoOn (o .program) (p .program) n m
       → Step (o .program) (p .program) limit w c (EdgesDone (o .program) (p .program) n m) v r
 
-  unfoldable pub GoesOnWith : ℕ → ℕ → ℕ → List ℕ → ℕ → Type 0
-  GoesOnWith c n m v r =
+  unfoldable pub GoesOnWith : ℕ → Bool → ℕ → ℕ → List ℕ → ℕ → Bool → Type 0
+  GoesOnWith c was n m v r settled =
       (o p : Listing) → InMemory a o → InMemory b p → State (o .program) (p .program) limit w c → Pair (o .program) (p .program) n m
-      → Step (o .program) (p .program) limit w c (OnDone (o .program) (p .program) n m) v r
+      → Turn (o .program) (p .program) limit w c was (EdgesDone (o .program) (p .program) n m) (OnDone (o .program) (p .program) n m) v r settled
 
   -- `visit`: rules 2 and 3 for the pair x of the table.
-  unfoldable pub Visits : ℕ → ℕ → List ℕ → ℕ → Type 0
-  Visits c x v r =
+  unfoldable pub Visits : ℕ → Bool → ℕ → List ℕ → ℕ → Bool → Type 0
+  Visits c was x v r settled =
       (o p : Listing) → InMemory a o → InMemory b p → State (o .program) (p .program) limit w c → c ≤ limit → x < c
-      → Step (o .program) (p .program) limit w c (PairDone (o .program) (p .program) (oldAt w x) (newAt w x)) v r
+      → Turn (o .program) (p .program) limit w c was (PairFollowed (o .program) (p .program) (oldAt w x) (newAt w x)) (PairDone (o .program) (p .program) (oldAt w x) (newAt w x)) v r settled
 
   -- `visit_all`: rules 2 and 3 for each pair of the table; `pass`: the three rules.
-  unfoldable pub VisitsAll : ℕ → List ℕ → ℕ → Type 0
-  VisitsAll c v r =
-      (o p : Listing) → InMemory a o → InMemory b p → State (o .program) (p .program) limit w c → Step (o .program) (p .program) limit w c (EachDone (o .program) (p .program)) v r
+  unfoldable pub VisitsAll : ℕ → List ℕ → ℕ → Bool → Type 0
+  VisitsAll c v r settled =
+      (o p : Listing) → InMemory a o → InMemory b p → State (o .program) (p .program) limit w c
+      → Turn (o .program) (p .program) limit w c true (EachDone (o .program) (p .program)) (EachDone (o .program) (p .program)) v r settled
 
-  unfoldable pub Passes : ℕ → List ℕ → ℕ → Type 0
-  Passes c v r =
-      (o p : Listing) → InMemory a o → InMemory b p → State (o .program) (p .program) limit w c → Step (o .program) (p .program) limit w c (AllDone (o .program) (p .program)) v r
+  unfoldable pub Passes : ℕ → List ℕ → ℕ → Bool → Type 0
+  Passes c v r settled =
+      (o p : Listing) → InMemory a o → InMemory b p → State (o .program) (p .program) limit w c
+      → Turn (o .program) (p .program) limit w c true (AllDone (o .program) (p .program)) (AllDone (o .program) (p .program)) v r settled
 
 -- The number of pairs, or one more than the limit where there are more; within the limit, the table holds them.
 pub record Found (old new : Program) (limit : ℕ) (w : List ℕ) (r : ℕ) : Type 0 where
@@ -90,4 +92,4 @@ Finds a b limit w v r =
 -- `close`: from a table that has room for as many pairs as the limit says.
 unfoldable pub Closes : Memory → Memory → ℕ → List ℕ → List ℕ → ℕ → Type 0
 Closes a b limit w v r =
-    (o p : Listing) → InMemory a o → InMemory b p → 512 + 3 * limit ≤ length w → Found (o .program) (p .program) limit v r
+    (o p : Listing) → InMemory a o → InMemory b p → pairBase + 3 * limit ≤ length w → Found (o .program) (p .program) limit v r

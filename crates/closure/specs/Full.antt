@@ -8,7 +8,7 @@ use lib.ListN.{length}
 use Rattle.laws.specs.Tests.{listed}
 use Rattle.laws.specs.TestLaws.{same-test}
 use Rattle.rules.specs.Graph.{Program, sourceAt}
-use Rattle.rules.specs.Closing.{Pair, goesOn, pairs}
+use Rattle.rules.specs.Closing.{Pair, pairs}
 use Rattle.rules.specs.Proofs.Closure.{goesOn-of, least, pairs-ascend, pairs-complete, pairs-sound}
 use Rattle.pairset.specs.Store.{pairsIn}
 use Rattle.pairset.specs.StoreLaws.{pairs-count}

@@ -8,7 +8,7 @@ use native.Mathlib.Omega.{arith}
 use borrow.Author.Tests.{eqb-true}
 use lib.Dec.{eqb}
 use lib.ListN.{length}
-use Rattle.laws.specs.Tests.{_and_, _or_, listed}
+use Rattle.laws.specs.Tests.{_and_, listed}
 use Rattle.laws.specs.TestLaws.{and-left, and-right, or-cases, or-left, or-right, both-ways, fails, listed-append, listed-here, listed-one, Ascending, asc-none, asc-more}
 use Rattle.laws.specs.Lists.{none-listed, listed-rest}
 

@@ -1,26 +1,28 @@
--- Laws of steps: none, one after another, a pair more, and one pair too many.
-use mathlib.Core.Path.{_≡_, refl, ap, _∙_, subst₂}
-use mathlib.Core.Logic.{_⊎_, ⊎-elim}
-use mathlib.Core.Bool.{false}
-use mathlib.Core.List.{List}
-use Prim.Native.Nat.{ℕ, _+_, _*_, _≤_, _<_}
+-- Laws of steps: what lasts, none, one after another, a pair more, and one pair too many.
+use mathlib.Core.Path.{_≡_, refl, sym, ap, _∙_, subst, subst₂}
+use mathlib.Core.Logic.{⊎-elim}
+use mathlib.Core.Bool.{false, true}
+use mathlib.Core.List.{List, [], _∷_, _++_}
+use Prim.Native.Nat.{ℕ, zero, suc, _+_, _*_, _≤_, _<_}
+use native.Mathlib.Nat.{not-suc-le-zero}
 use native.Mathlib.Omega.{arith}
-use lib.ListN.{length, replicate, length-replicate}
+use borrow.Author.Tests.{eq-eqb}
+use lib.ListN.{length, getD, replicate, length-replicate}
 use Rattle.laws.specs.Tests.{listed}
-use Rattle.laws.specs.TestLaws.{listed-append, listed-one}
-use Rattle.laws.specs.Lists.{none-listed, snoc-length}
-use Rattle.laws.specs.Slices.{below-or}
+use Rattle.laws.specs.TestLaws.{and-both, listed-append, listed-one, or-right}
+use Rattle.laws.specs.Lists.{none-listed, snoc-length, snoc-new, snoc-old}
+use Rattle.laws.specs.Slices.{below-or, same-or}
 use Rattle.rules.specs.Graph.{Program, nodeCount}
 use Rattle.rules.specs.Closing.{Pair, pairs}
 use Rattle.rules.specs.Proofs.Closure.{pairs-complete, pairs-inside}
-use Rattle.pairset.specs.Store.{Appended, Appends, pairsIn}
-use Rattle.pairset.specs.StoreLaws.{no-pairs, pairs-count, store-clear}
+use Rattle.pairset.specs.Store.{Appended, Appends, newAt, oldAt, pairBase, pairsIn}
+use Rattle.pairset.specs.StoreLaws.{listed-at, listed-of, listed-snoc, no-pairs, pairs-agree, pairs-count, store-clear}
 use Rattle.closure.specs.Once.{once-none, once-snoc, pigeonhole}
-use Rattle.closure.specs.State.{Formed, State, Step}
+use Rattle.closure.specs.State.{CallDone, EdgeDone, EdgesDone, EntriesDone, Formed, Lasts, PairFollowed, State, Step, Within}
 
 -- ---- nothing found yet
 
-pub state-none : (old new : Program) (limit n : ℕ) → 512 + 3 * limit ≤ n → State old new limit (replicate n 0) 0
+pub state-none : (old new : Program) (limit n : ℕ) → pairBase + 3 * limit ≤ n → State old new limit (replicate n 0) 0
 state-none old new limit n h =
     record {
       wide = omega (arith, length-replicate {A = ℕ} n 0);
@@ -38,44 +40,106 @@ state-none old new limit n h =
 pub pair-inside : {old new : Program} {a b : ℕ} → Formed old new → Pair old new a b → (a < nodeCount old) × (b < nodeCount new)
 pair-inside {old} {new} {a} {b} f p = pairs-inside old new a b (pairs-complete old new (f .old-formed) (f .new-formed) p)
 
+-- ---- what lasts as a list grows
+
+module _ (old new : Program) where
+  pub edge-lasts : (e m : ℕ) → Lasts (EdgeDone old new e m)
+  unfolding Lasts Within EdgeDone
+  edge-lasts e m M N h d f l s t = h _ _ (d f l s t)
+
+  pub edges-lasts : (n m : ℕ) → Lasts (EdgesDone old new n m)
+  unfolding Lasts EdgesDone
+  edges-lasts n m M N h d e l s = edge-lasts e m M N h (d e l s)
+
+  pub call-lasts : (n m : ℕ) → Lasts (CallDone old new n m)
+  unfolding Lasts Within CallDone
+  call-lasts n m M N h d k k′ = h _ _ (d k k′)
+
+  pub entries-lasts : (q k : ℕ) → Lasts (EntriesDone old new q k)
+  unfolding Lasts Within EntriesDone
+  entries-lasts q k M N h d = h _ _ d
+
+  pub followed-lasts : (n m : ℕ) → Lasts (PairFollowed old new n m)
+  unfolding Lasts
+  followed-lasts n m M N h d = record { call = call-lasts n m M N h (d .call); edges = edges-lasts n m M N h (d .edges) }
+
+-- ---- the pairs of a list by index
+
+pair-at : (w : List ℕ) (c k : ℕ) → k < c → getD (pairsIn w c) k (0, 0) ≡ (oldAt w k, newAt w k)
+unfolding pairsIn
+pair-at w zero k h = absurd (not-suc-le-zero h)
+pair-at w (suc c) k h =
+    same-or k c
+    (λ e. rw e (subst (λ (n : ℕ). getD (pairsIn w c ++ ((oldAt w c, newAt w c) ∷ [])) n (0, 0) ≡ (oldAt w c, newAt w c)) (pairs-count w c) (snoc-new (0, 0) (pairsIn w c) _)))
+    (λ e. snoc-old (0, 0) (pairsIn w c) _ k (omega (arith, pairs-count w c)) ∙ pair-at w c k (omega arith))
+
+-- A list with one pair more has the pairs before it where they were.
+same-before : (w v : List ℕ) (c k : ℕ) (x : ℕ × ℕ) → pairsIn v (c + 1) ≡ pairsIn w c ++ (x ∷ []) → k < c → (oldAt v k ≡ oldAt w k) × (newAt v k ≡ newAt w k)
+same-before w v c k x e h =
+    let q : _≡_ {A = ℕ × ℕ} (oldAt v k, newAt v k) (oldAt w k, newAt w k)
+    = sym (pair-at v (c + 1) k (omega arith))
+    ∙ ap (λ (l : List (ℕ × ℕ)). getD l k (0, 0)) e
+    ∙ snoc-old (0, 0) (pairsIn w c) x k (omega (arith, pairs-count w c))
+    ∙ pair-at w c k h in
+    (ap (λ (p : ℕ × ℕ). p .0) q, ap (λ (p : ℕ × ℕ). p .1) q)
+
 module _ {old new : Program} {limit : ℕ} where
   -- ---- steps
 
   -- None added.
   pub step-none : {w : List ℕ} {c : ℕ} {D : List (ℕ × ℕ) → Type 0} → State old new limit w c → (c ≤ limit → D (pairsIn w c)) → Step old new limit w c D w c
-  step-none s d = record { state = s; more = omega arith; same = λ _. refl; done = λ _ h. d h }
+  step-none s d = record { state = s; more = omega arith; keeps = λ _ k _. (refl, refl); done = d }
 
-  -- One step after another: where neither added, the list has what each shows.
-  pub step-then : {w v u : List ℕ} {c r q : ℕ} {D E F : List (ℕ × ℕ) → Type 0} → Step old new limit w c D v r → Step old new limit v r E u q
-      → (v ≡ w → D (pairsIn w c) → E (pairsIn w c) → F (pairsIn w c)) → Step old new limit w c F u q
-  step-then {w} {v} {u} {c} {r} {q} {D} {E} {F} x y f =
+  module _ {w v : List ℕ} {c r : ℕ} {D : List (ℕ × ℕ) → Type 0} (x : Step old new limit w c D v r) where
+    -- Where none was added, the list is the same.
+    pub step-same : r ≤ limit → r ≡ c → pairsIn w c ≡ pairsIn v r
+    step-same h e = pairs-agree w v c (λ k l. sym (x .keeps h k l .0)) (λ k l. sym (x .keeps h k l .1)) ∙ ap (pairsIn v) (sym e)
+
+    -- What was listed is listed, and what lasts lasts.
+    step-within : r ≤ limit → Within (pairsIn w c) (pairsIn v r)
+    unfolding Within
+    step-within h a b t =
+        let k = listed-at w a b c t in
+        let e = x .keeps h (k .0) (k .1) in
+        listed-of v a b r (k .0) (omega (arith, k .1, x .more)) (e .0 ∙ k .2) (e .1 ∙ k .3)
+
+    pub step-lasts : (E : List (ℕ × ℕ) → Type 0) → Lasts E → r ≤ limit → E (pairsIn w c) → E (pairsIn v r)
+    unfolding Lasts
+    step-lasts E l h d = l _ _ (step-within h) d
+
+    -- The same step, with another claim.
+    pub step-shows : {E : List (ℕ × ℕ) → Type 0} → (r ≤ limit → E (pairsIn v r)) → Step old new limit w c E v r
+    step-shows f = record { state = x .state; more = x .more; keeps = x .keeps; done = f }
+
+  -- One step after another.
+  pub step-then : {w v u : List ℕ} {c r q : ℕ} {D E F : List (ℕ × ℕ) → Type 0} → Lasts D → Step old new limit w c D v r → Step old new limit v r E u q
+      → (D (pairsIn u q) → E (pairsIn u q) → F (pairsIn u q)) → Step old new limit w c F u q
+  step-then {w} {v} {u} {c} {r} {q} {D} {E} {F} last x y f =
       record {
         state = y .state;
         more = omega (arith, x .more, y .more);
-        same = λ e. y .same (omega (arith, x .more, y .more)) ∙ x .same (omega (arith, x .more, y .more));
-        done = λ e h.
-            let rc : r ≡ c = omega (arith, x .more, y .more) in
-            let vw = x .same rc in
-            let d = x .done rc (omega (arith, y .more)) in
-            let g = y .done (omega (arith, x .more, y .more)) h in
-            f vw d (subst₂ (λ (l : List ℕ) (k : ℕ). E (pairsIn l k)) vw rc g);
+        keeps = λ h k l.
+            let i = x .keeps (omega (arith, y .more)) k l in
+            let j = y .keeps h k (omega (arith, x .more)) in
+            (j .0 ∙ i .0, j .1 ∙ i .1);
+        done = λ h. f (step-lasts y D last h (x .done (omega (arith, y .more)))) (y .done h);
       }
 
-  pub step-map : {w v : List ℕ} {c r : ℕ} {D E : List (ℕ × ℕ) → Type 0} → (D (pairsIn w c) → E (pairsIn w c)) → Step old new limit w c D v r → Step old new limit w c E v r
-  step-map f x = record { state = x .state; more = x .more; same = x .same; done = λ e h. f (x .done e h) }
+  pub step-map : {w v : List ℕ} {c r : ℕ} {D E : List (ℕ × ℕ) → Type 0} → (D (pairsIn v r) → E (pairsIn v r)) → Step old new limit w c D v r → Step old new limit w c E v r
+  step-map f x = step-shows x (λ h. f (x .done h))
 
   -- ---- a pair that is not there
 
-  module _ {w : List ℕ} {c a b : ℕ} {D : List (ℕ × ℕ) → Type 0} (fm : Formed old new) (s : State old new limit w c) (p : Pair old new a b)
+  module _ {w : List ℕ} {c a b : ℕ} (fm : Formed old new) (s : State old new limit w c) (p : Pair old new a b)
       (new-one : c ≤ limit → listed (pairsIn w c) a b ≡ false) where
     -- One more than the limit is found, or was found before.
-    pub step-over : limit ≤ c → Step old new limit w c D w (limit + 1)
+    pub step-over : limit ≤ c → Step old new limit w c (λ M. listed M a b ≡ true) w (limit + 1)
     step-over h =
         record {
           state = record { wide = s .wide; few = omega arith; kept = λ l. absurd (let z : ⊥ = omega arith in z); over = λ _. over };
           more = s .few;
-          same = λ _. refl;
-          done = λ e l. absurd (let z : ⊥ = omega arith in z);
+          keeps = λ _ k _. (refl, refl);
+          done = λ l. absurd (let z : ⊥ = omega arith in z);
         }
       where
         over : limit < length (pairs old new)
@@ -90,11 +154,11 @@ module _ {old new : Program} {limit : ℕ} where
             omega (arith, snoc-length (0, 0) (pairsIn w c) (a, b), pairs-count w c))
 
     -- There is room for it.
-    pub step-more : {v : List ℕ} → c < limit → Appended w c a b v → Step old new limit w c D v (c + 1)
+    pub step-more : {v : List ℕ} → c < limit → Appended w c a b v → Step old new limit w c (λ M. listed M a b ≡ true) v (c + 1)
     unfolding Appends
     step-more {v} h ap =
         let k = s .kept (omega arith) in
-        let x = ap .appends (k .store) (omega (arith, pair-inside fm p .0, fm .few)) (omega (arith, s .wide)) in
+        let x = ap .appends (k .store) (omega (arith, pair-inside fm p .0, fm .few)) (omega (arith, pair-inside fm p .1, fm .few-new)) (omega (arith, s .wide)) in
         record {
           state = record {
             wide = omega (arith, s .wide, ap .size);
@@ -108,6 +172,6 @@ module _ {old new : Program} {limit : ℕ} where
             over = λ l. absurd (let z : ⊥ = omega arith in z);
           };
           more = omega arith;
-          same = λ e. absurd (let z : ⊥ = omega arith in z);
-          done = λ e l. absurd (let z : ⊥ = omega arith in z);
+          keeps = λ _ k l. same-before w v c k (a, b) (x .1) l;
+          done = λ _. rw (x .1) (listed-snoc (a, b) (pairsIn w c) a b ∙ or-right _ (and-both (eq-eqb a a refl) (eq-eqb b b refl)));
         }

@@ -1,4 +1,5 @@
-// The pairs of two versions in memory: the smallest set with the closing rules, found by passes over the pairs found so far until one adds nothing.
+// The pairs of two versions in memory: the smallest set with the closing rules, found by passes over the pairs found so far, until one adds nothing or
+// no pair has to wait in it.
 // A count above the limit says that there are more pairs than the limit; every function passes such a count on.
 ghost use Prim.Native.Nat.{_≤_};
 ghost use Rattle.versions.specs.Memory.{memory};
@@ -17,6 +18,12 @@ ghost use Rattle.closure.specs.Claims.{
   Visits,
   VisitsAll,
 };
+
+// How far a pass has come: how many pairs there are, and whether it is settled: no pair had to wait for the exits of its callees.
+pub struct Growth {
+    pub count: usize,
+    pub settled: bool,
+}
 
 // Adds the pair (a, b), which is not there; at the limit only the count says so.
 fn grow(limit: usize, w: &mut [usize], count: usize, a: usize, b: usize) -> usize
@@ -153,7 +160,7 @@ fn follow(
     total
 }
 
-// Rule 3 for the pair (n, m), where it may go on by the pairs found so far.
+// Rule 3 for the pair (n, m), where it may go on by the pairs found so far; otherwise it waits.
 fn go_on(
     ot: &[u8],
     on: &[usize],
@@ -164,23 +171,31 @@ fn go_on(
     limit: usize,
     w: &mut [usize],
     count: usize,
+    settled: bool,
     n: usize,
     m: usize,
-) -> usize
+) -> Growth
     requires { ⌜ limit ≤ 4096 ⌝ }
     ensures { λ r. ⌜ Sized (now (w .entry)) (now (w .exit))
         (GoesOnWith
         (memory (now (ot .entry)) (now (on .entry)) (now (ol .entry)))
         (memory (now (nt .entry)) (now (nn .entry)) (now (nl .entry)))
-        limit (now (w .entry)) count n m (now (w .exit)) r) ⌝ }
+        limit (now (w .entry)) count settled n m (now (w .exit)) (r .count) (r .settled)) ⌝ }
 {
     if limit < count {
-        return count;
+        return Growth { count, settled };
     }
     if versions::goes_on(on, ol, nn, nl, w, n, m) {
-        return follow(ot, on, ol, nt, nn, nl, limit, w, count, n, m);
+        let total = follow(ot, on, ol, nt, nn, nl, limit, w, count, n, m);
+        return Growth {
+            count: total,
+            settled,
+        };
     }
-    count
+    Growth {
+        count,
+        settled: false,
+    }
 }
 
 // Rules 2 and 3 for the pair x of the table.
@@ -194,19 +209,20 @@ fn visit(
     limit: usize,
     w: &mut [usize],
     count: usize,
+    settled: bool,
     x: usize,
-) -> usize
+) -> Growth
     requires { ⌜ limit ≤ 4096 ⌝ }
     ensures { λ r. ⌜ Sized (now (w .entry)) (now (w .exit))
         (Visits
         (memory (now (ot .entry)) (now (on .entry)) (now (ol .entry)))
         (memory (now (nt .entry)) (now (nn .entry)) (now (nl .entry)))
-        limit (now (w .entry)) count x (now (w .exit)) r) ⌝ }
+        limit (now (w .entry)) count settled x (now (w .exit)) (r .count) (r .settled)) ⌝ }
 {
     let n = pairset::old_of(w, x);
     let m = pairset::new_of(w, x);
     let entered = enter(on, ol, nn, nl, limit, w, count, n, m);
-    go_on(ot, on, ol, nt, nn, nl, limit, w, entered, n, m)
+    go_on(ot, on, ol, nt, nn, nl, limit, w, entered, settled, n, m)
 }
 
 // Rules 2 and 3 for each pair of the table, with those that are added on the way.
@@ -220,24 +236,33 @@ fn visit_all(
     limit: usize,
     w: &mut [usize],
     count: usize,
-) -> usize
+) -> Growth
     requires { ⌜ limit ≤ 4096 ⌝ }
     ensures { λ r. ⌜ Sized (now (w .entry)) (now (w .exit))
         (VisitsAll
         (memory (now (ot .entry)) (now (on .entry)) (now (ol .entry)))
         (memory (now (nt .entry)) (now (nn .entry)) (now (nl .entry)))
-        limit (now (w .entry)) count (now (w .exit)) r) ⌝ }
+        limit (now (w .entry)) count (now (w .exit)) (r .count) (r .settled)) ⌝ }
 {
     let mut total = count;
+    let mut settled = true;
     let mut x = 0;
     while x < total {
         if limit < total {
-            return total;
+            return Growth {
+                count: total,
+                settled,
+            };
         }
-        total = visit(ot, on, ol, nt, nn, nl, limit, w, total, x);
+        let next = visit(ot, on, ol, nt, nn, nl, limit, w, total, settled, x);
+        total = next.count;
+        settled = next.settled;
         x += 1;
     }
-    total
+    Growth {
+        count: total,
+        settled,
+    }
 }
 
 // One pass over the three rules: the entries of the first procedures, then each pair.
@@ -251,19 +276,19 @@ fn pass(
     limit: usize,
     w: &mut [usize],
     count: usize,
-) -> usize
+) -> Growth
     requires { ⌜ limit ≤ 4096 ⌝ }
     ensures { λ r. ⌜ Sized (now (w .entry)) (now (w .exit))
         (Passes
         (memory (now (ot .entry)) (now (on .entry)) (now (ol .entry)))
         (memory (now (nt .entry)) (now (nn .entry)) (now (nl .entry)))
-        limit (now (w .entry)) count (now (w .exit)) r) ⌝ }
+        limit (now (w .entry)) count (now (w .exit)) (r .count) (r .settled)) ⌝ }
 {
     let total = add_entries(ol, nl, limit, w, count, 0, 0);
     visit_all(ot, on, ol, nt, nn, nl, limit, w, total)
 }
 
-// Passes until one adds nothing.
+// Passes until one is settled or adds nothing.
 fn repeat(
     ot: &[u8],
     on: &[usize],
@@ -283,11 +308,16 @@ fn repeat(
 {
     let mut count = 0;
     loop {
-        let next = pass(ot, on, ol, nt, nn, nl, limit, w, count);
+        let grown = pass(ot, on, ol, nt, nn, nl, limit, w, count);
+        let next = grown.count;
+        let settled = grown.settled;
         if limit < next {
             return limit + 1;
         }
         if next <= count {
+            return next;
+        }
+        if settled {
             return next;
         }
         count = next;
@@ -297,11 +327,12 @@ fn repeat(
 // Finds all pairs, and puts them into the table: how many there are, or limit + 1 where there are more than the limit.
 //
 // The worst case. A pass visits each pair once, and a visit tries the edges of the old node, at most 8. A try compares the edge's word with
-// those of the new node, at most 8, and looks the pair of ends up along the partners of the old end, at most as many as there are new nodes;
-// labels are compared only for ends that are no pair yet. There are at most two passes more than old procedures. A pass leaves out only what
-// stands behind calls that wait for their exits, so one that adds a pair, after the first, does so from a call whose exits became a pair in
-// the pass before; an exit pair is added once, and the callees of a pair have one name, so there are no more exit pairs of callees than old
-// procedures. A last pass adds nothing. At the limits of the files that is at most 66 * 4,096 * 8 tries, each of at most 512 steps along a chain.
+// those of the new node, at most 8, and looks the pair of ends up by its bit; labels are compared only for ends that are no pair yet. There
+// is at most one pass more than old procedures; one pass is enough where no call waits for its exits. A pass leaves out only what stands behind
+// calls that wait, so one that adds a pair, after the first, does so from a call whose exits became a pair in the pass before; the callees of a
+// pair have one name, so there are at most as many such passes as old procedures. If there are as many, the exits of every callee are a pair
+// before the last of them, in which so no call waits, and no pass follows it. Otherwise one pass more, which adds nothing, is the last. At the
+// limits of the files that is at most 65 * 4,096 * 8 tries.
 pub fn close(
     ot: &[u8],
     on: &[usize],

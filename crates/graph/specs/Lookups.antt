@@ -2,15 +2,15 @@
 use mathlib.Core.Path.{_≡_}
 use mathlib.Core.Bool.{Bool}
 use mathlib.Core.List.{List}
-use Prim.Native.Nat.{ℕ, _+_, _<_, _≤_}
-use lib.Dec.{eqb, leb}
+use Prim.Native.Nat.{ℕ, _<_}
+use lib.Dec.{eqb}
 use lib.ListN.{getD}
 use Rattle.laws.specs.Tests.{_⇒_, every, first, found}
 use Rattle.rules.specs.Text.{Bytes, same}
-use Rattle.rules.specs.Graph.{Program, nameAt, kindAt, labelAt, calleeAt, sourceAt, wordAt, procCount, nodeCount, edgeCount, kindNumber, dash, edgeTaken, degree}
+use Rattle.rules.specs.Graph.{nameAt, sourceAt, wordAt, procCount, nodeCount, edgeCount, dash, edgeTaken, degree}
 use Rattle.rules.specs.ProgramFile.{Listing}
 use Rattle.rules.specs.Places.{Part}
-use Rattle.graph.specs.Table.{edgeBase, headBase, procBase, nodeBase, edgeRow, headOf, procHead, At}
+use Rattle.graph.specs.Table.{edgeBase, headBase, procBase, edgeRow, headOf, procHead, At}
 
 -- The numbers of a table by index.
 abbrev pub in-table : List ℕ → ℕ → ℕ

@@ -1,7 +1,6 @@
 -- A program in memory: its text, `nodes` with four numbers a node, and `links` with its procedures, its edges and the head of each node's chain of edges.
 use mathlib.Core.Path.{_≡_}
 use mathlib.Core.List.{List, [], _∷_, _++_}
-use mathlib.Core.Option.{Option, none, some}
 use Prim.Native.Nat.{ℕ, _+_, _*_, _<_}
 use lib.Dec.{ltb}
 use lib.ListN.{length, getD}
@@ -12,13 +11,7 @@ use Rattle.laws.specs.Chain.{latest}
 use Rattle.rules.specs.Graph.{Program, nameAt, ownerAt, kindAt, labelAt, sourceAt, wordAt, targetAt, procCount, nodeCount, edgeCount, kindNumber, entry, exit, called}
 use Rattle.rules.specs.ProgramFile.{Listing}
 
--- ---- the layout: where rows begin, and how long the two tables are
-
-abbrev pub nodesLength : ℕ
-nodesLength = 2048
-
-abbrev pub linksLength : ℕ
-linksLength = 6080
+-- ---- the layout: where rows begin
 
 -- The node n in `nodes`; the procedure q, the edge e and the head of the node n's chain in `links`.
 abbrev pub nodeBase : ℕ → ℕ

@@ -2,20 +2,19 @@
 use mathlib.Core.Path.{_≡_, refl, sym, ap, _∙_}
 use mathlib.Core.Bool.{Bool, true, false}
 use mathlib.Core.List.{List}
-use mathlib.Core.Option.{Option, none, some}
+use mathlib.Core.Option.{none, some}
 use Prim.Native.Nat.{ℕ, _≤_, _<_}
 use native.Mathlib.Omega.{arith}
-use lib.Dec.{leb}
 use lib.ListN.{length}
 use borrow.Author.Tests.{le-leb, lt-leb}
 use Rattle.laws.specs.Tests.{_and_, choose}
-use Rattle.rules.specs.Text.{Bytes, Answer, refused, accepted}
+use Rattle.rules.specs.Text.{Answer, refused, accepted}
 use Rattle.rules.specs.Graph.{procCount, nodeCount, edgeCount}
 use Rattle.rules.specs.ProgramFile.{Listing, readListing}
 use Rattle.rules.specs.SuiteFile.{TestListing, readTests, testCount}
 use Rattle.reader.specs.declared.Count.{Count}
 use Rattle.suite.specs.declared.Read.{Read}
-use Rattle.program.specs.Lent.{Counted, isLeft, leftNumber, TablesLeft}
+use Rattle.program.specs.Lent.{isLeft, leftNumber, TablesLeft}
 use Rattle.lent_tests.specs.Lent.{isLeft as isLeftTests, leftNumber as testsNumber, leftCount, TestsLeft}
 use Rattle.held.specs.Held.{Lent, numbers, longEnough, leftBy, versionLeft, testsLong, testsBy, suiteLeft, countLeft, readLeft}
 

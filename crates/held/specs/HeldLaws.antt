@@ -1,45 +1,43 @@
 -- Tables that are what reading leaves: the numbers of the first 512 records are enough to tell; they are memory that holds the listings.
-use mathlib.Core.Path.{_≡_, refl, sym, ap, ap₂, _∙_, subst}
+use mathlib.Core.Path.{_≡_, refl, sym, ap, _∙_, subst}
 use mathlib.Core.Bool.{Bool, true, false, true≢false}
 use mathlib.Core.List.{List, [], _∷_, _++_}
 use mathlib.Core.Option.{Option, none, some}
-use Prim.Native.Nat.{ℕ, zero, suc, _+_, _-_, _*_, _≤_, _<_}
-use native.Mathlib.Nat.{add-zero, zero-add}
+use Prim.Native.Nat.{ℕ, zero, suc, _+_, _*_, _≤_, _<_}
 use native.Mathlib.Omega.{arith}
-use lib.Dec.{leb, eqb}
-use lib.ListN.{length, getD, take, drop, length-append, set, take-append-drop, length-set}
+use lib.ListN.{length, getD, take, drop, set, take-append-drop, length-set}
 use lib.Seq.{sets, length-sets, length-take-le, take-at}
-use borrow.Author.Tests.{leb-true, le-leb, lt-leb}
-use Rattle.laws.specs.Tests.{_and_, choose}
+use borrow.Author.Tests.{leb-true, lt-leb}
+use Rattle.laws.specs.Tests.{_and_, after, choose}
 use Rattle.laws.specs.TestLaws.{and-left, and-right, same-test}
-use Rattle.laws.specs.Slices.{below-or, sets-front, getD-sets-before, getD-sets-after}
+use Rattle.laws.specs.Slices.{below-or, getD-sets-before}
 use Rattle.laws.specs.Tables.{rows, rows-length, rows-stored}
-use Rattle.rules.specs.Text.{Bytes, same, Answer, refused, accepted, then}
+use Rattle.rules.specs.Text.{Bytes, same, Answer, refused, accepted}
 use Rattle.rules.specs.Proofs.TextLaws.{same-true, same-of, then-passes}
 use Rattle.rules.specs.Proofs.ProgramLaws.{Sound, read-sound}
-use Rattle.rules.specs.Proofs.SuiteLaws.{SoundSuite}
 use Rattle.rules.specs.Graph.{procCount, nodeCount, edgeCount}
 use Rattle.rules.specs.ProgramFile.{Listing, readListing, readProgram}
-use Rattle.rules.specs.SuiteFile.{TestListing, readTests, testCount}
+use Rattle.rules.specs.SuiteFile.{TestListing, readSuite, readTests, testCount}
+use Rattle.rules.specs.Job.{readJob}
 use Rattle.graph.specs.Table.{At, nodeBase, procBase, edgeBase, headBase, nodeRow, procRow, edgeRow, headOf, nodesAfter, linksAfter}
 use Rattle.graph.specs.Lookups.{in-table}
-use Rattle.reader.specs.declared.Count.{Count}
 use Rattle.reader.specs.Result.{Small}
-use Rattle.suite.specs.declared.Read.{Read}
 use Rattle.suite.specs.Rows.{Holds}
 use Rattle.suite.specs.RowLaws.{suite-read}
 use Rattle.versions.specs.Memory.{InMemory, memory}
 use Rattle.program.specs.Lent.{isLeft}
-use Rattle.lent_tests.specs.Lent.{isLeft as testsLeft, testsAfter, rowsAfter}
+use Rattle.lent_tests.specs.Lent.{isLeft as testsLeft}
 use Rattle.lent_tests.specs.Held.{after-holds}
+use Rattle.records.specs.declared.Job.{Job}
 use Rattle.records.specs.declared.Node.{Node}
+use Rattle.records.specs.Jobs.{job-same}
 use Rattle.records.specs.Nodes.{flat}
 use Rattle.records.specs.NodeLaws.{flat-append, flat-length}
-use Rattle.held.specs.Held.{Lent, numbers, lent, longEnough, leftBy, versionLeft, testsLong, testsBy, suiteLeft, countLeft, readLeft}
+use Rattle.held.specs.Held.{AllRead, Lent, Versions, numbers, lent, longEnough, leftBy, versionLeft, testsLong, testsBy, suiteLeft, jobOld, jobNew, jobTests, heldOld, heldNew, heldTests, countLeft}
 
 -- ---- a listing that was read
 
-sound-of : (text : Bytes) (s : Listing) → readListing text ≡ accepted s → Sound (s .program)
+pub sound-of : (text : Bytes) (s : Listing) → readListing text ≡ accepted s → Sound (s .program)
 unfolding readProgram
 sound-of text s e = read-sound text (s .program) (then-passes (λ (x : Listing). accepted (x .program)) e) .0
 
@@ -157,12 +155,6 @@ module _ (v : Lent) (s : Listing) (e : versionLeft v ≡ some s) (wide : 2048 �
   long-l : 6080 ≤ length L
   long-l = version-long v s e .1
 
-  length-p : length P ≡ 7 * procCount (s .program)
-  length-p = rows-length 7 (procRow s) (λ i. refl) (procCount (s .program))
-
-  length-e : length E ≡ 5 * edgeCount (s .program)
-  length-e = rows-length 5 (edgeRow s) (λ i. refl) (edgeCount (s .program))
-
   links-at : (i : ℕ) → getD L i 0 ≡ getD (sets (sets (sets L 0 P) 448 E) 5568 H) i 0
   unfolding linksAfter
   links-at i = ap (λ (x : List ℕ). getD x i 0) (sym links-kept)
@@ -233,3 +225,56 @@ count-small v = go (versionLeft v) refl
     go : (x : Option Listing) → versionLeft v ≡ x → Small (countLeft x)
     go none e = count-none
     go (some s) e = count-some s (version-sound v s e)
+
+-- ---- what is held, taken apart
+
+after-some : {A B : Type 0} (x : Option A) (f : A → Option B) (b : B) → after x none f ≡ some b → (a : A) × (x ≡ some a) × (f a ≡ some b)
+after-some none f b e = absurd (true≢false (let z : true ≡ false = cc in z))
+after-some (some a) f b e = (a, refl, e)
+
+chosen-some : {A : Type 0} (u : Bool) (a b : A) → choose u (some a) none ≡ some b → (u ≡ true) × (a ≡ b)
+unfolding choose
+chosen-some true a b e = (refl, let z : a ≡ b = cc in z)
+chosen-some false a b e = absurd (true≢false (let z : true ≡ false = cc in z))
+
+-- At stage 1.
+pub held-old-parts : (j : Job) (v : Lent) (o : Listing) → heldOld j v ≡ some o → (versionLeft v ≡ some o) × (j ≡ jobOld o)
+unfolding heldOld
+held-old-parts j v o e =
+    let p = after-some _ _ _ e in
+    let q = chosen-some _ _ _ (p .2) in
+    (p .1 ∙ ap some (q .1), job-same j (jobOld (p .0)) (q .0) ∙ ap jobOld (q .1))
+
+-- At stage 2.
+pub held-new-parts : (j : Job) (v v′ : Lent) (h : Versions) → heldNew j v v′ ≡ some h → (versionLeft v ≡ some (h .old)) × (versionLeft v′ ≡ some (h .new)) × (j ≡ jobNew (h .old) (h .new))
+unfolding heldNew
+held-new-parts j v v′ h e =
+    let p = after-some _ _ _ e in
+    let q = after-some _ _ _ (p .2) in
+    let r = chosen-some _ _ _ (q .2) in
+    (p .1 ∙ ap (λ (x : Versions). some (x .old)) (r .1), q .1 ∙ ap (λ (x : Versions). some (x .new)) (r .1), job-same j (jobNew (p .0) (q .0)) (r .0) ∙ ap (λ (x : Versions). jobNew (x .old) (x .new)) (r .1))
+
+-- At stage 3.
+pub held-tests-parts : (j : Job) (v v′ : Lent) (text t w : List ℕ) (h : AllRead) → heldTests j v v′ text t w ≡ some h
+    → (versionLeft v ≡ some (h .old)) × (versionLeft v′ ≡ some (h .new)) × (suiteLeft (edgeCount (h .old .program)) text t w ≡ some (h .tests)) × (j ≡ jobTests (h .old) (h .new) (h .tests))
+unfolding heldTests
+held-tests-parts j v v′ text t w h e =
+    let p = after-some _ _ _ e in
+    let q = after-some _ _ _ (p .2) in
+    let r = after-some _ _ _ (q .2) in
+    let s = chosen-some _ _ _ (r .2) in (
+      p .1 ∙ ap (λ (x : AllRead). some (x .old)) (s .1),
+      q .1 ∙ ap (λ (x : AllRead). some (x .new)) (s .1),
+      subst (λ (x : AllRead). suiteLeft (edgeCount (x .old .program)) text t w ≡ some (x .tests)) (s .1) (r .1),
+      job-same j (jobTests (p .0) (q .0) (r .0)) (s .0) ∙ ap (λ (x : AllRead). jobTests (x .old) (x .new) (x .tests)) (s .1),
+    )
+
+-- Where job and tables are held at stage 3 the three texts are accepted, and give what is held.
+pub texts-accepted : (j : Job) (v v′ : Lent) (text t w : List ℕ) (h : AllRead) → heldTests j v v′ text t w ≡ some h
+    → readJob (v .text) (v′ .text) text ≡ accepted (record { old = h .old .program; new = h .new .program; suite = h .tests .suite })
+unfolding readJob readProgram readSuite
+texts-accepted j v v′ text t w h e =
+    let p = held-tests-parts j v v′ text t w h e in
+    then-passes _ (then-passes _ (version-read v (h .old) (p .0)))
+    ∙ then-passes _ (then-passes _ (version-read v′ (h .new) (p .1)))
+    ∙ then-passes _ (then-passes _ (suite-accepted (edgeCount (h .old .program)) text t w (h .tests) (p .2)))

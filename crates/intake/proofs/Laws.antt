@@ -1,23 +1,22 @@
 -- The returns of `read_job`.
 use mathlib.Core.Path.{_≡_, refl, sym, ap, _∙_, subst}
 use mathlib.Core.List.{List}
-use Prim.Native.Nat.{ℕ, _≤_, _<_}
+use Prim.Native.Nat.{ℕ, _<_}
 use native.Mathlib.Omega.{arith}
 use Rattle.rules.specs.Text.{Bytes, Answer, accepted, refused, then}
-use Rattle.rules.specs.Graph.{Program, edgeCount, nodeCount}
+use Rattle.rules.specs.Graph.{edgeCount}
 use Rattle.rules.specs.ProgramFile.{Listing, readListing, readProgram}
-use Rattle.rules.specs.SuiteFile.{Suite, TestListing, readSuite, readTests}
+use Rattle.rules.specs.SuiteFile.{readSuite, readTests}
 use Rattle.rules.specs.Job.{Given, readJob}
 use Rattle.rules.specs.Proofs.TextLaws.{then-passes}
 use Rattle.reader.specs.declared.Count.{Count}
-use Rattle.reader.specs.Result.{InTable, ReadInto, Small, Told, linksOf}
+use Rattle.reader.specs.Result.{InTable, ReadInto, Told}
 use Rattle.suite.specs.declared.Read.{Read}
 use Rattle.suite.specs.Rows.{Holds}
-use Rattle.suite.specs.Reading.{After, Reads, TestsRead, accepted-of, refused-of}
-use Rattle.versions.specs.Memory.{InMemory, memory}
+use Rattle.suite.specs.Reading.{Reads, TestsRead, accepted-of, refused-of}
 use Rattle.versions.specs.MemoryLaws.{in-memory}
 use Rattle.intake.specs.declared.Texts.{Texts}
-use Rattle.intake.specs.Ready.{Few, JobRead, JobTold, Ready, refusedTexts}
+use Rattle.intake.specs.Ready.{Few, JobRead, JobTold, refusedTexts}
 
 -- A refusal behind what passed is the refusal of all.
 then-stops : {A B : Type 0} {a : Answer A} (f : A → Answer B) {k q : ℕ} → a ≡ refused k q → then a f ≡ refused k q

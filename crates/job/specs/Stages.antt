@@ -10,7 +10,7 @@ use lib.Dec.{eqb}
 use lib.ListN.{length, getD, set}
 use lib.Seq.{sets, length-sets, set-getD}
 use borrow.Author.Tests.{le-leb, leb-true, eqb-true}
-use Rattle.laws.specs.Tests.{_and_, after, choose}
+use Rattle.laws.specs.Tests.{after, choose}
 use Rattle.laws.specs.TestLaws.{and-both, and-left, and-right}
 use Rattle.laws.specs.Slices.{sets-again, getD-sets-before, getD-sets-in}
 use Rattle.laws.specs.Tables.{rows, rows-length}
@@ -19,17 +19,18 @@ use Rattle.rules.specs.Graph.{procCount, nodeCount, edgeCount}
 use Rattle.rules.specs.ProgramFile.{Listing, readListing, readProgram}
 use Rattle.rules.specs.SuiteFile.{TestListing, readTests, readSuite, testCount}
 use Rattle.rules.specs.Job.{Given, Outcome, ofStage, read-old, read-new, read-tests, numberOf, placeOf, success, outcome, readJob, readNewAnswer, readTestsAnswer}
-use Rattle.rules.specs.Proofs.TextLaws.{same-of, then-passes}
-use Rattle.rules.specs.Proofs.ProgramLaws.{Sound, read-sound}
+use Rattle.rules.specs.Proofs.TextLaws.{same-of}
+use Rattle.rules.specs.Proofs.ProgramLaws.{Sound}
 use Rattle.graph.specs.Table.{nodeRow, procRow, edgeRow, headOf, nodesAfter, linksAfter}
 use Rattle.program.specs.Lent.{isLeft}
 use Rattle.lent_tests.specs.Lent.{testRow, coverageRow, testsAfter, rowsAfter}
 use Rattle.lent_tests.specs.Held.{after-left}
 use Rattle.records.specs.declared.Job.{Job}
 use Rattle.records.specs.declared.Node.{Node}
-use Rattle.records.specs.Jobs.{sameJob, job-same, job-self}
+use Rattle.records.specs.Jobs.{sameJob, job-self}
 use Rattle.records.specs.Nodes.{flat}
 use Rattle.held.specs.Held.{Lent, Versions, lent, longEnough, leftBy, versionLeft, testsLong, testsBy as suiteBy, suiteLeft, jobOld, jobNew, jobTests, heldOld, heldNew, heldTests}
+use Rattle.held.specs.HeldLaws.{sound-of, held-old-parts, held-new-parts}
 use Rattle.job.specs.declared.Answer.{Answer}
 use Rattle.job.specs.ReadOld.{roomy, freshDue, oldDue, programRead, oldRead, answered, recordsOf, recordsRead, linksRead, jobWithOld, oldJob, LeftBy, ReadOld}
 use Rattle.job.specs.ReadOldLaws.{records-after}
@@ -65,9 +66,6 @@ module _ (s : Listing) (t : List ℕ) (sound : Sound (s .program)) (long : 6080 
   length-e : length E ≡ 5 * edgeCount (s .program)
   length-e = rows-length 5 (edgeRow s) (λ i. refl) (edgeCount (s .program))
 
-  length-h : length H ≡ 1 * nodeCount (s .program)
-  length-h = rows-length 1 (λ n. headOf s n ∷ []) (λ i. refl) (nodeCount (s .program))
-
   procs-there : sets L 0 P ≡ L
   procs-there =
       sets-there P L 0 0 (λ k b.
@@ -94,10 +92,6 @@ links-long s t =
     length-sets b 5568 (rows (λ n. headOf s n ∷ []) (nodeCount (s .program))) ∙ length-sets a 448 (rows (edgeRow s) (edgeCount (s .program))) ∙ length-sets t 0 (rows (procRow s) (procCount (s .program)))
 
 -- ---- a version that was read
-
-sound-of : (text : Bytes) (s : Listing) → readListing text ≡ accepted s → Sound (s .program)
-unfolding readProgram
-sound-of text s e = read-sound text (s .program) (then-passes (λ (x : Listing). accepted (x .program)) e) .0
 
 module _ (text : Bytes) (s : Listing) (e : readListing text ≡ accepted s) (n : List Node) (l : List ℕ) (hn : 512 ≤ length n) (hl : 6080 ≤ length l) where
   abbrev left : Lent
@@ -126,9 +120,6 @@ module _ (text : Bytes) (s : Listing) (e : readListing text ≡ accepted s) (n :
 
 refused-accepted : {A : Type 0} (k p : ℕ) (a : A) → refused k p ≡ accepted a → ⊥
 refused-accepted k p a e = true≢false (let z : true ≡ false = cc in z)
-
-none-some : {A : Type 0} (a : A) → none ≡ some a → ⊥
-none-some a e = true≢false (let z : true ≡ false = cc in z)
 
 -- Where a call goes by an accepted text nothing was due.
 pub program-read : (due : ℕ) (text : Bytes) (s : Listing) → programRead due text ≡ accepted s → (due ≡ 0) × (readListing text ≡ accepted s)
@@ -178,27 +169,6 @@ module _ (j : Job) (text : Bytes) (n : List Node) (l w : List ℕ) (r : Answer) 
 
 -- ---- after `read_new`
 
-chosen-same : {A : Type 0} (a b : A) → choose true (some a) none ≡ some b → a ≡ b
-unfolding choose
-chosen-same a b q = cc
-
-chosen-none : {A : Type 0} (a b : A) → choose false (some a) none ≡ some b → ⊥
-unfolding choose
-chosen-none a b q = none-some b q
-
--- What is held at stage 1, taken apart.
-pub held-old-parts : (j : Job) (v : Lent) (o : Listing) → heldOld j v ≡ some o → (versionLeft v ≡ some o) × (j ≡ jobOld o)
-unfolding heldOld
-held-old-parts j v o h = go (versionLeft v) refl h
-  where
-    pick : (a : Listing) (u : Bool) → sameJob j (jobOld a) ≡ u → choose u (some a) none ≡ some o → (some a ≡ some o) × (j ≡ jobOld o)
-    pick a true e q = let z : a ≡ o = chosen-same a o q in (ap some z, job-same j (jobOld a) e ∙ ap jobOld z)
-    pick a false e q = absurd (chosen-none a o q)
-
-    go : (x : Option Listing) → versionLeft v ≡ x → after x none (λ (a : Listing). choose (sameJob j (jobOld a)) (some a) none) ≡ some o → (versionLeft v ≡ some o) × (j ≡ jobOld o)
-    go none e q = absurd (none-some o q)
-    go (some a) e q = let p = pick a (sameJob j (jobOld a)) refl q in (e ∙ p .0, p .1)
-
 job-new : (j : Job) (o p : Listing) → j ≡ jobOld o → newJob j (accepted p) ≡ jobNew o p
 unfolding newJob jobWithNew jobNew jobOld
 job-new j o p e = ap (λ (k : Job). newJob k (accepted p)) e
@@ -227,24 +197,6 @@ module _ (j : Job) (v : Lent) (text : Bytes) (n : List Node) (l w : List ℕ) (r
       ∙ held-both v _ o p (parts .0) (version-again text p (program-read _ text p e .1) n l (read-new-due .0) (read-new-due .1))
 
 -- ---- after `read_tests`
-
--- What is held at stage 2, taken apart.
-pub held-new-parts : (j : Job) (v v′ : Lent) (h : Versions) → heldNew j v v′ ≡ some h → (versionLeft v ≡ some (h .old)) × (versionLeft v′ ≡ some (h .new)) × (j ≡ jobNew (h .old) (h .new))
-unfolding heldNew
-held-new-parts j v v′ h held = go (versionLeft v) (versionLeft v′) refl refl held
-  where
-    pick : (a b : Listing) (u : Bool) → sameJob j (jobNew a b) ≡ u → choose u (some (record { old = a; new = b })) none ≡ some h → (a ≡ h .old) × (b ≡ h .new) × (j ≡ jobNew (h .old) (h .new))
-    pick a b true e q =
-        let z : record { old = a; new = b } ≡ h = chosen-same (record { old = a; new = b }) h q in
-        (ap (λ (x : Versions). x .old) z, ap (λ (x : Versions). x .new) z, job-same j (jobNew a b) e ∙ ap (λ (x : Versions). jobNew (x .old) (x .new)) z)
-    pick a b false e q = absurd (chosen-none (record { old = a; new = b }) h q)
-
-    go : (x y : Option Listing) → versionLeft v ≡ x → versionLeft v′ ≡ y
-        → after x none (λ (a : Listing). after y none (λ (b : Listing). choose (sameJob j (jobNew a b)) (some (record { old = a; new = b })) none)) ≡ some h
-        → (versionLeft v ≡ some (h .old)) × (versionLeft v′ ≡ some (h .new)) × (j ≡ jobNew (h .old) (h .new))
-    go none y e e′ q = absurd (none-some h q)
-    go (some a) none e e′ q = absurd (none-some h q)
-    go (some a) (some b) e e′ q = let p = pick a b (sameJob j (jobNew a b)) refl q in (e ∙ ap some (p .0), e′ ∙ ap some (p .1), p .2)
 
 -- Where the call goes by accepted tests nothing was due.
 pub tests-read : (due m : ℕ) (text : Bytes) (l : TestListing) → testsBy due m text ≡ accepted l → (due ≡ 0) × (readTests m text ≡ accepted l)

@@ -1,14 +1,14 @@
 -- The returns of the functions on values, and what the calls make of them.
 use mathlib.Core.Path.{_≡_, refl, sym, ap, ap₂, _∙_, subst}
-use mathlib.Core.Bool.{Bool, true, false, true≢false}
+use mathlib.Core.Bool.{Bool, true, false}
 use mathlib.Core.List.{List, [], _++_, append-nil}
 use mathlib.Core.Option.{Option, none, some}
 use Prim.Native.Nat.{ℕ, zero, suc, _+_, _*_, _≤_, _<_}
 use native.Mathlib.Omega.{arith}
 use lib.Dec.{eqb, leb, ltb}
-use lib.ListN.{length, getD, take, drop, replicate, length-replicate, length-take}
+use lib.ListN.{length, getD, take, drop, replicate, length-replicate}
 use lib.Seq.{sets, length-sets, length-take-le}
-use borrow.Author.Tests.{eq-eqb, ne-eqb, eqb-true, le-leb, lt-leb, leb-true, le-ltb, lt-ltb, ltb-true}
+use borrow.Author.Tests.{eq-eqb, ne-eqb, le-leb, lt-leb, le-ltb, lt-ltb, ltb-true}
 use Rattle.laws.specs.Tests.{after, choose}
 use Rattle.laws.specs.Slices.{below-or, same-or, sets-front, part-sets, part-sets-before, drop-end}
 use Rattle.rules.specs.Text.{Bytes, Answer as Reading, refused, accepted}
@@ -18,7 +18,6 @@ use Rattle.rules.specs.SuiteFile.{TestListing, testCount}
 use Rattle.rules.specs.Job.{Call, Given, Outcome, Version, bySide, check-sheet, isNodeOfVersion, judged, labelAnswer, labelPart, labelShown, numberOf, ofStage, outcome, outputAfter, placeOf, recordBytes, refusal, sheetBytes, show-label, stageAfter, success, write-record, write-sheet, writing}
 use Rattle.rules.specs.Proofs.ProgramLaws.{Sound}
 use Rattle.reader.specs.declared.Count.{Count}
-use Rattle.reader.specs.Result.{Small}
 use Rattle.suite.specs.declared.Read.{Read}
 use Rattle.versions.specs.Memory.{InMemory, memory}
 use Rattle.intake.specs.declared.Texts.{Texts}
@@ -35,11 +34,12 @@ use Rattle.records.specs.Jobs.{sameJob}
 use Rattle.records.specs.Nodes.{flat}
 use Rattle.records.specs.NodeLaws.{flat-length}
 use Rattle.held.specs.Held.{AllRead, Lent, countLeft, heldTests, jobTests, lent, numbers, readLeft, suiteLeft, versionLeft}
-use Rattle.held.specs.HeldLaws.{count-small, front-left, suite-accepted, suite-few, suite-holds, version-memory, version-sound}
+use Rattle.held.specs.HeldLaws.{count-small, front-left, held-tests-parts, suite-accepted, suite-few, suite-holds, version-memory, version-sound}
 use Rattle.records.specs.Shown.{partShown}
 use Rattle.job.specs.declared.Answer.{Answer}
 use Rattle.job_calls.specs.declared.Label.{Label}
 use Rattle.job_calls.specs.Calls.{Called, CalledOn, Labelled, LentJob, Shown, Wrote, WroteOn, checkCall, countsBy, dueTexts, givenBy, goesBy, jobBy, labelBySide, labelCall, labelOfNode, labelPartCall, lentJob, loadedJob, recordCall, noLabel, sheetCall, shownBy, textsDue, unloaded, versionOf}
+use Rattle.job_calls.specs.DueLaws.{due-cases, holding}
 
 -- ---- `suite_due`
 
@@ -152,59 +152,11 @@ pub ruleset dues = (suite-stop, suite-goes, suite-other, due-stage, due-short, d
 
 -- ---- what is held
 
-module _ (j : Job) (v v′ : Lent) (text t w : List ℕ) where
-  -- The tables of each.
-  abbrev Parts : AllRead → Type 0
-  Parts h = (versionLeft v ≡ some (h .old)) × (versionLeft v′ ≡ some (h .new)) × (suiteLeft (edgeCount (h .old .program)) text t w ≡ some (h .tests))
-
-  parts-of : (o p : Listing) (l : TestListing) (h : AllRead) → versionLeft v ≡ some o → versionLeft v′ ≡ some p → suiteLeft (edgeCount (o .program)) text t w ≡ some l
-      → (u : Bool) → choose u (some (record { old = o; new = p; tests = l })) none ≡ some h → Parts h
-  unfolding choose
-  parts-of o p l h eo ep el true e = let q : record { old = o; new = p; tests = l } ≡ h = cc in subst Parts q (eo, ep, el)
-  parts-of o p l h eo ep el false e = absurd (true≢false (let z : true ≡ false = cc in z))
-
-  by-suite : (o p : Listing) (h : AllRead) → versionLeft v ≡ some o → versionLeft v′ ≡ some p → (x : Option TestListing) → suiteLeft (edgeCount (o .program)) text t w ≡ x
-      → after x none (λ l. choose (sameJob j (jobTests o p l)) (some (record { old = o; new = p; tests = l })) none) ≡ some h → Parts h
-  by-suite o p h eo ep none el e = absurd (true≢false (let z : true ≡ false = cc in z))
-  by-suite o p h eo ep (some l) el e = parts-of o p l h eo ep el (sameJob j (jobTests o p l)) e
-
-  by-new : (o : Listing) (h : AllRead) → versionLeft v ≡ some o → (x : Option Listing) → versionLeft v′ ≡ x
-      → after x none (λ p. after (suiteLeft (edgeCount (o .program)) text t w) none (λ l. choose (sameJob j (jobTests o p l)) (some (record { old = o; new = p; tests = l })) none)) ≡ some h → Parts h
-  by-new o h eo none ep e = absurd (true≢false (let z : true ≡ false = cc in z))
-  by-new o h eo (some p) ep e = by-suite o p h eo ep (suiteLeft (edgeCount (o .program)) text t w) refl e
-
-  by-old : (h : AllRead) (x : Option Listing) → versionLeft v ≡ x
-      → after x none (λ o. after (versionLeft v′) none (λ p. after (suiteLeft (edgeCount (o .program)) text t w) none (λ l. choose (sameJob j (jobTests o p l)) (some (record { old = o; new = p; tests = l })) none))) ≡ some h → Parts h
-  by-old h none eo e = absurd (true≢false (let z : true ≡ false = cc in z))
-  by-old h (some o) eo e = by-new o h eo (versionLeft v′) refl e
-
-  held-parts : (h : AllRead) → heldTests j v v′ text t w ≡ some h → Parts h
-  unfolding heldTests
-  held-parts h e = by-old h (versionLeft v) refl e
-
--- 13 or 14 is due, or job and tables hold what was read.
-module _ {X : Type 0} (asked : ℕ) (k : LentJob) (no : (q : ℕ) → 0 < q → goesBy write-sheet asked k ≡ refused q 0 → X)
-    (yes : (h : AllRead) → goesBy write-sheet asked k ≡ accepted h → asked ≤ k .scratch → Parts (k .job) (k .old) (k .new) (k .text) (k .tests) (k .rows) h → X) where
-  case-held : eqb (k .job .stage) 3 ≡ true → leb asked (k .scratch) ≡ true → (x : Option AllRead) → heldTests (k .job) (k .old) (k .new) (k .text) (k .tests) (k .rows) ≡ x → X
-  unfolding goesBy ofStage choose
-  case-held a b none e = no 14 (omega arith) (simp (a, b, e))
-  case-held a b (some h) e = yes h (simp (a, b, e)) (leb-true _ _ b) (held-parts (k .job) (k .old) (k .new) (k .text) (k .tests) (k .rows) h e)
-
-  case-room : eqb (k .job .stage) 3 ≡ true → (u : Bool) → leb asked (k .scratch) ≡ u → X
-  unfolding goesBy ofStage choose
-  case-room a true b = case-held a b _ refl
-  case-room a false b = no 14 (omega arith) (simp (a, b))
-
-  case-stage : (u : Bool) → eqb (k .job .stage) 3 ≡ u → X
-  unfolding goesBy ofStage choose
-  case-stage true a = case-room a _ refl
-  case-stage false a = no 13 (omega arith) (simp a)
-
-  pub due-cases : X
-  due-cases = case-stage _ refl
-
 -- The memories of what is held are ready, and its counts are within their limits.
-module _ (k : LentJob) (h : AllRead) (parts : Parts (k .job) (k .old) (k .new) (k .text) (k .tests) (k .rows) h) where
+module _ (k : LentJob) (h : AllRead) (held : holding k ≡ some h) where
+  parts : (versionLeft (k .old) ≡ some (h .old)) × (versionLeft (k .new) ≡ some (h .new)) × (suiteLeft (edgeCount (h .old .program)) (k .text) (k .tests) (k .rows) ≡ some (h .tests))
+  parts = let p = held-tests-parts (k .job) (k .old) (k .new) (k .text) (k .tests) (k .rows) h held in (p .0, p .1, p .2)
+
   old-few : Sound (h .old .program)
   old-few = version-sound (k .old) (h .old) (parts .0)
 
@@ -256,13 +208,13 @@ accepted-number h = refl
 module _ (asked : ℕ) (k : LentJob) (had : Texts) (eh : had ≡ dueTexts (goesBy write-sheet asked k)) where
   pub due-few : Few had
   due-few =
-      due-cases asked k (λ q b e. subst Few (sym (eh ∙ ap dueTexts e ∙ refused-texts q 0)) (none-few q)) (λ h e room parts. subst Few (sym (eh ∙ ap dueTexts e)) (held-few k h parts))
+      due-cases asked k (λ q b c e. subst Few (sym (eh ∙ ap dueTexts e ∙ refused-texts q 0)) (none-few q)) (λ h e room held. subst Few (sym (eh ∙ ap dueTexts e)) (held-few k h held))
 
   due-room : had .number ≡ 0 → asked ≤ k .scratch
   due-room z =
       due-cases asked k
-      (λ q c e. absurd (let v : ⊥ = omega (arith, z, c, ap (λ (t : Texts). t .number) (eh ∙ ap dueTexts e ∙ refused-texts q 0)) in v))
-      (λ h e room parts. room)
+      (λ q c d e. absurd (let v : ⊥ = omega (arith, z, c, ap (λ (t : Texts). t .number) (eh ∙ ap dueTexts e ∙ refused-texts q 0)) in v))
+      (λ h e room held. room)
 
   pub due-asks : had .number ≡ 0 → (had .«old_nodes» ≤ 512) × (had .«new_nodes» ≤ 512) × (had .«old_edges» ≤ 1024) × (had .tests ≤ 200) × (asked ≤ k .scratch)
   due-asks z = (due-few .few-old-nodes, due-few .few-new-nodes, due-few .few-old-edges, due-few .few-tests, due-room z)
@@ -272,8 +224,8 @@ module _ (asked : ℕ) (k : LentJob) (had : Texts) (eh : had ≡ dueTexts (goesB
   unfolding outcome
   due-stops f z =
       due-cases asked k
-      (λ q b e. ap (λ (x : Reading AllRead). outcome x f) e ∙ sym (ap (λ (t : Texts). refusal (t .number) (t .place)) (eh ∙ ap dueTexts e ∙ refused-texts q 0)))
-      (λ h e room parts. absurd (z (ap (λ (t : Texts). t .number) (eh ∙ ap dueTexts e) ∙ accepted-number h)))
+      (λ q b c e. ap (λ (x : Reading AllRead). outcome x f) e ∙ sym (ap (λ (t : Texts). refusal (t .number) (t .place)) (eh ∙ ap dueTexts e ∙ refused-texts q 0)))
+      (λ h e room held. absurd (z (ap (λ (t : Texts). t .number) (eh ∙ ap dueTexts e) ∙ accepted-number h)))
 
   -- Else what follows is the answer.
   due-goes : (f : AllRead → Outcome) (P : Outcome → Type 0) → had .number ≡ 0 → 2048 ≤ length (k .old .nodes) → 2048 ≤ length (k .new .nodes)
@@ -282,10 +234,14 @@ module _ (asked : ℕ) (k : LentJob) (had : Texts) (eh : had ≡ dueTexts (goesB
   unfolding outcome
   due-goes f P z a b go =
       due-cases asked k
-      (λ q c e. absurd (let v : ⊥ = omega (arith, z, c, ap (λ (t : Texts). t .number) (eh ∙ ap dueTexts e ∙ refused-texts q 0)) in v))
-      (λ h e room parts.
-      let r = subst (λ (t : Texts). Ready (memory (k .old .text) (k .old .nodes) (k .old .links)) (memory (k .new .text) (k .new .nodes) (k .new .links)) (k .text) (k .tests) (k .rows) t (givenBy h)) (sym (eh ∙ ap dueTexts e)) (held-ready k h parts a b) in
+      (λ q c d e. absurd (let v : ⊥ = omega (arith, z, c, ap (λ (t : Texts). t .number) (eh ∙ ap dueTexts e ∙ refused-texts q 0)) in v))
+      (λ h e room held.
+      let r = subst (λ (t : Texts). Ready (memory (k .old .text) (k .old .nodes) (k .old .links)) (memory (k .new .text) (k .new .nodes) (k .new .links)) (k .text) (k .tests) (k .rows) t (givenBy h)) (sym (eh ∙ ap dueTexts e)) (held-ready k h held a b) in
       subst P (sym (ap (λ (x : Reading AllRead). outcome x f) e)) (go h room r))
+
+-- A slice of the same length is as wide.
+pub wide : (asked n m : ℕ) → asked ≤ n → m ≡ n → asked ≤ m
+wide asked n m h e = omega arith
 
 -- ---- the numbers of the nodes, out of the scratch
 
@@ -312,22 +268,22 @@ module _ (j : Job) (olds : ℕ) (ot on ol : List ℕ) (news : ℕ) (nt nn nl tt 
 
   -- ---- `sheet_in`
 
-  module _ (had : Texts) (eh : had ≡ dueTexts (goesBy write-sheet 12800 the-job)) where
-    told-stop : (f : AllRead → Outcome) (out : Bytes) → (had .number ≡ 0 → ⊥) → Told (outcome (goesBy write-sheet 12800 the-job) f) (record { number = had .number; place = had .place }) out out
+  module _ (had : Texts) (eh : had ≡ dueTexts (goesBy write-sheet 16896 the-job)) where
+    told-stop : (f : AllRead → Outcome) (out : Bytes) → (had .number ≡ 0 → ⊥) → Told (outcome (goesBy write-sheet 16896 the-job) f) (record { number = had .number; place = had .place }) out out
     unfolding outputAfter
     told-stop f out z =
-        subst (λ (x : Outcome). Told x (record { number = had .number; place = had .place }) out out) (sym (due-stops 12800 the-job had eh f z)) (record { numbered = refl; placed = refl; output = refl })
+        subst (λ (x : Outcome). Told x (record { number = had .number; place = had .place }) out out) (sym (due-stops 16896 the-job had eh f z)) (record { numbered = refl; placed = refl; output = refl })
 
     pub sheet-stop : (out : Bytes) → (had .number ≡ 0 → ⊥) → Told (sheetCall (loadedJob j olds ot ol news nt nl tt tests rows w) (length out)) (record { number = had .number; place = had .place }) out out
     unfolding sheetCall
     sheet-stop out z = subst (λ (k : LentJob). Told (sheetCall k (length out)) (record { number = had .number; place = had .place }) out out) is-loaded (told-stop _ out z)
 
-    pub sheet-goes : (w′ out out′ : List ℕ) (r : Written) → had .number ≡ 0 → Done w w′ out out′ (SheetDone (memory ot on ol) (memory nt nn nl) tt tests rows had w out r out′)
+    pub sheet-goes : (w₁ w′ out out′ : List ℕ) (r : Written) → had .number ≡ 0 → length w₁ ≡ length w → Done w₁ w′ out out′ (SheetDone (memory ot on ol) (memory nt nn nl) tt tests rows had w₁ out r out′)
         → Told (sheetCall (loadedJob j olds ot ol news nt nl tt tests rows w) (length out)) r out out′
     unfolding sheetCall SheetDone
-    sheet-goes w′ out out′ r z d =
+    sheet-goes w₁ w′ out out′ r z q d =
         subst (λ (k : LentJob). Told (sheetCall k (length out)) r out out′) is-loaded
-        (due-goes 12800 the-job had eh _ (λ x. Told x r out out′) z wide-old wide-new (λ h room y. d .claim (givenBy h) y room))
+        (due-goes 16896 the-job had eh _ (λ x. Told x r out out′) z wide-old wide-new (λ h room y. d .claim (givenBy h) y (omega arith)))
 
     -- ---- `record_in`
 
@@ -335,12 +291,12 @@ module _ (j : Job) (olds : ℕ) (ot on ol : List ℕ) (news : ℕ) (nt nn nl tt 
     unfolding recordCall goesBy ofStage
     record-stop i out z = subst (λ (k : LentJob). Told (recordCall k i (length out)) (record { number = had .number; place = had .place }) out out) is-loaded (told-stop _ out z)
 
-    pub record-goes : (i : ℕ) (w′ out out′ : List ℕ) (r : Written) → had .number ≡ 0 → Done w w′ out out′ (RecordDone (memory ot on ol) (memory nt nn nl) tt tests rows had i w out r out′)
+    pub record-goes : (i : ℕ) (w₁ w′ out out′ : List ℕ) (r : Written) → had .number ≡ 0 → length w₁ ≡ length w → Done w₁ w′ out out′ (RecordDone (memory ot on ol) (memory nt nn nl) tt tests rows had i w₁ out r out′)
         → Told (recordCall (loadedJob j olds ot ol news nt nl tt tests rows w) i (length out)) r out out′
     unfolding recordCall RecordDone goesBy ofStage
-    record-goes i w′ out out′ r z d =
+    record-goes i w₁ w′ out out′ r z q d =
         subst (λ (k : LentJob). Told (recordCall k i (length out)) r out out′) is-loaded
-        (due-goes 12800 the-job had eh _ (λ x. Told x r out out′) z wide-old wide-new (λ h room y. d .claim (givenBy h) y room))
+        (due-goes 16896 the-job had eh _ (λ x. Told x r out out′) z wide-old wide-new (λ h room y. d .claim (givenBy h) y (omega arith)))
 
     -- ---- `check_in`
 
@@ -348,7 +304,7 @@ module _ (j : Job) (olds : ℕ) (ot on ol : List ℕ) (news : ℕ) (nt nn nl tt 
     unfolding checkCall goesBy ofStage
     check-stop sheet z =
         subst (λ (k : LentJob). Answered (checkCall k sheet) (record { number = had .number; place = had .place })) is-loaded
-        (subst (λ (x : Outcome). Answered x (record { number = had .number; place = had .place })) (sym (due-stops 12800 the-job had eh _ z)) (record { number-is = refl; place-is = refl }))
+        (subst (λ (x : Outcome). Answered x (record { number = had .number; place = had .place })) (sym (due-stops 16896 the-job had eh _ z)) (record { number-is = refl; place-is = refl }))
 
     pub check-goes : (sheet : Bytes) (r : Checked) → had .number ≡ 0
         → Checks (memory ot on ol) (memory nt nn nl) (had .«old_nodes») (had .«new_nodes») (had .«old_edges») tt tests rows (had .tests) sheet r
@@ -356,7 +312,7 @@ module _ (j : Job) (olds : ℕ) (ot on ol : List ℕ) (news : ℕ) (nt nn nl tt 
     unfolding checkCall Checks goesBy ofStage
     check-goes sheet r z d =
         subst (λ (k : LentJob). Answered (checkCall k sheet) r) is-loaded
-        (due-goes 12800 the-job had eh _ (λ x. Answered x r) z wide-old wide-new
+        (due-goes 16896 the-job had eh _ (λ x. Answered x r) z wide-old wide-new
         (λ h room y. subst (λ (g : Given). Answered (outcome (readSheet (g .old) (g .new) (g .suite) sheet) (judged g)) r) (sym (y .given-is))
         (d (y .o) (y .p) (y .l) (y .old-in) (y .new-in) (y .tests-read) (y .tests-in) (y .old-nodes-n) (y .new-nodes-n) (y .old-edges-n))))
 
@@ -431,7 +387,7 @@ module _ (t nodes links t′ nodes′ links′ : List ℕ) (s s′ : Listing) (h
       (simp (a, b), simp (a, b), simp (a, b))
 
 module _ (j : Job) (olds : ℕ) (ot on ol : List ℕ) (news : ℕ) (nt nn nl tt tests rows w : List ℕ) (eo : on ≡ unloaded 0 w) (en : nn ≡ unloaded 2048 w) (had : Texts)
-    (eh : had ≡ dueTexts (goesBy write-sheet 4096 (the-job j olds ot on ol news nt nn nl tt tests rows w eo en))) (side n : ℕ) where
+    (eh : had ≡ dueTexts (goesBy write-sheet 8128 (the-job j olds ot on ol news nt nn nl tt tests rows w eo en))) (side n : ℕ) where
   abbrev label-job : LentJob
   label-job = the-job j olds ot on ol news nt nn nl tt tests rows w eo en
 
@@ -439,7 +395,7 @@ module _ (j : Job) (olds : ℕ) (ot on ol : List ℕ) (news : ℕ) (nt nn nl tt 
   unfolding partShown choose
   part-none = same-or side 0 (λ e. simp (eq-eqb _ _ e)) (λ z. same-or side 1 (λ e. simp (ne-eqb _ _ z, eq-eqb _ _ e)) (λ e. simp (ne-eqb _ _ z, ne-eqb _ _ e)))
 
-  label-refused : (q : ℕ) → goesBy write-sheet 4096 label-job ≡ refused q 0 → Labelled label-job side n (record { number = q; place = 0; start = 0; len = 0 })
+  label-refused : (q : ℕ) → goesBy write-sheet 8128 label-job ≡ refused q 0 → Labelled label-job side n (record { number = q; place = 0; start = 0; len = 0 })
   unfolding labelCall labelPartCall goesBy ofStage outcome shownBy
   label-refused q e =
       record {
@@ -451,16 +407,17 @@ module _ (j : Job) (olds : ℕ) (ot on ol : List ℕ) (news : ℕ) (nt nn nl tt 
   pub label-stop : (had .number ≡ 0 → ⊥) → Labelled (loadedJob j olds ot ol news nt nl tt tests rows w) side n (record { number = had .number; place = had .place; start = 0; len = 0 })
   label-stop z =
       subst (λ (k : LentJob). Labelled k side n (record { number = had .number; place = had .place; start = 0; len = 0 })) (is-loaded j olds ot on ol news nt nn nl tt tests rows w eo en)
-      (due-cases 4096 label-job
-      (λ q b e. subst (λ (t : Texts). Labelled label-job side n (record { number = t .number; place = t .place; start = 0; len = 0 })) (sym (eh ∙ ap dueTexts e ∙ refused-texts q 0)) (label-refused q e))
-      (λ h e room parts. absurd (z (ap (λ (t : Texts). t .number) (eh ∙ ap dueTexts e) ∙ accepted-number h))))
+      (due-cases 8128 label-job
+      (λ q b c e. subst (λ (t : Texts). Labelled label-job side n (record { number = t .number; place = t .place; start = 0; len = 0 })) (sym (eh ∙ ap dueTexts e ∙ refused-texts q 0)) (label-refused q e))
+      (λ h e room held. absurd (z (ap (λ (t : Texts). t .number) (eh ∙ ap dueTexts e) ∙ accepted-number h))))
 
-  label-accepted : (h : AllRead) → goesBy write-sheet 4096 label-job ≡ accepted h → Parts j (label-job .old) (label-job .new) tt tests rows h
+  label-accepted : (h : AllRead) → goesBy write-sheet 8128 label-job ≡ accepted h → holding label-job ≡ some h
       → Labelled label-job side n (labelBySide side (nodeCount (h .old .program)) on (nodeCount (h .new .program)) nn n)
   unfolding labelCall labelPartCall goesBy ofStage outcome shownBy
-  label-accepted h e parts =
-      let y = shown-side ot on ol nt nn nl (h .old) (h .new) (version-memory (label-job .old) (h .old) (parts .0) (wide-old j olds ot on ol news nt nn nl tt tests rows w eo en))
-      (version-memory (label-job .new) (h .new) (parts .1) (wide-new j olds ot on ol news nt nn nl tt tests rows w eo en)) n side in
+  label-accepted h e held =
+      let p = parts label-job h held in
+      let y = shown-side ot on ol nt nn nl (h .old) (h .new) (version-memory (label-job .old) (h .old) (p .0) (wide-old j olds ot on ol news nt nn nl tt tests rows w eo en))
+      (version-memory (label-job .new) (h .new) (p .1) (wide-new j olds ot on ol news nt nn nl tt tests rows w eo en)) n side in
       record {
         number-is = y .0 ∙ sym (ap (λ (x : Reading AllRead). numberOf (outcome x (λ g. labelAnswer (versionOf (label-job .old) (g .old)) (versionOf (label-job .new) (g .new)) side n))) e);
         place-is = y .1 ∙ sym (ap (λ (x : Reading AllRead). placeOf (outcome x (λ g. labelAnswer (versionOf (label-job .old) (g .old)) (versionOf (label-job .new) (g .new)) side n))) e);
@@ -474,76 +431,69 @@ module _ (j : Job) (olds : ℕ) (ot on ol : List ℕ) (news : ℕ) (nt nn nl tt 
   pub label-goes : (r : Label) → had .number ≡ 0 → r ≡ labelBySide side (had .«old_nodes») on (had .«new_nodes») nn n → Labelled (loadedJob j olds ot ol news nt nl tt tests rows w) side n r
   label-goes r z er =
       subst (λ (k : LentJob). Labelled k side n r) (is-loaded j olds ot on ol news nt nn nl tt tests rows w eo en)
-      (due-cases 4096 label-job
-      (λ q c e. absurd (let v : ⊥ = omega (arith, z, c, ap (λ (t : Texts). t .number) (eh ∙ ap dueTexts e ∙ refused-texts q 0)) in v))
-      (λ h e room parts.
+      (due-cases 8128 label-job
+      (λ q c d e. absurd (let v : ⊥ = omega (arith, z, c, ap (λ (t : Texts). t .number) (eh ∙ ap dueTexts e ∙ refused-texts q 0)) in v))
+      (λ h e room held.
       let a : had .«old_nodes» ≡ nodeCount (h .old .program) = ap (λ (t : Texts). t .«old_nodes») (eh ∙ ap dueTexts e) ∙ counts-of h .0 in
       let b : had .«new_nodes» ≡ nodeCount (h .new .program) = ap (λ (t : Texts). t .«new_nodes») (eh ∙ ap dueTexts e) ∙ counts-of h .1 in
-      subst (λ (x : Label). Labelled label-job side n x) (sym (er ∙ ap₂ (λ (x y : ℕ). labelBySide side x on y nn n) a b)) (label-accepted h e parts)))
+      subst (λ (x : Label). Labelled label-job side n x) (sym (er ∙ ap₂ (λ (x y : ℕ). labelBySide side x on y nn n) a b)) (label-accepted h e held)))
 
 -- ---- `label_on`, `shown_on`
 
-pub on-labelled : (k : LentJob) (side n : ℕ) (a : Label) (w w₂ : List ℕ) → Labelled k side n a → w₂ ≡ replicate (length w) 0 → CalledOn (labelCall k side n) (record { number = a .number; place = a .place }) w w₂
-on-labelled k side n a w w₂ t q = record { number-is = t .number-is; place-is = t .place-is; scratch-is = q }
+pub on-zero : (n m : ℕ) (w₂ : List ℕ) → m ≡ n → w₂ ≡ replicate m 0 → w₂ ≡ replicate n 0
+on-zero n m w₂ e q = q ∙ ap (λ (k : ℕ). replicate k 0) e
+
+pub on-labelled : (k : LentJob) (side n : ℕ) (a : Label) (w w₁ w₂ : List ℕ) → Labelled k side n a → length w₁ ≡ length w → w₂ ≡ replicate (length w₁) 0
+    → CalledOn (labelCall k side n) (record { number = a .number; place = a .place }) w w₂
+on-labelled k side n a w w₁ w₂ t e q = record { number-is = t .number-is; place-is = t .place-is; scratch-is = on-zero (length w) (length w₁) w₂ e q }
 
 pub on-shown : (k : LentJob) (side n : ℕ) (a : Label) (r : List ℕ) → Labelled k side n a → r ≡ partShown (k .old .text) (k .new .text) side (a .start) (a .len) → r ≡ labelPartCall k side n
 on-shown k side n a r t e = e ∙ t .part-is
 
-pub ruleset labels = (label-none, label-found, side-old, side-new, side-none, label-stop, label-goes, on-labelled, on-shown)
+pub ruleset labels = (label-none, label-found, side-old, side-new, side-none, label-stop, label-goes, on-zero, on-labelled, on-shown)
 
 -- ---- `sheet_on`, `record_on`, `check_on`
 
 pub on-called : (x : Outcome) (a : Checked) (w w₁ w₂ : List ℕ) → Answered x a → length w₁ ≡ length w → w₂ ≡ replicate (length w₁) 0 → CalledOn x (record { number = a .number; place = a .place }) w w₂
-on-called x a w w₁ w₂ t e q = record { number-is = t .number-is; place-is = t .place-is; scratch-is = q ∙ ap (λ (n : ℕ). replicate n 0) e }
+on-called x a w w₁ w₂ t e q = record { number-is = t .number-is; place-is = t .place-is; scratch-is = on-zero (length w) (length w₁) w₂ e q }
 
 pub on-wrote : (x : Outcome) (a : Written) (w w₁ w₂ out out′ : List ℕ) → Told x a out out′ → length w₁ ≡ length w → w₂ ≡ replicate (length w₁) 0 → WroteOn x (record { number = a .number; place = a .place }) w w₂ out out′
 on-wrote x a w w₁ w₂ out out′ t e q =
-    record { called = record { number-is = t .numbered; place-is = t .placed; scratch-is = q ∙ ap (λ (n : ℕ). replicate n 0) e }; output-is = t .output }
+    record { called = record { number-is = t .numbered; place-is = t .placed; scratch-is = on-zero (length w) (length w₁) w₂ e q }; output-is = t .output }
 
 -- ---- the calls: what is lent is what the scratch was loaded with
+
+-- Numbers that fill their table are the table.
+fill : (l : List ℕ) → length l ≡ 2048 → sets (replicate 2048 0) 0 l ≡ l
+fill l e =
+    sets-front (replicate 2048 0) l (omega (arith, length-replicate {A = ℕ} 2048 0))
+    ∙ ap (λ (x : List ℕ). l ++ x) (drop-end (replicate 2048 0) (length l) (omega (arith, length-replicate {A = ℕ} 2048 0)))
+    ∙ append-nil l
+
+-- Numbers that were stored at the place k are those unloaded from there.
+unloads-stored : (l w : List ℕ) (k : ℕ) → length l ≡ 2048 → k + 2048 ≤ length w → unloaded k (sets w k l) ≡ l
+unfolding unloaded
+unloads-stored l w k e h =
+    let t : take 2048 (drop k (sets w k l)) ≡ l = ap (λ (n : ℕ). take n (drop k (sets w k l))) (sym e) ∙ part-sets l w k (omega (arith, e, h)) in
+    ap (λ (x : List ℕ). sets (replicate 2048 0) 0 x) t ∙ fill l e
 
 module _ (on nn : List Node) (w w₁ : List ℕ) (loaded : w₁ ≡ sets (sets w 0 (flat (take 512 on))) 2048 (flat (take 512 nn))) (long : 4096 ≤ length w) where
   flat-front : (n : List Node) → 512 ≤ length n → length (flat (take 512 n)) ≡ 2048
   flat-front n h = omega (arith, flat-length (take 512 n), length-take-le 512 n h)
 
-  flat-short : (n : List Node) → length (flat (take 512 n)) ≤ 2048
-  flat-short n = omega (arith, flat-length (take 512 n), length-take 512 n)
-
   abbrev w₀ : List ℕ
   w₀ = sets w 0 (flat (take 512 on))
-
-  same-w : length w₁ ≡ length w
-  same-w = ap length loaded ∙ length-sets w₀ 2048 (flat (take 512 nn)) ∙ length-sets w 0 (flat (take 512 on))
-
-  -- Numbers that fill their table are the table.
-  fill : (l : List ℕ) → length l ≡ 2048 → sets (replicate 2048 0) 0 l ≡ l
-  fill l e =
-      sets-front (replicate 2048 0) l (omega (arith, length-replicate {A = ℕ} 2048 0))
-      ∙ ap (λ (x : List ℕ). l ++ x) (drop-end (replicate 2048 0) (length l) (omega (arith, length-replicate {A = ℕ} 2048 0)))
-      ∙ append-nil l
 
   old-unloaded : 512 ≤ length on → unloaded 0 w₁ ≡ flat (take 512 on)
   unfolding unloaded
   old-unloaded h =
-      let f : List ℕ = flat (take 512 on) in
-      let e : length f ≡ 2048 = flat-front on h in
-      let t : take 2048 (drop 0 w₁) ≡ f
-      = ap (λ (x : List ℕ). take 2048 (drop 0 x)) loaded
-      ∙ part-sets-before (flat (take 512 nn)) w₀ 2048 0 2048 (omega arith)
-      ∙ ap (λ (k : ℕ). take k (drop 0 w₀)) (sym e)
-      ∙ part-sets f w 0 (omega arith) in
-      ap (λ (x : List ℕ). sets (replicate 2048 0) 0 x) t ∙ fill f e
+      ap (unloaded 0) loaded
+      ∙ ap (λ (x : List ℕ). sets (replicate 2048 0) 0 x) (part-sets-before (flat (take 512 nn)) w₀ 2048 0 2048 (omega arith))
+      ∙ unloads-stored (flat (take 512 on)) w 0 (flat-front on h) (omega arith)
 
   new-unloaded : 512 ≤ length nn → unloaded 2048 w₁ ≡ flat (take 512 nn)
-  unfolding unloaded
   new-unloaded h =
-      let f : List ℕ = flat (take 512 nn) in
-      let e : length f ≡ 2048 = flat-front nn h in
-      let t : take 2048 (drop 2048 w₁) ≡ f
-      = ap (λ (x : List ℕ). take 2048 (drop 2048 x)) loaded
-      ∙ ap (λ (k : ℕ). take k (drop 2048 (sets w₀ 2048 f))) (sym e)
-      ∙ part-sets f w₀ 2048 (omega (arith, length-sets w 0 (flat (take 512 on)))) in
-      ap (λ (x : List ℕ). sets (replicate 2048 0) 0 x) t ∙ fill f e
+      ap (unloaded 2048) loaded ∙ unloads-stored (flat (take 512 nn)) w₀ 2048 (flat-front nn h) (omega (arith, length-sets w 0 (flat (take 512 on))))
 
   old-held : (t : Bytes) (l : List ℕ) → versionLeft (numbers (length on) t (unloaded 0 w₁) l) ≡ versionLeft (lent t on l)
   old-held t l = front-left t on l (unloaded 0 w₁) old-unloaded
@@ -576,7 +526,7 @@ module _ (j : Job) (ot : Bytes) (on : List Node) (ol nt : List ℕ) (nn : List N
 
   sheet-same : (room : ℕ) → sheetCall job-loaded room ≡ sheetCall job-lent room
   unfolding sheetCall
-  sheet-same room = ap (λ (x : Reading AllRead). outcome x (λ h. writing (givenBy h) room (sheetBytes (givenBy h)))) (goes-same write-sheet 12800 (omega arith))
+  sheet-same room = ap (λ (x : Reading AllRead). outcome x (λ h. writing (givenBy h) room (sheetBytes (givenBy h)))) (goes-same write-sheet 16896 (omega arith))
 
   wrote-is : (x y : Outcome) (r : Answer) (w₂ out out′ : List ℕ) → x ≡ y → WroteOn x r w₁ w₂ out out′ → Wrote y r j j w w₂ out out′
   wrote-is x y r w₂ out out′ e h =
@@ -593,7 +543,7 @@ module _ (j : Job) (ot : Bytes) (on : List Node) (ol nt : List ℕ) (nn : List N
   record-same : (i room : ℕ) → recordCall job-loaded i room ≡ recordCall job-lent i room
   unfolding recordCall
   record-same i room =
-      ap (λ (x : Reading AllRead). outcome x (λ h. choose (ltb i (testCount (givenBy h .suite))) (writing (givenBy h) room (recordBytes (givenBy h) i)) (refusal 6 0))) (goes-same write-record 12800 (omega arith))
+      ap (λ (x : Reading AllRead). outcome x (λ h. choose (ltb i (testCount (givenBy h .suite))) (writing (givenBy h) room (recordBytes (givenBy h) i)) (refusal 6 0))) (goes-same write-record 16896 (omega arith))
 
   -- `write_record`
   pub record-is : (i : ℕ) (r : Answer) (w₂ out out′ : List ℕ) → WroteOn (recordCall job-loaded i (length out)) r w₁ w₂ out out′ → Wrote (recordCall job-lent i (length out)) r j j w w₂ out out′
@@ -607,7 +557,7 @@ module _ (j : Job) (ot : Bytes) (on : List Node) (ol nt : List ℕ) (nn : List N
   check-same : (sheet : Bytes) → checkCall job-loaded sheet ≡ checkCall job-lent sheet
   unfolding checkCall
   check-same sheet =
-      ap (λ (x : Reading AllRead). outcome x (λ h. outcome (readSheet (h .old .program) (h .new .program) (h .tests .suite) sheet) (judged (givenBy h)))) (goes-same check-sheet 12800 (omega arith))
+      ap (λ (x : Reading AllRead). outcome x (λ h. outcome (readSheet (h .old .program) (h .new .program) (h .tests .suite) sheet) (judged (givenBy h)))) (goes-same check-sheet 16896 (omega arith))
 
   -- `check_sheet`
   pub check-is : (sheet : Bytes) (r : Answer) (w₂ : List ℕ) → CalledOn (checkCall job-loaded sheet) r w₁ w₂ → Called (checkCall job-lent sheet) r j j w w₂
@@ -616,7 +566,7 @@ module _ (j : Job) (ot : Bytes) (on : List Node) (ol nt : List ℕ) (nn : List N
   label-same : (side n : ℕ) → labelCall job-loaded side n ≡ labelCall job-lent side n
   unfolding labelCall
   label-same side n =
-      ap (λ (x : Reading AllRead). outcome x (λ h. labelAnswer (versionOf (lent ot on ol) (h .old)) (versionOf (lent nt nn nl) (h .new)) side n)) (goes-same show-label 4096 (omega arith))
+      ap (λ (x : Reading AllRead). outcome x (λ h. labelAnswer (versionOf (lent ot on ol) (h .old)) (versionOf (lent nt nn nl) (h .new)) side n)) (goes-same show-label 8128 (omega arith))
 
   -- `label_answer`
   pub label-is : (side n : ℕ) (r : Answer) (w₂ : List ℕ) → CalledOn (labelCall job-loaded side n) r w₁ w₂ → Called (labelCall job-lent side n) r j j w w₂
@@ -629,12 +579,10 @@ module _ (j : Job) (ot : Bytes) (on : List Node) (ol nt : List ℕ) (nn : List N
 
   part-same : (side n : ℕ) → labelPartCall job-loaded side n ≡ labelPartCall job-lent side n
   unfolding labelPartCall
-  part-same side n = shown-by side n (goesBy show-label 4096 job-loaded) ∙ ap (λ (x : Reading AllRead). shownBy x job-lent side n) (goes-same show-label 4096 (omega arith))
+  part-same side n = shown-by side n (goesBy show-label 8128 job-loaded) ∙ ap (λ (x : Reading AllRead). shownBy x job-lent side n) (goes-same show-label 8128 (omega arith))
 
   -- `label_shown`
   pub shown-is : (side n : ℕ) (r w₂ : List ℕ) → r ≡ labelPartCall job-loaded side n → w₂ ≡ replicate (length w₁) 0 → Shown (labelPartCall job-lent side n) r j j w w₂
   shown-is side n r w₂ e q = record { part-is = e ∙ part-same side n; job-is = refl; scratch-is = q ∙ ap (λ (k : ℕ). replicate k 0) long-same }
 
 pub ruleset sheets = (unloads, due-few, sheet-stop, sheet-goes, record-stop, record-goes, on-wrote, check-stop, check-goes, on-called)
-
-pub ruleset all = (dues, sheets, labels)

@@ -48,6 +48,13 @@ goesBy c asked k =
     (choose (leb asked (k .scratch)) (after (heldTests (k .job) (k .old) (k .new) (k .text) (k .tests) (k .rows)) (refused 14 0) (λ h. accepted h)) (refused 14 0))
     (refused 13 0)
 
+-- How many numbers of scratch the calls ask for: the table of the pairs; to show a label, the reader's work table.
+abbrev pub pairScratch : ℕ
+pairScratch = 16896
+
+abbrev pub labelScratch : ℕ
+labelScratch = 8128
+
 -- ---- the answers
 
 -- What the texts give.
@@ -56,18 +63,18 @@ givenBy h = record { old = h .old .program; new = h .new .program; suite = h .te
 
 -- Write the sheet into an output of `room` bytes.
 unfoldable pub sheetCall : LentJob → ℕ → Outcome
-sheetCall k room = outcome (goesBy write-sheet 12800 k) (λ h. writing (givenBy h) room (sheetBytes (givenBy h)))
+sheetCall k room = outcome (goesBy write-sheet pairScratch k) (λ h. writing (givenBy h) room (sheetBytes (givenBy h)))
 
 -- Write the record line of the test i: 6 where there is none.
 unfoldable pub recordCall : LentJob → ℕ → ℕ → Outcome
 recordCall k i room =
-    outcome (goesBy write-record 12800 k)
+    outcome (goesBy write-record pairScratch k)
     (λ h. choose (ltb i (testCount (givenBy h .suite))) (writing (givenBy h) room (recordBytes (givenBy h) i)) (refusal 6 0))
 
 -- Check a sheet.
 unfoldable pub checkCall : LentJob → Bytes → Outcome
 checkCall k sheet =
-    outcome (goesBy check-sheet 12800 k)
+    outcome (goesBy check-sheet pairScratch k)
     (λ h. outcome (readSheet (h .old .program) (h .new .program) (h .tests .suite) sheet) (judged (givenBy h)))
 
 -- Show a label: number and place; the part, which is empty when refused.
@@ -76,14 +83,14 @@ versionOf v s = record { text = v .text; listing = s }
 
 unfoldable pub labelCall : LentJob → ℕ → ℕ → Outcome
 labelCall k side n =
-    outcome (goesBy show-label 4096 k) (λ h. labelAnswer (versionOf (k .old) (h .old)) (versionOf (k .new) (h .new)) side n)
+    outcome (goesBy show-label labelScratch k) (λ h. labelAnswer (versionOf (k .old) (h .old)) (versionOf (k .new) (h .new)) side n)
 
 unfoldable pub shownBy : Reading AllRead → LentJob → ℕ → ℕ → Bytes
 shownBy (refused q p) k side n = []
 shownBy (accepted h) k side n = labelShown (versionOf (k .old) (h .old)) (versionOf (k .new) (h .new)) side n
 
 unfoldable pub labelPartCall : LentJob → ℕ → ℕ → Bytes
-labelPartCall k side n = shownBy (goesBy show-label 4096 k) k side n
+labelPartCall k side n = shownBy (goesBy show-label labelScratch k) k side n
 
 -- ---- what the calls leave
 

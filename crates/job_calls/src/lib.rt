@@ -71,11 +71,11 @@ fn suite_due(job: Job, o: Count, p: Count, tt: &[u8], tests: &[usize], rows: &[u
     refused(14)
 }
 
-// 13, 14, or the counts of what job and tables hold, for a call that asks for so many numbers of scratch where `had` are lent.
+// 13, 14, or the counts of what job and tables hold, for a call that asks for so many numbers of scratch. The texts of the programs are read
+// again in the scratch, one after the other.
 fn due(
     job: Job,
     asked: usize,
-    had: usize,
     olds: usize,
     ot: &[u8],
     on: &[usize],
@@ -87,21 +87,22 @@ fn due(
     tt: &[u8],
     tests: &[usize],
     rows: &[u64],
+    scratch: &mut [usize],
 ) -> Texts
-    ensures { λ r. ⌜ r ≡ dueTexts (goesBy write-sheet asked (lentJob job (numbers olds (now (ot .entry)) (now (on .entry)) (now (ol .entry))) (numbers news (now (nt .entry)) (now (nn .entry)) (now (nl .entry))) (now (tt .entry)) (now (tests .entry)) (now (rows .entry)) had)) ⌝ }
+    requires { ⌜ 8128 ≤ asked ⌝ }
+    ensures { λ r. ⌜ r ≡ dueTexts (goesBy write-sheet asked (lentJob job (numbers olds (now (ot .entry)) (now (on .entry)) (now (ol .entry))) (numbers news (now (nt .entry)) (now (nn .entry)) (now (nl .entry))) (now (tt .entry)) (now (tests .entry)) (now (rows .entry)) (length (now (scratch .entry))))) ⌝ }
 {
     if job.stage != 3 {
         return refused(13);
     }
-    if had < asked {
+    if scratch.len() < asked {
         return refused(14);
     }
-    let mut work = [0usize; 8128];
-    let o = held::version_left(olds, ot, on, ol, &mut work);
+    let o = held::version_left(olds, ot, on, ol, scratch);
     if o.number != 0 {
         return refused(14);
     }
-    let p = held::version_left(news, nt, nn, nl, &mut work);
+    let p = held::version_left(news, nt, nn, nl, scratch);
     if p.number != 0 {
         return refused(14);
     }
@@ -133,8 +134,7 @@ fn sheet_in(
     copy(&mut nn, 0, run(scratch, 2048, 2048));
     let had = due(
         job,
-        12800,
-        scratch.len(),
+        16896,
         olds,
         ot,
         &on,
@@ -146,6 +146,7 @@ fn sheet_in(
         tt,
         tests,
         rows,
+        scratch,
     );
     if had.number != 0 {
         return writer::Answer {
@@ -254,8 +255,7 @@ fn record_in(
     copy(&mut nn, 0, run(scratch, 2048, 2048));
     let had = due(
         job,
-        12800,
-        scratch.len(),
+        16896,
         olds,
         ot,
         &on,
@@ -267,6 +267,7 @@ fn record_in(
         tt,
         tests,
         rows,
+        scratch,
     );
     if had.number != 0 {
         return writer::Answer {
@@ -392,8 +393,7 @@ fn check_in(
     copy(&mut nn, 0, run(scratch, 2048, 2048));
     let had = due(
         job,
-        12800,
-        scratch.len(),
+        16896,
         olds,
         ot,
         &on,
@@ -405,6 +405,7 @@ fn check_in(
         tt,
         tests,
         rows,
+        scratch,
     );
     if had.number != 0 {
         return checker::Answer {
@@ -571,7 +572,7 @@ fn label_in(
     rows: &[u64],
     side: usize,
     node: usize,
-    scratch: &[usize],
+    scratch: &mut [usize],
 ) -> Label
     ensures { λ r. ⌜ Labelled (loadedJob job olds (now (ot .entry)) (now (ol .entry)) news (now (nt .entry)) (now (nl .entry)) (now (tt .entry)) (now (tests .entry)) (now (rows .entry)) (now (scratch .entry))) side node r ⌝ }
 {
@@ -581,8 +582,7 @@ fn label_in(
     copy(&mut nn, 0, run(scratch, 2048, 2048));
     let had = due(
         job,
-        4096,
-        scratch.len(),
+        8128,
         olds,
         ot,
         &on,
@@ -594,6 +594,7 @@ fn label_in(
         tt,
         tests,
         rows,
+        scratch,
     );
     if had.number != 0 {
         return Label {

@@ -2,16 +2,13 @@
 -- `Chained` says so by equations with one function, `latest`. `Walk` is the invariant of every loop along a chain: what has to be shown of the items passed is any P.
 --
 use mathlib.Core.Path.{_≡_, refl, sym, ap, _∙_, subst}
-use mathlib.Core.Bool.{Bool, true, false}
-use mathlib.Core.List.{List}
+use mathlib.Core.Bool.{true, false}
 use Prim.Native.Nat.{ℕ, zero, suc, _+_, _-_, _≤_, _<_}
 use native.Mathlib.Nat.{not-suc-le-zero}
 use native.Mathlib.Numerals.{add-one}
 use native.Mathlib.Omega.{arith}
 use borrow.Author.Tests.{eq-eqb, ne-eqb}
 use lib.Dec.{eqb}
-use lib.ListN.{length, getD, set, length-set}
-use lib.Seq.{getD-set-same, getD-set-other}
 use Rattle.laws.specs.Slices.{below-or, same-or}
 
 -- 1 + the latest item below c with key a, or 0
@@ -117,14 +114,6 @@ module _ {key : ℕ → ℕ} {n c : ℕ} {tops links : ℕ → ℕ} (ch : Chaine
       arrive a (j - 1) (links (j - 1)) (omega arith)
       (ch .link (j - 1) (omega arith) ∙ ap (λ (x : ℕ). latest key x (j - 1)) (w .owner pos))
       (λ k q r ka. same-or k (j - 1) (λ e. subst Q (sym e) p) (λ e. f k (w .seen k (omega arith) r ka)))
-
-  -- the measure j falls
-  pub walk-less : {P : ℕ → Type 0} {a j : ℕ} → Walk P key a c j → 0 < j → links (j - 1) < j
-  walk-less {P} {a} {j} w pos =
-      let jc = w .within in
-      let x = ch .link (j - 1) (omega arith) in
-      let y = latest-le key (key (j - 1)) (j - 1) in
-      omega arith
 
 pub walk-end : {P : ℕ → Type 0} {key : ℕ → ℕ} {a c j : ℕ} → Walk P key a c j → j ≤ 0 → (k : ℕ) → k < c → key k ≡ a → P k
 walk-end w z k kc ka = w .seen k (omega arith) kc ka

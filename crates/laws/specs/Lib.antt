@@ -6,5 +6,6 @@ pub mod Counting
 pub mod Slices
 pub mod Tables
 pub mod Bits
+pub mod BitSets
 pub mod Chain
 pub mod Those

@@ -59,24 +59,6 @@ module _ {A : Type 0} where
       ∙ ap (λ (r : List A). getD s i d ∷ getD s (i + 1) d ∷ getD s (i + 2) d ∷ r)
       (drop-at s (i + 3) d (omega arith) ∙ ap (λ (n : ℕ). getD s (i + 3) d ∷ drop n s) (add-assoc i 3 1))
 
-  -- A list of one, two, three, four elements is those.
-  pub one-is : (s : List A) (d : A) → length s ≡ 1 → s ≡ getD s 0 d ∷ []
-  one-is [] d h = absurd (let z : ⊥ = omega arith in z)
-  one-is (a ∷ []) d h = refl
-  one-is (a ∷ b ∷ r) d h = absurd (let z : ⊥ = omega arith in z)
-
-  pub two-are : (s : List A) (d : A) → length s ≡ 2 → s ≡ getD s 0 d ∷ getD s 1 d ∷ []
-  two-are [] d h = absurd (let z : ⊥ = omega arith in z)
-  two-are (a ∷ s) d h = ap (λ (r : List A). a ∷ r) (one-is s d (omega arith))
-
-  pub three-are : (s : List A) (d : A) → length s ≡ 3 → s ≡ getD s 0 d ∷ getD s 1 d ∷ getD s 2 d ∷ []
-  three-are [] d h = absurd (let z : ⊥ = omega arith in z)
-  three-are (a ∷ s) d h = ap (λ (r : List A). a ∷ r) (two-are s d (omega arith))
-
-  pub four-are : (s : List A) (d : A) → length s ≡ 4 → s ≡ getD s 0 d ∷ getD s 1 d ∷ getD s 2 d ∷ getD s 3 d ∷ []
-  four-are [] d h = absurd (let z : ⊥ = omega arith in z)
-  four-are (a ∷ s) d h = ap (λ (r : List A). a ∷ r) (three-are s d (omega arith))
-
   -- ---- parts
 
   pub drop-take : (m n : ℕ) (l : List A) → drop m (take n l) ≡ take (n - m) (drop m l)
@@ -92,9 +74,6 @@ module _ {A : Type 0} where
     -- A part is no longer than it is asked to be, and ends within the list.
     pub part-short : length (take len (drop start l)) ≤ len
     part-short = omega (arith, length-take len (drop start l))
-
-    pub part-within : start ≤ length l → start + length (take len (drop start l)) ≤ length l
-    part-within h = omega (arith, length-take len (drop start l), length-drop start l)
 
     pub getD-part : (i : ℕ) (d : A) → i < len → getD (take len (drop start l)) i d ≡ getD l (start + i) d
     getD-part i d h = getD-take len (drop start l) i d h ∙ getD-drop start l i d
@@ -181,9 +160,6 @@ module _ {A : Type 0} where
       ∙ ap (λ (r : List A). take len r) (drop-sets-add vs l (i - start) start)
       ∙ take-sets-before vs (drop start l) (i - start) len (omega arith)
 
-  pub part-sets-after : (vs l : List A) (i start len : ℕ) → i + length vs ≤ start → take len (drop start (sets l i vs)) ≡ take len (drop start l)
-  part-sets-after vs l i start len h = ap (λ (r : List A). take len r) (drop-sets-after vs l i start h)
-
   -- The element k: of the run, before it, after it.
   pub getD-sets-before : (vs l : List A) (i k : ℕ) (d : A) → k < i → getD (sets l i vs) k d ≡ getD l k d
   getD-sets-before [] l i k d h = refl
@@ -208,7 +184,3 @@ module _ {A : Type 0} where
       (λ h. ap (λ (x : A). set s i x) (sym (getD-sets-before vs (set l i a) (suc i) i a (omega arith) ∙ getD-set-same l i a a h)) ∙ set-getD s i a)
       (λ h. set-out s i a (omega (arith, length-sets (set l i a) (suc i) vs, length-set l i a))) in
       ap (λ (x : List A). sets x (suc i) vs) kept ∙ sets-again vs (set l i a) (suc i)
-
-  -- A loop that fills from the front: what is v below i is v below i + 1.
-  pub filled-more : (l : List A) (i : ℕ) (v d : A) → i < length l → ((k : ℕ) → k < i → getD l k d ≡ v) → (k : ℕ) → k < i + 1 → getD (set l i v) k d ≡ v
-  filled-more l i v d h f k b = same-or k i (λ e. rw e (getD-set-same l i v d h)) (λ e. getD-set-other l i k v d e ∙ f k (omega arith))

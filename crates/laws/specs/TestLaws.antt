@@ -1,5 +1,5 @@
 -- What the tests of `Tests` say where they pass. `x-at` takes a fact out of a passed test, and `x-of` proves that a test passes.
-use mathlib.Core.Path.{_≡_, refl, sym, ap, ap₂, _∙_}
+use mathlib.Core.Path.{_≡_, refl, sym, ap, _∙_}
 use mathlib.Core.Logic.{_⊎_, inl, inr, ⊎-elim}
 use mathlib.Core.Bool.{Bool, true, false, true≢false, false≢true}
 use mathlib.Core.Option.{Option, none, some}
@@ -481,13 +481,6 @@ pick-all f (x ∷ l) e n k i = go (f (x .0) (x .1)) refl e (pick-short f l) (λ 
     go true u q m r (inl j) = sym (at-equal f x n k j) ∙ u
     go true u q m r (inr j) = r (omega arith) j
     go false u q m r j = absurd (let z : ⊥ = omega arith in z)
-
--- Tests that agree on a list pick the same.
-pub pick-agree : (f g : ℕ → ℕ → Bool) (l : List (ℕ × ℕ)) → ((n k : ℕ) → listed l n k ≡ true → f n k ≡ g n k) → pick f l ≡ pick g l
-unfolding pick listed
-pick-agree f g [] h = refl
-pick-agree f g (x ∷ l) h =
-    ap₂ (λ (b : Bool) (r : List (ℕ × ℕ)). keep b x r) (h (x .0) (x .1) (or-left _ (and-both (eqb-self (x .0)) (eqb-self (x .1))))) (pick-agree f g l (λ n k p. h n k (or-right _ p)))
 
 -- ---- ascending lists of pairs
 

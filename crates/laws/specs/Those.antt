@@ -6,7 +6,7 @@ use Prim.Native.Nat.{ℕ, zero, suc, _<_}
 use native.Mathlib.Omega.{arith}
 use lib.ListN.{length}
 use Rattle.laws.specs.Tests.{_or_, any, count, has, plus, those}
-use Rattle.laws.specs.TestLaws.{fails, same-test, those-at, those-of}
+use Rattle.laws.specs.TestLaws.{same-test, those-at, those-of}
 use Rattle.laws.specs.Lists.{snoc-length}
 
 module _ (f : ℕ → Bool) where
@@ -26,9 +26,6 @@ module _ (f : ℕ → Bool) where
   -- `those` has a number exactly if it is below n and passes.
   pub those-has : (n i : ℕ) → i < n → has (those n f) i ≡ f i
   those-has n i h = same-test _ _ (λ t. those-at f n i t .1) (λ t. those-of f n i h t)
-
-  pub those-past : (n i : ℕ) → (i < n → ⊥) → has (those n f) i ≡ false
-  those-past n i h = fails _ (λ t. h (those-at f n i t .0))
 
   -- It has as many as are counted.
   pub those-count : (n : ℕ) → length (those n f) ≡ count n f

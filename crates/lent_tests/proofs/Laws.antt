@@ -9,7 +9,7 @@ use lib.Seq.{sets}
 use Rattle.laws.specs.Tests.{_and_, choose}
 use Rattle.laws.specs.Tables.{rows, rows-window}
 use Rattle.laws.specs.Bits.{words-length}
-use Rattle.rules.specs.Text.{Bytes, same, Answer, refused, accepted}
+use Rattle.rules.specs.Text.{same, Answer, refused, accepted}
 use Rattle.rules.specs.SuiteFile.{TestListing, coverageAt, readTests}
 use Rattle.suite.specs.declared.Read.{Read}
 use Rattle.suite.specs.Rows.{Holds}

@@ -15,7 +15,7 @@ use Rattle.rules.specs.SuiteFile.{TestListing, coverageAt, readTests, testCount
 use Rattle.rules.specs.Proofs.TextLaws.{same-of, same-true}
 use Rattle.rules.specs.Proofs.SuiteLaws.{SoundSuite}
 use Rattle.suite.specs.declared.Read.{Read}
-use Rattle.suite.specs.Rows.{Holds, Row, edgeBit}
+use Rattle.suite.specs.Rows.{Holds, edgeBit}
 use Rattle.suite.specs.RowLaws.{suite-read}
 use Rattle.lent_tests.specs.Lent.{testRow, coverageRow, testsAfter, rowsAfter, Leaves, ReadLent, isLeft, leftNumber, leftCount, TestsLeft}
 

@@ -1,19 +1,20 @@
 -- The returns of this crate's functions, as `search` finds them: the premises are what the code holds there.
-use mathlib.Core.Path.{_≡_, refl, sym, ap, _∙_}
+use mathlib.Core.Path.{_≡_, refl, sym, _∙_}
 use mathlib.Core.Bool.{Bool, true, false}
 use mathlib.Core.Option.{none, some}
-use mathlib.Core.List.{List, [], _∷_}
-use Prim.Native.Nat.{ℕ, _≤_, _<_, min}
+use mathlib.Core.List.{[], _∷_}
+use Prim.Native.Nat.{ℕ, _+_, _≤_, _<_, min}
 use native.Mathlib.Omega.{arith}
 use lib.Dec.{ltb}
-use lib.ListN.{length, getD}
+use lib.ListN.{length, take, drop}
 use borrow.Author.Tests.{lt-ltb, le-ltb}
 use Rattle.laws.specs.Tests.{_and_, choose}
-use Rattle.laws.specs.Slices.{two-are, four-are}
 use Rattle.rules.specs.Text.{Bytes, same, empty, split, valueFrom, isName, isLabel, isWord, isNumber}
 use Rattle.rules.specs.Graph.{Kind, E, S, C, X, kindNumber}
 use Rattle.rules.specs.ProgramFile.{node-line, malformed, kindOf, isNode, isEdge, formOf}
-use Rattle.rules.specs.Proofs.TextLaws.{same-true}
+use Rattle.rules.specs.Proofs.TextLaws.{same-true, split-cons}
+use Rattle.text.specs.Scans.{span}
+use Rattle.text.specs.SplitLaws.{cut, uncut, first-last, first-more}
 use Rattle.lines.specs.declared.Form.{Form}
 use Rattle.lines.specs.declared.Form.the-variants.{Malformed, Proc, Node, Edge}
 use Rattle.lines.specs.Shape.{shape}
@@ -169,26 +170,33 @@ pub ruleset fours = (four-node, four-edge, four-not)
 
 -- ---- `form_of`
 
-neither : (fs : List Bytes) → (length fs ≡ 2 → ⊥) → (length fs ≡ 4 → ⊥) → Malformed ≡ shape (formOf fs)
-unfolding formOf shape
-neither [] h k = refl
-neither (f ∷ []) h k = refl
-neither (f ∷ a ∷ []) h k = absurd (h refl)
-neither (f ∷ a ∷ b ∷ []) h k = refl
-neither (f ∷ a ∷ b ∷ c ∷ []) h k = absurd (k refl)
-neither (f ∷ a ∷ b ∷ c ∷ d ∷ ds) h k = refl
+module _ (l f : Bytes) (ef : f ≡ take (span 44 l) l) where
+  pub line-one : length l ≤ length f → Malformed ≡ shape (formOf (split 44 l))
+  unfolding formOf shape
+  line-one h = sym (simp (first-last 44 l f ef h))
 
-module _ (l : Bytes) (n : ℕ) (e : n ≡ length (split 44 l)) where
-  pub line-two : (f a : Bytes) (r : Form) → n ≡ 2 → f ≡ getD (split 44 l) 0 [] → a ≡ getD (split 44 l) 1 [] → r ≡ shape (formOf (f ∷ a ∷ [])) → r ≡ shape (formOf (split 44 l))
-  line-two f a r h p q g = g ∙ simp (p, q) (ap (λ (fs : List Bytes). shape (formOf fs)) (sym (two-are (split 44 l) [] (sym e ∙ h))))
+  module _ (rest a : Bytes) (h : length f < length l) (er : rest ≡ drop (length f + 1) l) (ea : a ≡ take (span 44 rest) rest) where
+    pub line-two : (r : Form) → length rest ≤ length a → r ≡ shape (formOf (f ∷ rest ∷ [])) → r ≡ shape (formOf (split 44 l))
+    line-two r k g = g ∙ sym (simp (first-more 44 l f ef rest h er, first-last 44 rest a ea k))
 
-  pub line-four : (f a b c : Bytes) (r : Form) → n ≡ 4 → f ≡ getD (split 44 l) 0 [] → a ≡ getD (split 44 l) 1 [] → b ≡ getD (split 44 l) 2 [] → c ≡ getD (split 44 l) 3 []
-      → r ≡ shape (formOf (f ∷ a ∷ b ∷ c ∷ [])) → r ≡ shape (formOf (split 44 l))
-  line-four f a b c r h p q s t g = g ∙ simp (p, q, s, t) (ap (λ (fs : List Bytes). shape (formOf fs)) (sym (four-are (split 44 l) [] (sym e ∙ h))))
+    module _ (more b : Bytes) (k : length a < length rest) (em : more ≡ drop (length a + 1) rest) (eb : b ≡ take (span 44 more) more) where
+      pub line-three : length more ≤ length b → Malformed ≡ shape (formOf (split 44 l))
+      unfolding formOf shape
+      line-three i = sym (simp (first-more 44 l f ef rest h er, first-more 44 rest a ea more k em, first-last 44 more b eb i))
 
-  pub line-other : (n ≡ 2 → ⊥) → (n ≡ 4 → ⊥) → Malformed ≡ shape (formOf (split 44 l))
-  line-other h k = neither (split 44 l) (λ z. h (e ∙ z)) (λ z. k (e ∙ z))
+      module _ (c : Bytes) (i : length b < length more) (ec : c ≡ drop (length b + 1) more) (n : ℕ) (en : n ≡ span 44 c) where
+        all-fields : split 44 l ≡ f ∷ a ∷ b ∷ split 44 c
+        all-fields = simp (first-more 44 l f ef rest h er, first-more 44 rest a ea more k em, first-more 44 more b eb c i ec)
 
-pub ruleset wholes = (line-two, line-four, line-other)
+        pub line-four : (r : Form) → length c ≤ n → r ≡ shape (formOf (f ∷ a ∷ b ∷ c ∷ [])) → r ≡ shape (formOf (split 44 l))
+        line-four r j g = g ∙ sym (simp (all-fields, uncut 44 c n en j))
+
+        pub line-five : n < length c → Malformed ≡ shape (formOf (split 44 l))
+        unfolding formOf shape
+        line-five j =
+            let s = split-cons 44 (drop (n + 1) c) in
+            sym (simp (all-fields, cut 44 c (take n c) (drop (n + 1) c) n en j refl refl, s .2))
+
+pub ruleset wholes = (line-one, line-two, line-three, line-four, line-five)
 
 pub ruleset all = (twos, suits, nodes, edges, fours, wholes)

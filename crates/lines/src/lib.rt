@@ -133,17 +133,23 @@ fn four(f: &[u8], a: &[u8], b: &[u8], c: &[u8]) -> Form
 pub fn form_of(l: &[u8]) -> Form
     ensures { λ r. ⌜ r ≡ shape (formOf (fieldsOf (now (l .entry)))) ⌝ }
 {
-    let n = text::count(l, 44);
-    if n == 2 {
-        return two(text::field(l, 44, 0), text::field(l, 44, 1));
+    let f = text::first_short(l, 44);
+    if l.len() <= f.len() {
+        return Form::Malformed;
     }
-    if n == 4 {
-        return four(
-            text::field(l, 44, 0),
-            text::field(l, 44, 1),
-            text::field(l, 44, 2),
-            text::field(l, 44, 3),
-        );
+    let rest = text::after(l, f.len() + 1);
+    let a = text::first_short(rest, 44);
+    if rest.len() <= a.len() {
+        return two(f, rest);
     }
-    Form::Malformed
+    let more = text::after(rest, a.len() + 1);
+    let b = text::first(more, 44);
+    if more.len() <= b.len() {
+        return Form::Malformed;
+    }
+    let c = text::after(more, b.len() + 1);
+    if text::find(c, 44) < c.len() {
+        return Form::Malformed;
+    }
+    four(f, a, b, c)
 }

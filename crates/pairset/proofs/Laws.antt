@@ -1,21 +1,25 @@
 -- The turns and the returns of this crate's functions, as `search` finds them: the premises are what the code holds there.
-use mathlib.Core.Path.{_≡_, refl, sym, ap, _∙_}
-use mathlib.Core.Bool.{Bool, true, false}
+use mathlib.Core.Path.{_≡_, refl, sym, ap, ap₂, _∙_}
+use mathlib.Core.Bool.{Bool, false}
 use mathlib.Core.List.{List, [], _∷_}
-use mathlib.Core.Option.{Option, none, some}
-use Prim.Native.Nat.{ℕ, suc, _+_, _*_, _-_, _≤_, _<_}
+use mathlib.Core.Option.{none}
+use Prim.Native.Nat.{ℕ, suc, _+_, _-_, _*_, _/_, _%_, _^_, _≤_, _<_}
+use native.Mathlib.Nat.{div-mul-le-self, mod-eq-of-lt, zero-add}
 use native.Mathlib.Omega.{arith}
-use borrow.Author.Tests.{eqb-true, lt-ltb, le-ltb, le-leb, lt-leb, leb-true}
+use borrow.Author.Tests.{lt-ltb, le-ltb, le-leb, lt-leb}
+use lib.Count.{trailingZeros, trailing-le}
 use lib.Dec.{eqb, leb}
 use lib.ListN.{length, getD, set, List·getD-eq-default}
 use lib.Seq.{sets}
-use Rattle.laws.specs.Tests.{_and_, _or_, choose, first, found, listed}
-use Rattle.laws.specs.TestLaws.{and-left, and-right, and-both, first-least, first-at, fails}
+use Rattle.laws.specs.Tests.{_and_, first, found, listed}
+use Rattle.laws.specs.TestLaws.{and-right, fails, first-none}
 use Rattle.laws.specs.Lists.{choose-yes, choose-no}
-use Rattle.laws.specs.Slices.{below-or, same-or, sets-three}
-use Rattle.laws.specs.Chain.{Blind, Left, left-start, left-step, Walk, walk-start, walk-step, walk-end}
-use Rattle.pairset.specs.Store.{oldAt, newAt, linkAt, pairsIn, Store, lastPair, pairBefore, Has, Appends, Appended, NextPartner, Lower}
-use Rattle.pairset.specs.StoreLaws.{listed-snoc, listed-of, listed-at, before-le, walked, more, more-length, store-more, pairs-more}
+use Rattle.laws.specs.Counting.{first-agree}
+use Rattle.laws.specs.Slices.{below-or, sets-three}
+use Rattle.laws.specs.Bits.{bitAt, bitIn, first-no-word, first-within, first-word}
+use Rattle.laws.specs.BitSets.{bit-from, bit-in, bit-out, withBit, word-bit}
+use Rattle.pairset.specs.Store.{pairBase, pairBit, oldAt, newAt, linkAt, pairsIn, Store, lastPair, pairBefore, Has, Appends, Appended, NextPartner, RowFrom}
+use Rattle.pairset.specs.StoreLaws.{listed-at, listed-inside, more, more-length, pairs-more, store-more}
 
 -- ---- `old_of`, `new_of`, `last_pair`, `pair_before`
 
@@ -24,10 +28,10 @@ module _ (w : List ℕ) (k : ℕ) where
   past i h l = sym (List·getD-eq-default w 0 (omega arith))
 
   pub old-past : length w ≤ k → 0 ≡ oldAt w k
-  old-past h = past (512 + 3 * k) h (omega arith)
+  old-past h = past (pairBase + 3 * k) h (omega arith)
 
   pub new-past : length w ≤ k → 0 ≡ newAt w k
-  new-past h = past (513 + 3 * k) h (omega arith)
+  new-past h = past (pairBase + 1 + 3 * k) h (omega arith)
 
   pub last-in : (r : ℕ) → k < 512 → r ≡ getD w k 0 → r ≡ lastPair w k
   unfolding lastPair
@@ -39,7 +43,7 @@ module _ (w : List ℕ) (k : ℕ) where
 
   pub before-past : length w ≤ k → 0 ≡ pairBefore w k
   unfolding pairBefore
-  before-past h = let e : linkAt w k ≡ 0 = sym (past (514 + 3 * k) h (omega arith)) in rw e (sym (choose-yes 0 0 (le-leb 0 k (omega arith))))
+  before-past h = let e : linkAt w k ≡ 0 = sym (past (pairBase + 2 + 3 * k) h (omega arith)) in rw e (sym (choose-yes 0 0 (le-leb 0 k (omega arith))))
 
   module _ (place : ℕ) (p : place ≡ linkAt w k) where
     pub before-in : place ≤ k → place ≡ pairBefore w k
@@ -50,143 +54,154 @@ module _ (w : List ℕ) (k : ℕ) where
     unfolding pairBefore
     before-out h = rw (← p) (sym (choose-no place 0 (lt-leb place k h)))
 
-  -- The walk goes down.
-  pub before-less : (place r : ℕ) → 0 < place → k ≡ place - 1 → r ≡ pairBefore w k → r < place
-  before-less place r pos d e = omega (arith, before-le w k)
+pub ruleset reads = (old-past, new-past, last-in, last-out, before-past, before-in, before-out)
 
-pub ruleset reads = (old-past, new-past, last-in, last-out, before-past, before-in, before-out, before-less)
+-- ---- `bit_at`, `set_bit`, `has`
 
--- ---- `has`
-
--- (a, b) is one of the pairs just where it is one of those below the place.
-unfoldable pub HasBelow : List ℕ → ℕ → ℕ → ℕ → Type 0
-HasBelow w a b place = (c : ℕ) → Store w c → Left (oldAt w) a c (listed (pairsIn w c) a b) (λ j. listed (pairsIn w j) a b) place
+pub bit-read : (w : List ℕ) (i n : ℕ) → n ≡ getD w (i / 64) 0 → eqb (n / 2 ^ (i % 64) % 2) 1 ≡ bitIn w i
+unfolding bitIn bitAt
+bit-read w i n e = ap (λ (x : ℕ). eqb (x / 2 ^ (i % 64) % 2) 1) e
 
 module _ (w : List ℕ) (a b : ℕ) where
-  -- A pair that is not (a, b) adds nothing.
-  other : (k : ℕ) → ((oldAt w k ≡ a) → (newAt w k ≡ b) → ⊥) → listed (pairsIn w (suc k)) a b ≡ listed (pairsIn w k) a b
-  unfolding pairsIn _or_
-  other k h =
-      listed-snoc (oldAt w k, newAt w k) (pairsIn w k) a b
-      ∙ ap (λ (t : Bool). listed (pairsIn w k) a b or t) (fails _ (λ e. h (eqb-true _ _ (and-left _ _ e)) (eqb-true _ _ (and-right _ _ e))))
-      ∙ or-none (listed (pairsIn w k) a b)
-    where
-      or-none : (t : Bool) → (t or false) ≡ t
-      or-none true = refl
-      or-none false = refl
+  pub has-no-row : 512 ≤ a → Has w a b false
+  unfolding Has
+  has-no-row h c s = sym (fails _ (λ e. let r = listed-inside s a b e in let z : ⊥ = omega (arith, r .0) in z))
 
-  blind : Blind (oldAt w) a (λ j. listed (pairsIn w j) a b)
-  unfolding Blind
-  blind k e = other k (λ p q. e p)
+  pub has-no-bit : 512 ≤ b → Has w a b false
+  unfolding Has
+  has-no-bit h c s = sym (fails _ (λ e. let r = listed-inside s a b e in let z : ⊥ = omega (arith, r .1) in z))
 
-  pub has-start : (place : ℕ) → place ≡ lastPair w a → HasBelow w a b place
-  unfolding HasBelow
-  has-start place e c s = rw e (left-start (walked s (suc a)) a (omega arith) blind)
+  pub has-is : (r : Bool) → a < 512 → b < 512 → r ≡ bitIn w (pairBit a b) → Has w a b r
+  unfolding Has
+  has-is r h l e c s = e ∙ s .bits a b h l
 
-  module _ (place : ℕ) (inv : HasBelow w a b place) where
-    pub has-none : place ≤ 0 → Has w a b false
-    unfolding HasBelow Has pairsIn listed
-    has-none z c s =
-        let q : place ≡ 0 = omega arith in
-        sym (inv c s .rest ∙ ap (λ (k : ℕ). listed (pairsIn w k) a b) q)
-
-    module _ (k n : ℕ) (pos : 0 < place) (d : k ≡ place - 1) (e : n ≡ newAt w k) where
-      pub has-hit : n ≡ b → Has w a b true
-      unfolding HasBelow Has
-      has-hit q c s =
-          let i = inv c s in
-          sym (listed-of w a b c k (omega (arith, i .within)) (ap (oldAt w) d ∙ i .owner pos) (sym e ∙ q))
-
-      pub has-on : (r : ℕ) → (n ≡ b → ⊥) → r ≡ pairBefore w k → HasBelow w a b r
-      unfolding HasBelow
-      has-on r q x c s =
-          let i = inv c s in
-          let j : place ≡ suc k = omega arith in
-          let g : listed (pairsIn w place) a b ≡ listed (pairsIn w (place - 1)) a b
-          = ap (λ (m : ℕ). listed (pairsIn w m) a b) j ∙ other k (λ _ y. q (e ∙ y)) ∙ ap (λ (m : ℕ). listed (pairsIn w m) a b) d in
-          rw (x, d) (left-step (walked s (suc a)) i pos blind g)
-
-pub ruleset finds = (has-start, has-none, has-hit, has-on)
+pub ruleset finds = (bit-read, bit-out, bit-in, has-no-row, has-no-bit, has-is)
 
 -- ---- `put_row`, `append`
 
 module _ (w : List ℕ) (c a b : ℕ) where
   pub append-past : length w ≤ c → Appended w c a b w
   unfolding Appends
-  append-past h = record { appends = λ s an room. absurd (let z : ⊥ = omega arith in z); size = refl }
+  append-past h = record { appends = λ s an bn room. absurd (let z : ⊥ = omega arith in z); size = refl }
 
-  pub append-done : (p : ℕ) (v₁ v₂ : List ℕ) → p ≡ lastPair w a → v₁ ≡ sets w (512 + 3 * c) (a ∷ b ∷ p ∷ []) → v₂ ≡ set v₁ a (c + 1) → Appended w c a b v₂
+  pub append-no-row : 512 ≤ a → Appended w c a b w
   unfolding Appends
-  append-done p v₁ v₂ e x y =
-      let q : v₂ ≡ more w c a b = y ∙ ap (λ (l : List ℕ). set l a (c + 1)) (x ∙ ap (λ (k : ℕ). sets w (512 + 3 * c) (a ∷ b ∷ k ∷ [])) e) in
-      rw q (record { appends = λ s an room. (store-more w c a b s an room, pairs-more w c a b s an room); size = more-length w c a b })
+  append-no-row h = record { appends = λ s an bn room. absurd (let z : ⊥ = omega arith in z); size = refl }
 
-pub ruleset adds = (sets-three, append-past, append-done)
+  pub append-no-bit : 512 ≤ b → Appended w c a b w
+  unfolding Appends
+  append-no-bit h = record { appends = λ s an bn room. absurd (let z : ⊥ = omega arith in z); size = refl }
+
+  pub append-done : (p : ℕ) (v₁ v₂ v₃ : List ℕ) → p ≡ lastPair w a → v₁ ≡ sets w (pairBase + 3 * c) (a ∷ b ∷ p ∷ []) → v₂ ≡ withBit v₁ (pairBit a b) → v₃ ≡ set v₂ a (c + 1)
+      → Appended w c a b v₃
+  unfolding Appends
+  append-done p v₁ v₂ v₃ e x y z =
+      let q : v₁ ≡ sets w (pairBase + 3 * c) (a ∷ b ∷ lastPair w a ∷ []) = x ∙ ap (λ (k : ℕ). sets w (pairBase + 3 * c) (a ∷ b ∷ k ∷ [])) e in
+      let r : v₃ ≡ more w c a b = z ∙ ap (λ (l : List ℕ). set l a (c + 1)) (y ∙ ap (λ (l : List ℕ). withBit l (pairBit a b)) q) in
+      rw r (record { appends = λ s an bn room. (store-more w c a b s an bn room, pairs-more w c a b s an bn room); size = more-length w c a b })
+
+pub ruleset adds = (sets-three, append-past, append-no-row, append-no-bit, append-done)
+
+-- ---- `row_from`
+
+module _ (w : List ℕ) (a k from word : ℕ) (e : word ≡ getD w (512 + 8 * a + k) 0) where
+  -- The word, bit by bit.
+  row-bit : (j : ℕ) → j < 64 → bitAt word j ≡ bitIn w (pairBit a (64 * k + j))
+  row-bit j h =
+      let q : 64 * (512 + 8 * a + k) + j ≡ pairBit a (64 * k + j) = omega arith in
+      ap (λ (n : ℕ). bitAt n j) e ∙ sym (word-bit w (512 + 8 * a + k) j h) ∙ ap (bitIn w) q
+
+  pub row-whole : from ≤ 64 * k → RowFrom w a k from word
+  unfolding RowFrom _and_
+  row-whole l j h = row-bit j h ∙ sym (ap (λ (t : Bool). t and bitIn w (pairBit a (64 * k + j))) (le-leb from (64 * k + j) (omega arith)))
+
+  pub row-part : (skip : ℕ) → word < 2 ^ 64 → 64 * k < from → skip ≡ from - 64 * k → RowFrom w a k from (word / 2 ^ skip * 2 ^ skip % 18446744073709551616)
+  unfolding RowFrom
+  row-part skip small l d j h =
+      let exact : word / 2 ^ skip * 2 ^ skip % 2 ^ 64 ≡ word / 2 ^ skip * 2 ^ skip = mod-eq-of-lt (omega (arith, small, div-mul-le-self word (2 ^ skip))) in
+      let same : leb skip j ≡ leb from (64 * k + j) =
+      below-or j skip
+      (λ q. lt-leb skip j q ∙ sym (lt-leb from (64 * k + j) (omega arith)))
+      (λ q. le-leb skip j q ∙ sym (le-leb from (64 * k + j) (omega arith))) in
+      ap (λ (n : ℕ). bitAt n j) exact ∙ bit-from skip word j ∙ ap₂ (λ (t u : Bool). t and u) same (row-bit j h)
+
+pub zeros-fit : (w : ℕ) → trailingZeros 64 w < 2 ^ 64
+zeros-fit w = omega (arith, trailing-le 64 w)
+
+pub ruleset rows = (row-whole, row-part, zeros-fit)
 
 -- ---- `next_partner`
 
--- Of the pairs of a from the place on whose new node is from `from` on, `best` is 1 + the lowest new node, or 0.
-pub record Lowest (w : List ℕ) (a from c best place : ℕ) : Type 0 where
-  pub walk : Walk (λ k. from ≤ newAt w k → (0 < best) × (best ≤ newAt w k + 1)) (oldAt w) a c place
-  pub one : 0 < best → (from ≤ best - 1) × (listed (pairsIn w c) a (best - 1) ≡ true)
-
-unfoldable pub LowestBelow : List ℕ → ℕ → ℕ → ℕ → ℕ → Type 0
-LowestBelow w a from best place = (c n : ℕ) → Store w c → n ≤ 512 → ((k : ℕ) → k < c → newAt w k < n) → Lowest w a from c best place
+-- What passes nowhere below n is not found there.
+none-of : (f : ℕ → Bool) (n : ℕ) → ((j : ℕ) → j < n → f j ≡ false) → first n f ≡ none
+unfolding first
+none-of f n h = ap (λ (k : ℕ). first k f) (sym (zero-add n)) ∙ first-within f 0 n (λ i l u. h i (omega arith))
 
 module _ (w : List ℕ) (a from : ℕ) where
-  pub next-start : (place : ℕ) → place ≡ lastPair w a → LowestBelow w a from 0 place
-  unfolding LowestBelow
-  next-start place e c n s m h = rw e (record { walk = walk-start (walked s (suc a)) a (omega arith); one = λ z. absurd (let y : ⊥ = omega arith in y) })
+  -- The new nodes from `from` on that are paired with a, by the bits.
+  abbrev partner : ℕ → Bool
+  partner b = leb from b and bitIn w (pairBit a b)
 
-  module _ (best place : ℕ) (inv : LowestBelow w a from best place) where
-    pub next-on : (k b r x : ℕ) → 0 < place → k ≡ place - 1 → b ≡ newAt w k → Lower best from b r → x ≡ pairBefore w k → LowestBelow w a from r x
-    unfolding LowestBelow
-    next-on k b r x pos d e g y c n s m h =
-        let i = inv c n s m h in
-        let kc : k < c = omega (arith, i .walk .within) in
-        let new : newAt w k < 512 = omega (arith, h k kc) in
-        let own : oldAt w k ≡ a = ap (oldAt w) d ∙ i .walk .owner pos in
-        record {
-          walk = rw (y, d)
-              (walk-step (walked s (suc a)) {Q = λ j. from ≤ newAt w j → (0 < r) × (r ≤ newAt w j + 1)} (i .walk) pos
-              (λ j f l. let q = f l in let t = g .kept (q .0) in (t .0, omega (arith, t .1, q .1)))
-              (rw (← d) (λ l. let t = g .taken (omega arith) (omega arith) in (t .0, omega (arith, t .1)))));
-          one = λ z. same-or r best
-              (λ q. let t = i .one (omega arith) in (omega (arith, t .0), rw q (t .1)))
-              (λ q.
-              let t = g .either q in
-              let v : r - 1 ≡ b = omega (arith, t .0) in
-              (omega (arith, t .1), rw v (listed-of w a b c k kc own (sym e))));
-        }
+  -- The first of them below 512 by the bits is the first below n by the pairs.
+  by-bits : a < 512 → (c n : ℕ) → Store w c → n ≤ 512 → ((k : ℕ) → k < c → newAt w k < n) → first 512 partner ≡ first n (λ b. leb from b and listed (pairsIn w c) a b)
+  by-bits an c n s m h =
+      let q : n + (512 - n) ≡ 512 = omega arith in
+      ap (λ (k : ℕ). first k partner) (sym q)
+      ∙ first-within partner n (512 - n)
+      (λ i l u.
+      fails _ (λ e.
+      let t = listed-at w a i c (sym (s .bits a i an (omega arith)) ∙ and-right _ _ e) in
+      let z : ⊥ = omega (arith, h (t .0) (t .1), t .3) in z))
+      ∙ first-agree partner (λ b. leb from b and listed (pairsIn w c) a b) n (λ i l. ap (λ (t : Bool). leb from i and t) (s .bits a i an (omega arith)))
 
-    abbrev test : ℕ → ℕ → Bool
-    test c b = leb from b and listed (pairsIn w c) a b
+  next-is : a < 512 → (r : ℕ) → r ≡ found (first 512 partner) → NextPartner w a from r
+  unfolding NextPartner
+  next-is an r e c n s m h = e ∙ ap found (by-bits an c n s m h)
 
-    pub next-end : place ≤ 0 → NextPartner w a from best
-    unfolding LowestBelow NextPartner
-    next-end z c n s m h =
-        let i = inv c n s m h in
-        -- No pair of a that counts is below `best`.
-        let least : (j : ℕ) → test c j ≡ true → (0 < best) × (best ≤ j + 1) = λ j e.
-        let t = listed-at w a j c (and-right _ _ e) in
-        let u = walk-end (i .walk) z (t .0) (t .1) (t .2) (omega (arith, leb-true from j (and-left _ _ e), t .3)) in
-        (u .0, omega (arith, u .1, t .3)) in
-        below-or 0 best
-        (λ pos.
-        let t = i .one pos in
-        let l = listed-at w a (best - 1) c (t .1) in
-        let v : best ≡ suc (best - 1) = omega arith in
-        v ∙ sym (ap found (first-least (test c) n (best - 1) (omega (arith, h (l .0) (l .1), l .3)) (and-both (le-leb _ _ (t .0)) (t .1))
-        (none-of (test c) (best - 1) (λ j q e. omega (arith, least j e .1))))))
-        (λ none. let v : best ≡ 0 = omega arith in v ∙ sym (ap found (none-of (test c) n (λ j q e. omega (arith, least j e .0)))))
-      where
-        none-of : (f : ℕ → Bool) (n : ℕ) → ((j : ℕ) → j < n → f j ≡ true → ⊥) → first n f ≡ none
-        none-of f n h = go (first n f) refl
-          where
-            go : (o : Option ℕ) → first n f ≡ o → first n f ≡ none
-            go none e = e
-            go (some j) e = let t = first-at f n j e in absurd (h j (t .0) (t .1))
+  pub next-no-row : 512 ≤ a → NextPartner w a from 0
+  unfolding NextPartner
+  next-no-row l c n s m h =
+      sym (ap found (none-of (λ b. leb from b and listed (pairsIn w c) a b) n
+      (λ j q. fails _ (λ e. let t = listed-inside s a j (and-right _ _ e) in let z : ⊥ = omega (arith, t .0) in z))))
 
-pub ruleset nexts = (next-start, next-on, next-end)
+-- No new node below 64 k is a partner.
+unfoldable pub NoneTo : List ℕ → ℕ → ℕ → ℕ → Type 0
+NoneTo w a from k = first (64 * k) (partner w a from) ≡ none
 
-pub ruleset all = (reads, finds, adds, nexts)
+module _ (w : List ℕ) (a from : ℕ) where
+  pub next-start : NoneTo w a from (from / 64)
+  unfolding NoneTo _and_
+  next-start =
+      none-of (partner w a from) (64 * (from / 64))
+      (λ j h. ap (λ (t : Bool). t and bitIn w (pairBit a j)) (lt-leb from j (omega arith)))
+
+  module _ (k word : ℕ) (inv : NoneTo w a from k) (row : RowFrom w a k from word) (small : word < 2 ^ 64) where
+    is : (j : ℕ) → j < 64 → partner w a from (64 * k + j) ≡ bitAt word j
+    unfolding RowFrom
+    is j h = sym (row j h)
+
+    pub next-found : (z : ℕ) → a < 512 → k < 8 → (word ≡ 0 → ⊥) → z ≡ trailingZeros 64 word → NextPartner w a from (64 * k + z + 1)
+    unfolding NoneTo
+    next-found z an h n e =
+        let q : 64 * k + z + 1 ≡ suc (64 * k + trailingZeros 64 word) = omega (arith, e) in
+        next-is w a from an (64 * k + z + 1) (q ∙ sym (ap found (first-word (partner w a from) k word small is 8 h (omega arith) inv)))
+
+    pub next-on : word ≡ 0 → NoneTo w a from (k + 1)
+    unfolding NoneTo
+    next-on z = first-no-word (partner w a from) k word small is z inv
+
+  pub next-none : (k : ℕ) → NoneTo w a from k → a < 512 → 8 ≤ k → NextPartner w a from 0
+  unfolding NoneTo
+  next-none k inv an h =
+      next-is w a from an 0
+      (sym (ap found (none-of (partner w a from) 512 (λ j l. fails _ (λ e. first-none (partner w a from) (64 * k) inv j (omega arith) e)))))
+
+pub next-room : (k z w : ℕ) → k < 8 → z ≡ trailingZeros 64 w → 64 * k + z < 2 ^ 64
+next-room k z w h e = omega (arith, trailing-le 64 w)
+
+pub next-room-one : (k z w : ℕ) → k < 8 → z ≡ trailingZeros 64 w → 64 * k + z + 1 < 2 ^ 64
+next-room-one k z w h e = omega (arith, trailing-le 64 w)
+
+pub ruleset nexts = (next-no-row, next-start, next-found, next-on, next-none, next-room, next-room-one)
+
+pub ruleset all = (reads, finds, adds, rows, nexts)

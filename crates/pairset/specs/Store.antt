@@ -1,5 +1,6 @@
--- A set of pairs of nodes in one table: 512 heads, one for each old node; then three numbers a pair: the old node, the new node, and 1 + the pair before it
--- of the same old node, or 0. How many pairs there are stands outside the table.
+-- A set of pairs of nodes in one table: 512 heads, one for each old node; then 512 rows of 8 words of 64 bits, whose bits say which new nodes are paired with
+-- the old node; then three numbers a pair: the old node, the new node, and 1 + the pair before it of the same old node, or 0. How many pairs there are stands
+-- outside the table.
 use mathlib.Core.Path.{_≡_}
 use mathlib.Core.Bool.{Bool}
 use mathlib.Core.List.{List, [], _∷_, _++_}
@@ -7,31 +8,43 @@ use Prim.Native.Nat.{ℕ, zero, suc, _+_, _*_, _≤_, _<_}
 use lib.Dec.{ltb, leb}
 use lib.ListN.{length, getD}
 use Rattle.laws.specs.Tests.{_and_, choose, first, found, listed}
+use Rattle.laws.specs.Bits.{bitAt, bitIn}
 use Rattle.laws.specs.Chain.{Chained}
+
+-- Where the pairs begin.
+abbrev pub pairBase : ℕ
+pairBase = 4608
+
+-- The bit of (a, b): bit b of the row of a, whose words begin at 512 + 8 a, the lowest bit of a word first.
+abbrev pub pairBit : ℕ → ℕ → ℕ
+pairBit a b = 64 * (512 + 8 * a) + b
 
 -- The head of the old node a; the two nodes and the link of the pair k.
 abbrev pub headAt : List ℕ → ℕ → ℕ
 headAt w a = getD w a 0
 
 abbrev pub oldAt : List ℕ → ℕ → ℕ
-oldAt w k = getD w (512 + 3 * k) 0
+oldAt w k = getD w (pairBase + 3 * k) 0
 
 abbrev pub newAt : List ℕ → ℕ → ℕ
-newAt w k = getD w (513 + 3 * k) 0
+newAt w k = getD w (pairBase + 1 + 3 * k) 0
 
 abbrev pub linkAt : List ℕ → ℕ → ℕ
-linkAt w k = getD w (514 + 3 * k) 0
+linkAt w k = getD w (pairBase + 2 + 3 * k) 0
 
 -- The first c pairs, in the order in which they were added.
 unfoldable pub pairsIn : List ℕ → ℕ → List (ℕ × ℕ)
 pairsIn w zero = []
 pairsIn w (suc c) = pairsIn w c ++ ((oldAt w c, newAt w c) ∷ [])
 
--- The table holds c pairs: there is room for them, their old nodes have heads, and the heads and links are the chains of their old nodes.
+-- The table holds c pairs: there is room for them, their nodes have heads and bits, the heads and links are the chains of their old nodes, and the bits are
+-- set that are of a pair.
 pub record Store (w : List ℕ) (c : ℕ) : Type 0 where
-  pub room : 512 + 3 * c ≤ length w
+  pub room : pairBase + 3 * c ≤ length w
   pub inside : (k : ℕ) → k < c → oldAt w k < 512
+  pub new-inside : (k : ℕ) → k < c → newAt w k < 512
   pub chains : Chained (oldAt w) 512 c (headAt w) (linkAt w)
+  pub bits : (a b : ℕ) → a < 512 → b < 512 → bitIn w (pairBit a b) ≡ listed (pairsIn w c) a b
 
 -- 1 + the latest pair of the old node a, or 0; 1 + the pair before the pair k of the same old node, or 0, and 0 too where the link leads past k.
 unfoldable pub lastPair : List ℕ → ℕ → ℕ
@@ -46,7 +59,8 @@ Has w a b r = (c : ℕ) → Store w c → r ≡ listed (pairsIn w c) a b
 
 -- `append`: one pair more, where there is room for it; the table stays as long as it was.
 unfoldable pub Appends : List ℕ → ℕ → ℕ → ℕ → List ℕ → Type 0
-Appends w c a b v = Store w c → a < 512 → 512 + 3 * (c + 1) ≤ length w → Store v (c + 1) × (pairsIn v (c + 1) ≡ pairsIn w c ++ ((a, b) ∷ []))
+Appends w c a b v =
+    Store w c → a < 512 → b < 512 → pairBase + 3 * (c + 1) ≤ length w → Store v (c + 1) × (pairsIn v (c + 1) ≡ pairsIn w c ++ ((a, b) ∷ []))
 
 pub record Appended (w : List ℕ) (c a b : ℕ) (v : List ℕ) : Type 0 where
   pub appends : Appends w c a b v
@@ -57,8 +71,6 @@ unfoldable pub NextPartner : List ℕ → ℕ → ℕ → ℕ → Type 0
 NextPartner w a from r =
     (c n : ℕ) → Store w c → n ≤ 512 → ((k : ℕ) → k < c → newAt w k < n) → r ≡ found (first n (λ b. leb from b and listed (pairsIn w c) a b))
 
--- `lower`: of `best`, which is 1 + a node or 0 for none, and the node b, 1 + the lower one; b counts only from `from` on and below 512.
-pub record Lower (best from b r : ℕ) : Type 0 where
-  pub taken : b < 512 → from ≤ b → (0 < r) × (r ≤ b + 1)
-  pub kept : 0 < best → (0 < r) × (r ≤ best)
-  pub either : (r ≡ best → ⊥) → (r ≡ b + 1) × (from ≤ b)
+-- `row_from`: the word k of the row of a, with the bits from `from` on only.
+unfoldable pub RowFrom : List ℕ → ℕ → ℕ → ℕ → ℕ → Type 0
+RowFrom w a k from r = (j : ℕ) → j < 64 → bitAt r j ≡ (leb from (64 * k + j) and bitIn w (pairBit a (64 * k + j)))

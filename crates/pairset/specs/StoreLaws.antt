@@ -1,21 +1,23 @@
--- Laws of a set of pairs in a table: the pairs by index, the chains as the code walks them, the empty table, one pair more.
+-- Laws of a set of pairs in a table: the pairs by index, the chains as the code walks them, the bits, the empty table, one pair more.
 use mathlib.Core.Path.{_≡_, refl, sym, ap, ap₂, _∙_, subst}
 use mathlib.Core.Bool.{Bool, true, false}
 use mathlib.Core.List.{List, [], _∷_, _++_}
-use Prim.Native.Nat.{ℕ, zero, suc, _+_, _*_, _≤_, _<_}
+use Prim.Native.Nat.{ℕ, zero, suc, _+_, _*_, _/_, _%_, _≤_, _<_}
 use native.Mathlib.Nat.{not-suc-le-zero}
 use native.Mathlib.Numerals.{add-one}
 use native.Mathlib.Omega.{arith}
-use borrow.Author.Tests.{eqb-true, eq-eqb, lt-ltb, le-ltb, le-leb, lt-leb}
+use borrow.Author.Tests.{eqb-true, eq-eqb, ne-eqb, lt-ltb, le-ltb, le-leb, lt-leb}
 use lib.Dec.{eqb}
 use lib.ListN.{length, getD, set, replicate, length-set, length-replicate, getD-replicate}
 use lib.Seq.{sets, length-sets, getD-set-same, getD-set-other}
-use Rattle.laws.specs.Tests.{_and_, _or_, choose, every, any, listed, allPairs, anyPair}
-use Rattle.laws.specs.TestLaws.{and-assoc, and-both, and-ends, and-left, and-right, any-at, any-of, or-assoc, or-ends}
+use Rattle.laws.specs.Tests.{_and_, _or_, every, any, listed, allPairs, anyPair}
+use Rattle.laws.specs.TestLaws.{and-assoc, and-both, and-ends, and-left, and-right, any-at, any-of, fails, or-assoc, or-ends}
 use Rattle.laws.specs.Lists.{choose-yes, choose-no, snoc-length}
 use Rattle.laws.specs.Slices.{below-or, same-or, getD-sets-before, getD-sets-in}
+use Rattle.laws.specs.Bits.{bitAt, bitIn}
+use Rattle.laws.specs.BitSets.{bit-with, clear-bits, or-swap, withBit}
 use Rattle.laws.specs.Chain.{latest, latest-none, Chained, chain-none, chain-more, link-le}
-use Rattle.pairset.specs.Store.{headAt, oldAt, newAt, linkAt, pairsIn, Store, lastPair, pairBefore}
+use Rattle.pairset.specs.Store.{pairBase, pairBit, headAt, oldAt, newAt, linkAt, pairsIn, Store, lastPair, pairBefore}
 
 -- ---- lists of pairs with one more
 
@@ -106,13 +108,30 @@ module _ {w : List ℕ} {c : ℕ} (s : Store w c) where
   pub walked : (n : ℕ) → Chained (oldAt w) n c (lastPair w) (pairBefore w)
   walked n = record { top = λ a h. last-is a; link = before-is }
 
+-- ---- the bits
+
+-- Only numbers below 512 are listed.
+pub listed-inside : {w : List ℕ} {c : ℕ} → Store w c → (a b : ℕ) → listed (pairsIn w c) a b ≡ true → (a < 512) × (b < 512)
+listed-inside {w} {c} s a b e =
+    let r = listed-at w a b c e in
+    (omega (arith, s .inside (r .0) (r .1), r .2), omega (arith, s .new-inside (r .0) (r .1), r .3))
+
 -- ---- the empty table
 
-pub store-none : (w : List ℕ) → 512 ≤ length w → ((a : ℕ) → a < 512 → headAt w a ≡ 0) → Store w 0
-store-none w h z = record { room = omega arith; inside = λ k l. absurd (not-suc-le-zero l); chains = chain-none _ _ _ _ z }
+pub store-none : (w : List ℕ) → pairBase ≤ length w → ((a : ℕ) → a < 512 → headAt w a ≡ 0) → ((e : ℕ) → bitIn w e ≡ false) → Store w 0
+unfolding pairsIn listed
+store-none w h z b =
+    record {
+      room = omega arith;
+      inside = λ k l. absurd (not-suc-le-zero l);
+      new-inside = λ k l. absurd (not-suc-le-zero l);
+      chains = chain-none _ _ _ _ z;
+      bits = λ x y _ _. b (pairBit x y);
+    }
 
-pub store-clear : (n : ℕ) → 512 ≤ n → Store (replicate n 0) 0
-store-clear n h = store-none (replicate n 0) (omega (arith, length-replicate {A = ℕ} n 0)) (λ a l. getD-replicate n a 0 0 (omega arith))
+pub store-clear : (n : ℕ) → pairBase ≤ n → Store (replicate n 0) 0
+store-clear n h =
+    store-none (replicate n 0) (omega (arith, length-replicate {A = ℕ} n 0)) (λ a l. getD-replicate n a 0 0 (omega arith)) (clear-bits (replicate n 0) n refl)
 
 pub no-pairs : (w : List ℕ) → pairsIn w 0 ≡ []
 unfolding pairsIn
@@ -121,64 +140,111 @@ no-pairs w = refl
 -- ---- one pair more
 
 module _ (w : List ℕ) (c a b : ℕ) where
-  -- The table with the pair (a, b) behind c others.
+  -- The table with the pair (a, b) behind c others: its row, its bit, its head.
+  abbrev row : List ℕ
+  row = a ∷ b ∷ lastPair w a ∷ []
+
+  abbrev u : List ℕ
+  u = sets w (pairBase + 3 * c) row
+
   abbrev pub more : List ℕ
-  more = set (sets w (512 + 3 * c) (a ∷ b ∷ lastPair w a ∷ [])) a (c + 1)
+  more = set (withBit u (pairBit a b)) a (c + 1)
+
+  with-length : length (withBit u (pairBit a b)) ≡ length w
+  unfolding withBit
+  with-length = length-set u (pairBit a b / 64) _ ∙ length-sets w (pairBase + 3 * c) row
 
   pub more-length : length more ≡ length w
-  more-length = length-set (sets w (512 + 3 * c) (a ∷ b ∷ lastPair w a ∷ [])) a (c + 1) ∙ length-sets w (512 + 3 * c) (a ∷ b ∷ lastPair w a ∷ [])
+  more-length = length-set (withBit u (pairBit a b)) a (c + 1) ∙ with-length
 
-  module _ (s : Store w c) (an : a < 512) (room : 512 + 3 * (c + 1) ≤ length w) where
-    abbrev row : List ℕ
-    row = a ∷ b ∷ lastPair w a ∷ []
-
-    abbrev u : List ℕ
-    u = sets w (512 + 3 * c) row
-
-    more-at : (i : ℕ) → (i ≡ a → ⊥) → getD more i 0 ≡ getD u i 0
-    more-at i e = getD-set-other u a i (c + 1) 0 e
+  module _ (s : Store w c) (an : a < 512) (bn : b < 512) (room : pairBase + 3 * (c + 1) ≤ length w) where
+    -- Where nothing but the row can have changed.
+    more-at : (i : ℕ) → (i ≡ a → ⊥) → (i ≡ 512 + 8 * a + b / 64 → ⊥) → getD more i 0 ≡ getD u i 0
+    unfolding withBit
+    more-at i e f =
+        getD-set-other (withBit u (pairBit a b)) a i (c + 1) 0 e
+        ∙ getD-set-other u (pairBit a b / 64) i _ 0 (λ q. f (let z : i ≡ 512 + 8 * a + b / 64 = omega arith in z))
 
     more-head : headAt more a ≡ c + 1
-    more-head = getD-set-same u a (c + 1) 0 (omega (arith, length-sets w (512 + 3 * c) row))
+    more-head = getD-set-same (withBit u (pairBit a b)) a (c + 1) 0 (omega (arith, with-length))
 
-    -- What stands below the row, and the row.
-    under : (i : ℕ) → i < 512 + 3 * c → (i ≡ a → ⊥) → getD more i 0 ≡ getD w i 0
-    under i h e = more-at i e ∙ getD-sets-before row w (512 + 3 * c) i 0 h
+    -- The heads; what stands below the row, and the row.
+    other-head : (x : ℕ) → x < 512 → (x ≡ a → ⊥) → headAt more x ≡ headAt w x
+    other-head x h e = more-at x e (λ q. let z : ⊥ = omega arith in z) ∙ getD-sets-before row w (pairBase + 3 * c) x 0 (omega arith)
 
-    inside-row : (i k : ℕ) → k < 3 → i ≡ 512 + 3 * c + k → getD more i 0 ≡ getD row k 0
+    under : (i : ℕ) → pairBase ≤ i → i < pairBase + 3 * c → getD more i 0 ≡ getD w i 0
+    under i l h =
+        more-at i (λ q. let z : ⊥ = omega arith in z) (λ q. let z : ⊥ = omega arith in z) ∙ getD-sets-before row w (pairBase + 3 * c) i 0 h
+
+    inside-row : (i k : ℕ) → k < 3 → i ≡ pairBase + 3 * c + k → getD more i 0 ≡ getD row k 0
     inside-row i k h e =
-        more-at i (λ q. let z : ⊥ = omega arith in z)
+        more-at i (λ q. let z : ⊥ = omega arith in z) (λ q. let z : ⊥ = omega arith in z)
         ∙ ap (λ (j : ℕ). getD u j 0) e
-        ∙ getD-sets-in row w (512 + 3 * c) k 0 (omega arith) h
+        ∙ getD-sets-in row w (pairBase + 3 * c) k 0 (omega arith) h
 
     old-under : (k : ℕ) → k < c → oldAt more k ≡ oldAt w k
-    old-under k h = under (512 + 3 * k) (omega arith) (λ q. let z : ⊥ = omega arith in z)
+    old-under k h = under (pairBase + 3 * k) (omega arith) (omega arith)
 
     new-under : (k : ℕ) → k < c → newAt more k ≡ newAt w k
-    new-under k h = under (513 + 3 * k) (omega arith) (λ q. let z : ⊥ = omega arith in z)
+    new-under k h = under (pairBase + 1 + 3 * k) (omega arith) (omega arith)
 
     old-more : oldAt more c ≡ a
-    old-more = inside-row (512 + 3 * c) 0 (omega arith) (omega arith)
+    old-more = inside-row (pairBase + 3 * c) 0 (omega arith) (omega arith)
 
     new-more : newAt more c ≡ b
-    new-more = inside-row (513 + 3 * c) 1 (omega arith) (omega arith)
+    new-more = inside-row (pairBase + 1 + 3 * c) 1 (omega arith) (omega arith)
 
     link-more : linkAt more c ≡ headAt w a
     unfolding lastPair
-    link-more = inside-row (514 + 3 * c) 2 (omega arith) (omega arith) ∙ choose-yes _ _ (lt-ltb a 512 an)
-
-    pub store-more : Store more (c + 1)
-    store-more =
-        record {
-          room = omega (arith, more-length);
-          inside = λ k h. same-or k c (λ e. subst (λ (j : ℕ). oldAt more j < 512) (sym e) (omega (arith, old-more))) (λ e. omega (arith, old-under k (omega arith), s .inside k (omega arith)));
-          chains =
-              chain-more (s .chains) (λ i h. sym (old-under i h)) old-more an more-head (λ x h e. under x (omega arith) e) link-more
-              (λ i h. under (514 + 3 * i) (omega arith) (λ q. let z : ⊥ = omega arith in z));
-        }
+    link-more = inside-row (pairBase + 2 + 3 * c) 2 (omega arith) (omega arith) ∙ choose-yes _ _ (lt-ltb a 512 an)
 
     pub pairs-more : pairsIn more (c + 1) ≡ pairsIn w c ++ ((a, b) ∷ [])
     unfolding pairsIn
     pairs-more =
         ap (pairsIn more) (add-one c)
         ∙ ap₂ (λ (l : List (ℕ × ℕ)) (z : ℕ × ℕ). l ++ (z ∷ [])) (pairs-agree more w c old-under new-under) (λ i. (old-more i, new-more i))
+
+    -- The bit of (a, b) is set, and the others are as they were.
+    bit-of : (x y : ℕ) → x < 512 → y < 512 → bitIn more (pairBit x y) ≡ (eqb (pairBit a b) (pairBit x y) or bitIn w (pairBit x y))
+    unfolding bitIn _or_
+    bit-of x y xn yn =
+        ap (λ (n : ℕ). bitAt n (pairBit x y % 64)) (getD-set-other (withBit u (pairBit a b)) a (pairBit x y / 64) (c + 1) 0 (λ q. let z : ⊥ = omega arith in z))
+        ∙ bit-with u (pairBit a b) (pairBit x y) (omega (arith, length-sets w (pairBase + 3 * c) row))
+        ∙ ap (λ (n : ℕ). eqb (pairBit a b) (pairBit x y) or bitAt n (pairBit x y % 64)) (getD-sets-before row w (pairBase + 3 * c) (pairBit x y / 64) 0 (omega arith))
+
+    -- The bits of two pairs are one bit just where the pairs are one.
+    same-bit : (x y : ℕ) → x < 512 → y < 512 → eqb (pairBit a b) (pairBit x y) ≡ (eqb a x and eqb b y)
+    same-bit x y xn yn =
+        same-or (pairBit a b) (pairBit x y)
+        (λ e. eq-eqb _ _ e ∙ sym (and-both (eq-eqb a x (omega arith)) (eq-eqb b y (omega arith))))
+        (λ e.
+        ne-eqb _ _ e
+        ∙ sym (fails _ (λ t.
+        let p : a ≡ x = eqb-true _ _ (and-left _ _ t) in
+        let q : b ≡ y = eqb-true _ _ (and-right _ _ t) in
+        e (ap₂ pairBit p q))))
+
+    bits-more : (x y : ℕ) → x < 512 → y < 512 → bitIn more (pairBit x y) ≡ listed (pairsIn more (c + 1)) x y
+    bits-more x y xn yn =
+        bit-of x y xn yn
+        ∙ ap₂ (λ (t v : Bool). t or v) (same-bit x y xn yn) (s .bits x y xn yn)
+        ∙ or-swap (eqb a x and eqb b y) (listed (pairsIn w c) x y)
+        ∙ sym (ap (λ (l : List (ℕ × ℕ)). listed l x y) pairs-more ∙ listed-snoc (a, b) (pairsIn w c) x y)
+
+    -- What holds of the nodes of the first c pairs, and of the new one, holds of all.
+    all-more : (f : List ℕ → ℕ → ℕ) (n : ℕ) → ((k : ℕ) → k < c → f more k ≡ f w k) → ((k : ℕ) → k < c → f w k < 512) → f more c ≡ n → n < 512
+        → (k : ℕ) → k < c + 1 → f more k < 512
+    all-more f n same below last h k l =
+        same-or k c (λ e. subst (λ (j : ℕ). f more j < 512) (sym e) (omega arith)) (λ e. omega (arith, same k (omega arith), below k (omega arith)))
+
+    pub store-more : Store more (c + 1)
+    store-more =
+        record {
+          room = omega (arith, more-length);
+          inside = all-more oldAt a old-under (s .inside) old-more an;
+          new-inside = all-more newAt b new-under (s .new-inside) new-more bn;
+          chains =
+              chain-more (s .chains) (λ i h. sym (old-under i h)) old-more an more-head other-head link-more
+              (λ i h. under (pairBase + 2 + 3 * i) (omega arith) (omega arith));
+          bits = bits-more;
+        }

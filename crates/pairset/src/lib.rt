@@ -1,10 +1,13 @@
-// A set of pairs of nodes in one table, to which pairs are added at the end. Every function takes any slice and any number: what stands past the
-// end is 0, a store past the end does nothing, and a walk goes on only downwards.
+// A set of pairs of nodes in one table, to which pairs are added at the end. Every public function takes any slice and any number: what stands
+// past the end is 0, a store past the end does nothing, and a link leads only downwards.
 ghost use mathlib.Core.Path.{_≡_};
 ghost use mathlib.Core.List.{_∷_, []};
-ghost use Prim.Native.Nat.{_+_, _^_, _<_};
+ghost use Prim.Native.Nat.{_+_, _*_, _^_, _<_};
+ghost use lib.Count.{trailingZeros};
 ghost use lib.Seq.{sets};
-ghost use Rattle.pairset.specs.Store.{Appended, Has, Lower, NextPartner, lastPair, newAt, oldAt, pairBefore};
+ghost use Rattle.laws.specs.Bits.{bitIn};
+ghost use Rattle.laws.specs.BitSets.{withBit};
+ghost use Rattle.pairset.specs.Store.{Appended, Has, NextPartner, RowFrom, lastPair, newAt, oldAt, pairBefore};
 
 // The old node of the pair k.
 pub fn old_of(w: &[usize], k: usize) -> usize
@@ -13,7 +16,7 @@ pub fn old_of(w: &[usize], k: usize) -> usize
     if w.len() <= k {
         return 0;
     }
-    text::get(w, 512 + 3 * k)
+    text::get(w, 4608 + 3 * k)
 }
 
 // The new node of the pair k.
@@ -23,7 +26,7 @@ pub fn new_of(w: &[usize], k: usize) -> usize
     if w.len() <= k {
         return 0;
     }
-    text::get(w, 513 + 3 * k)
+    text::get(w, 4609 + 3 * k)
 }
 
 // 1 + the latest pair of the old node a, or 0.
@@ -43,26 +46,45 @@ pub fn pair_before(w: &[usize], k: usize) -> usize
     if w.len() <= k {
         return 0;
     }
-    let place = text::get(w, 514 + 3 * k);
+    let place = text::get(w, 4610 + 3 * k);
     if place <= k {
         return place;
     }
     0
 }
 
-// Whether (a, b) is one of the pairs: walks the chain of a once.
+// Whether the bit i of the words is set.
+fn bit_at(w: &[usize], i: usize) -> bool
+    ensures { λ r. ⌜ r ≡ bitIn (now (w .entry)) i ⌝ }
+{
+    let word = text::get(w, i / 64);
+    let shift = i % 64;
+    (word >> shift) % 2 == 1
+}
+
+// Sets the bit i of the words.
+fn set_bit(w: &mut [usize], i: usize)
+    ensures { λ _. ⌜ now (w .exit) ≡ withBit (now (w .entry)) i ⌝ }
+{
+    let k = i / 64;
+    let shift = i % 64;
+    if k < w.len() {
+        let bit: usize = 1 << shift;
+        w[k] = w[k] | bit;
+    }
+}
+
+// Whether (a, b) is one of the pairs, by its bit.
 pub fn has(w: &[usize], a: usize, b: usize) -> bool
     ensures { λ r. ⌜ Has (now (w .entry)) a b r ⌝ }
 {
-    let mut place = last_pair(w, a);
-    while 0 < place {
-        let k = place - 1;
-        if new_of(w, k) == b {
-            return true;
-        }
-        place = pair_before(w, k);
+    if 512 <= a {
+        return false;
     }
-    false
+    if 512 <= b {
+        return false;
+    }
+    bit_at(w, 64 * (512 + 8 * a) + b)
 }
 
 // Puts three numbers at `at`.
@@ -82,41 +104,53 @@ pub fn append(w: &mut [usize], c: usize, a: usize, b: usize)
     if w.len() <= c {
         return;
     }
+    if 512 <= a {
+        return;
+    }
+    if 512 <= b {
+        return;
+    }
     let before = last_pair(w, a);
-    put_row(w, 512 + 3 * c, a, b, before);
+    put_row(w, 4608 + 3 * c, a, b, before);
+    set_bit(w, 64 * (512 + 8 * a) + b);
     text::put(w, a, c + 1);
 }
 
-// 1 + the lower of the node of `best` and the node b, where b is from `from` on and below 512.
-fn lower(best: usize, from: usize, b: usize) -> usize
-    ensures { λ r. ⌜ Lower best from b r ⌝ }
+// The word k of the row of a, with the bits from `from` on only.
+fn row_from(w: &[usize], a: usize, k: usize, from: usize) -> usize
+    requires { ⌜ (a < 512) × (k < 8) × (from < 64 * k + 64) ⌝ }
+    ensures { λ r. ⌜ RowFrom (now (w .entry)) a k from r ⌝ }
 {
-    if b < from {
-        return best;
+    let word = text::get(w, 512 + 8 * a + k);
+    let start = 64 * k;
+    if from <= start {
+        return word;
     }
-    if 512 <= b {
-        return best;
-    }
-    if best == 0 {
-        return b + 1;
-    }
-    if b < best {
-        return b + 1;
-    }
-    best
+    let skip = from - start;
+    word >> skip << skip
 }
 
-// 1 + the lowest new node from `from` on that is paired with a, or 0: walks the chain of a once.
+// How many bits stand below the lowest that is set.
+fn zeros_below(w: usize) -> usize
+    ensures { λ r. ⌜ r ≡ trailingZeros 64 w ⌝ }
+{
+    usize::trailing_zeros(w) as usize
+}
+
+// 1 + the lowest new node from `from` on that is paired with a, or 0: goes over the words of the row of a, at most 8.
 pub fn next_partner(w: &[usize], a: usize, from: usize) -> usize
     ensures { λ r. ⌜ NextPartner (now (w .entry)) a from r ⌝ }
 {
-    let mut best = 0;
-    let mut place = last_pair(w, a);
-    while 0 < place {
-        let k = place - 1;
-        let b = new_of(w, k);
-        best = lower(best, from, b);
-        place = pair_before(w, k);
+    if 512 <= a {
+        return 0;
     }
-    best
+    let mut k = from / 64;
+    while k < 8 {
+        let word = row_from(w, a, k, from);
+        if word != 0 {
+            return 64 * k + zeros_below(word) + 1;
+        }
+        k += 1;
+    }
+    0
 }

@@ -1,18 +1,18 @@
 -- The functions that test whether the procedure that is being read is complete: what each return and each turn of a loop shows.
 use mathlib.Core.Path.{_≡_, refl, sym, ap, _∙_, subst}
-use mathlib.Core.Logic.{_⊎_, inl, inr, ⊎-elim}
+use mathlib.Core.Logic.{⊎-elim}
 use mathlib.Core.Bool.{Bool, true, false}
-use mathlib.Core.List.{List, [], _∷_, _++_}
+use mathlib.Core.List.{List}
 use Prim.Native.Nat.{ℕ, zero, suc, _+_, _-_, _*_, _≤_, _<_}
 use native.Mathlib.Omega.{arith}
-use lib.Dec.{eqb, leb, ltb}
-use lib.ListN.{length, getD, drop}
+use lib.Dec.{eqb, leb}
+use lib.ListN.{getD}
 use lib.Seq.{getD-drop}
-use borrow.Author.Tests.{eqb-true, eq-eqb, ne-eqb, leb-true, leb-false, le-leb, lt-leb}
-use Rattle.laws.specs.Tests.{_and_, _⇒_, every, count, choose}
-use Rattle.laws.specs.TestLaws.{and-left, and-right, and-both, implied, implies, passes?, same-test, fails, both-ways, every-at, every-of, count-skip, count-more, below-suc}
+use borrow.Author.Tests.{eqb-true, eq-eqb, ne-eqb, leb-true, le-leb, lt-leb}
+use Rattle.laws.specs.Tests.{_and_, _⇒_, every, count}
+use Rattle.laws.specs.TestLaws.{and-left, and-right, and-both, implied, implies, same-test, fails, both-ways, every-at, every-of, count-skip, count-more, below-suc}
 use Rattle.laws.specs.Lists.{choose-no, count-agree}
-use Rattle.laws.specs.Counting.{count-few, count-zero, every-agree}
+use Rattle.laws.specs.Counting.{count-zero, every-agree}
 use Rattle.rules.specs.Text.{Bytes, same}
 use Rattle.rules.specs.Graph.{Kind, E, S, C, X, Program, degrees, fewest, most, ownerAt, kindAt, sourceAt, wordAt, procCount, nodeCount, edgeCount, kindNumber, sameKind, isOf, degree, dash, worded}
 use Rattle.rules.specs.ProgramFile.{Listing, current, degreeFine, complete}
@@ -21,8 +21,8 @@ use Rattle.graph.specs.Lookups.{in-table, Edges, Procs, Degree, Dashed}
 use Rattle.lines.specs.Known.{Known}
 use Rattle.reader.specs.declared.Count.{Count}
 use Rattle.reader.specs.declared.Degrees.{Degrees}
-use Rattle.reader.specs.Result.{linksOf, Small, DegreesOf}
-use Rattle.reader.specs.Reading.{Reading, Holds, ofCurrent, kindCount, nodeFine, NodeFine, AllFine, FineTo, Completes}
+use Rattle.reader.specs.Result.{linksOf, DegreesOf}
+use Rattle.reader.specs.Reading.{Holds, ofCurrent, kindCount, nodeFine, NodeFine, AllFine, FineTo, Completes}
 use Rattle.reader.proofs.Programs.{is-current}
 
 -- ---- what the table holds

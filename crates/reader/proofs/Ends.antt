@@ -1,21 +1,20 @@
 -- Callees, the end of the text, and the whole reading: what each return and each turn shows.
 use mathlib.Core.Path.{_≡_, refl, sym, ap, _∙_, subst}
-use mathlib.Core.Logic.{_⊎_, inl, inr, ⊎-elim}
-use mathlib.Core.Bool.{Bool, true, false, true≢false}
+use mathlib.Core.Logic.{⊎-elim}
+use mathlib.Core.Bool.{Bool, true, false}
 use mathlib.Core.Option.{Option, none, some}
-use mathlib.Core.List.{List, [], _∷_, _++_}
+use mathlib.Core.List.{List, [], _∷_}
 use Prim.Native.Nat.{ℕ, zero, suc, _+_, _-_, _*_, _/_, _%_, _≤_, _<_}
 use native.Mathlib.Omega.{arith}
-use lib.Dec.{eqb, leb, ltb}
 use lib.ListN.{length, getD, take, drop, set}
 use lib.Seq.{drop-drop, getD-set-same, getD-set-other}
-use borrow.Author.Tests.{eqb-true, eq-eqb, ne-eqb, ltb-true, lt-ltb, le-ltb, leb-true}
+use borrow.Author.Tests.{lt-ltb, le-ltb, leb-true}
 use Rattle.laws.specs.Tests.{_and_, isnt, any, first, found, after}
 use Rattle.laws.specs.TestLaws.{and-left, and-right, and-both, fails, both-ways, below-suc, true-isnt, false-isnt, isnt-true, any-of, any-at, first-at, first-none, first-skip, first-least}
 use Rattle.laws.specs.Slices.{drop-sets-after, same-or}
-use Rattle.rules.specs.Text.{Bytes, same, empty, between, isName, maxBytes, Answer, refused, accepted, unless, readText, readLines, linesOf}
-use Rattle.rules.specs.Graph.{Kind, E, S, C, X, Program, nameAt, kindAt, labelAt, calleeAt, procCount, nodeCount, kindNumber, sameKind, orZero, isOf, entry, exit, procOf, called}
-use Rattle.rules.specs.ProgramFile.{Listing, current, begun, isNode, named, lost, complete, closing, stepProgram, finishProgram, nothingRead, readListing}
+use Rattle.rules.specs.Text.{Bytes, same, between, isName, maxBytes, Answer, refused, accepted, readText}
+use Rattle.rules.specs.Graph.{Kind, E, S, C, X, Program, nameAt, kindAt, labelAt, calleeAt, procCount, nodeCount, kindNumber, sameKind, orZero, entry, exit, procOf, called}
+use Rattle.rules.specs.ProgramFile.{Listing, current, begun, isNode, named, lost, complete, finishProgram, readListing}
 use Rattle.rules.specs.Proofs.TextLaws.{same-true, empty-true, unless-passes}
 use Rattle.rules.specs.Proofs.GraphLaws.{sameKind-of, sameKind-true}
 use Rattle.rules.specs.Proofs.ProgramLaws.{Complete, complete-says}
@@ -25,9 +24,9 @@ use Rattle.graph.specs.Lookups.{in-table, Procs, ProcNamed}
 use Rattle.lines.specs.Known.{Known}
 use Rattle.reader.specs.declared.Count.{Count}
 use Rattle.reader.specs.Result.{linksOf, Small, InTable, Told, ReadInto}
-use Rattle.reader.specs.Reading.{readingRow, Holds, Completes, ofCurrent, wholeText, LinesDone, LinesRead, Partly, ResolvedNode, ResolvedTo, Resolved, calleeBytes, Finished}
+use Rattle.reader.specs.Reading.{Holds, Completes, ofCurrent, wholeText, LinesRead, Partly, ResolvedNode, ResolvedTo, Resolved, calleeBytes, Finished}
 use Rattle.reader.proofs.Completeness.{procs-of, some-procs, number-kind, current-row}
-use Rattle.reader.proofs.Steps.{unless-stops, found-some, found-none}
+use Rattle.reader.proofs.Steps.{unless-stops, found-none}
 
 -- ---- `callee_of`
 

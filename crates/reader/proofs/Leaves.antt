@@ -1,19 +1,16 @@
 -- The stores and the small look-ups: what each return shows.
 use mathlib.Core.Path.{_≡_, refl, sym, ap, _∙_}
-use mathlib.Core.Bool.{Bool, true, false}
 use mathlib.Core.List.{List, [], _∷_}
-use Prim.Native.Nat.{ℕ, zero, suc, _+_, _-_, _*_, _≤_, _<_}
+use Prim.Native.Nat.{ℕ, zero, suc, _+_, _-_, _*_, _≤_}
 use native.Mathlib.Omega.{arith}
-use lib.Dec.{eqb}
-use lib.ListN.{length, getD, set}
+use lib.ListN.{getD, set}
 use lib.Seq.{sets}
 use borrow.Author.Tests.{eq-eqb, ne-eqb}
-use Rattle.laws.specs.Tests.{choose}
 use Rattle.laws.specs.Lists.{choose-yes, choose-no}
 use Rattle.laws.specs.Slices.{sets-snoc}
 use Rattle.reader.specs.declared.Degrees.{Degrees}
 use Rattle.reader.specs.Result.{DegreesOf}
-use Rattle.reader.specs.Reading.{ofCurrent, marked, storedProc, storedNode, storedEdge}
+use Rattle.reader.specs.Reading.{ofCurrent, marked, storedNode, storedEdge}
 
 -- `degrees_of`: the constant table is the definition's, at each kind.
 abbrev table : List Degrees

@@ -1,20 +1,18 @@
 -- What a line adds to a program, as the rows see it: where procedures begin, entries and exits, and which nodes and edges are of the procedure that is being read.
-use mathlib.Core.Path.{_≡_, refl, sym, ap, _∙_, subst}
-use mathlib.Core.Logic.{_⊎_, inl, inr, ⊎-elim}
-use mathlib.Core.Bool.{Bool, true, false}
-use mathlib.Core.Option.{Option, none, some}
-use mathlib.Core.List.{List, [], _∷_, _++_}
-use Prim.Native.Nat.{ℕ, suc, _+_, _-_, _≤_, _<_}
+use mathlib.Core.Path.{_≡_, sym, ap, _∙_}
+use mathlib.Core.Logic.{⊎-elim}
+use mathlib.Core.Bool.{true, false}
+use mathlib.Core.Option.{some}
+use Prim.Native.Nat.{ℕ, suc, _≤_, _<_}
 use native.Mathlib.Omega.{arith}
 use lib.Dec.{eqb, leb, ltb}
-use lib.ListN.{length, getD}
-use borrow.Author.Tests.{eqb-true, eq-eqb, ne-eqb, ltb-true, ltb-false, lt-ltb, le-ltb, leb-true, leb-false, le-leb, lt-leb}
+use borrow.Author.Tests.{eqb-true, eq-eqb, ltb-true, ltb-false, lt-ltb, le-ltb, leb-true, le-leb}
 use Rattle.laws.specs.Tests.{_and_, any, first, count}
-use Rattle.laws.specs.TestLaws.{and-left, and-right, and-both, passes?, same-test, fails, both-ways, any-at, any-of, count-skip, first-skip}
-use Rattle.laws.specs.Lists.{snoc-length, snoc-cases, snoc-old, snoc-new, count-agree}
+use Rattle.laws.specs.TestLaws.{and-left, and-right, and-both, passes?, same-test, both-ways, any-at, any-of, count-skip, first-skip}
+use Rattle.laws.specs.Lists.{snoc-length, snoc-old, snoc-new, count-agree}
 use Rattle.laws.specs.Counting.{count-all, count-missing, count-prefix, first-agree, first-last}
 use Rattle.rules.specs.Text.{Bytes}
-use Rattle.rules.specs.Graph.{Kind, E, X, Node, Edge, Program, noNode, noEdge, ownerAt, kindAt, sourceAt, procCount, nodeCount, edgeCount, sameKind, orZero, isOf, entry, exit}
+use Rattle.rules.specs.Graph.{Kind, Node, Edge, Program, noNode, noEdge, ownerAt, sourceAt, procCount, nodeCount, edgeCount, sameKind, isOf}
 use Rattle.rules.specs.ProgramFile.{addProc, addNode, addEdge, current, hasEdge, isNodeOf}
 use Rattle.rules.specs.Proofs.ProgramLaws.{Sound}
 use Rattle.graph.specs.Table.{firstNode, firstEdge}

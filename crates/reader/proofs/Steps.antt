@@ -1,25 +1,24 @@
 -- The functions that take a line: what the definition's step is at each return.
 use mathlib.Core.Path.{_≡_, refl, sym, ap, _∙_, subst}
-use mathlib.Core.Logic.{_⊎_, inl, inr, ⊎-elim}
 use mathlib.Core.Bool.{Bool, true, false, true≢false}
 use mathlib.Core.Option.{Option, none, some}
 use mathlib.Core.List.{List, [], _∷_}
-use Prim.Native.Nat.{ℕ, zero, suc, _+_, _-_, _*_, _≤_, _<_, min}
+use Prim.Native.Nat.{ℕ, _+_, _-_, _*_, _≤_, _<_, min}
 use native.Mathlib.Omega.{arith}
-use lib.Dec.{eqb, leb, ltb}
+use lib.Dec.{leb, ltb}
 use lib.ListN.{length, getD, take, drop}
 use lib.Seq.{sets}
-use borrow.Author.Tests.{eqb-true, eq-eqb, ne-eqb, ltb-true, lt-ltb, le-ltb, leb-true, le-leb, lt-leb}
-use Rattle.laws.specs.Tests.{_and_, _or_, isnt, any, first, found, choose}
+use borrow.Author.Tests.{eqb-true, ltb-true, lt-ltb, le-ltb, leb-true, le-leb, lt-leb}
+use Rattle.laws.specs.Tests.{_and_, _or_, isnt, any, first, found}
 use Rattle.laws.specs.TestLaws.{and-left, and-right, and-both, or-left, or-right, fails, both-ways, true-isnt, false-isnt, same-test, any-of, any-at, first-at, first-none}
 use Rattle.laws.specs.Lists.{choose-yes, choose-no}
-use Rattle.rules.specs.Text.{Bytes, same, value, maxProcs, maxNodes, maxEdges, Answer, refused, accepted, unless}
-use Rattle.rules.specs.Graph.{Kind, E, S, C, X, Program, nameAt, ownerAt, procCount, nodeCount, edgeCount, kindNumber, leaves, edgeTaken}
-use Rattle.rules.specs.ProgramFile.{Line, proc-line, node-line, edge-line, malformed, Listing, current, begun, named, hasEdge, hasWord, isNodeOf, complete, closing, withProc, withNode, withEdge, takeProc, takeLine}
+use Rattle.rules.specs.Text.{Bytes, same, value, maxProcs, maxEdges, Answer, refused, unless}
+use Rattle.rules.specs.Graph.{Kind, nameAt, ownerAt, procCount, nodeCount, edgeCount, kindNumber, leaves, edgeTaken}
+use Rattle.rules.specs.ProgramFile.{Line, proc-line, node-line, edge-line, malformed, Listing, current, begun, named, hasEdge, hasWord, isNodeOf, withProc, withNode, withEdge, takeLine}
 use Rattle.rules.specs.Places.{Part}
 use Rattle.rules.specs.Proofs.TextLaws.{unless-passes}
 use Rattle.rules.specs.Proofs.Places.{part-is}
-use Rattle.graph.specs.Table.{firstNode, firstEdge, procHead}
+use Rattle.graph.specs.Table.{firstNode, firstEdge}
 use Rattle.graph.specs.Lookups.{in-table, Procs, Edges, ProcNamed, EdgeTaken}
 use Rattle.lines.specs.declared.Form.{Form}
 use Rattle.lines.specs.declared.Form.the-variants.{Malformed, Proc, Node, Edge}

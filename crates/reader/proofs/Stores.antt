@@ -1,27 +1,25 @@
 -- The work table after a line: it holds what was read with the line more.
 use mathlib.Core.Path.{_≡_, refl, sym, ap, _∙_, subst}
 use mathlib.Core.Logic.{_⊎_, inl, inr, ⊎-elim}
-use mathlib.Core.Bool.{Bool, true, false}
-use mathlib.Core.Option.{Option, none, some}
+use mathlib.Core.Bool.{true, false}
 use mathlib.Core.List.{List, [], _∷_, _++_}
 use Prim.Native.Nat.{ℕ, suc, _+_, _-_, _*_, _≤_, _<_}
 use native.Mathlib.Omega.{arith}
 use lib.Dec.{eqb}
-use lib.ListN.{length, getD, drop, set, length-set, length-drop}
+use lib.ListN.{length, getD, set, length-set, length-drop}
 use lib.Seq.{sets, length-sets, getD-set-same, getD-set-other, getD-drop}
 use borrow.Author.Tests.{eqb-true, eq-eqb, ne-eqb}
 use Rattle.laws.specs.Tests.{_and_, first, count, choose}
 use Rattle.laws.specs.TestLaws.{and-left, and-right, and-both, fails, both-ways, passes?}
 use Rattle.rules.specs.Proofs.GraphLaws.{sameKind-true}
-use Rattle.laws.specs.Lists.{choose-yes, choose-no, snoc-length, snoc-cases, snoc-old, snoc-new, count-agree}
+use Rattle.laws.specs.Lists.{snoc-length, snoc-cases, snoc-old, snoc-new}
 use Rattle.laws.specs.Counting.{count-zero}
 use Rattle.laws.specs.Slices.{same-or, drop-sets-after, drop-sets-add, getD-sets-before, getD-sets-after, getD-sets-in}
 use Rattle.laws.specs.Chain.{latest, latest-hit, latest-miss, latest-agree, latest-none}
 use Rattle.rules.specs.Text.{Bytes, value}
-use Rattle.rules.specs.Graph.{Kind, E, S, C, X, Node, Edge, Program, noNode, noEdge, nameAt, ownerAt, kindAt, labelAt, calleeAt, sourceAt, wordAt, targetAt, procCount, nodeCount, edgeCount, kindNumber, sameKind, orZero, isOf, entry, exit}
-use Rattle.rules.specs.ProgramFile.{Listing, addProc, addNode, addEdge, current, withProc, withNode, withEdge}
-use Rattle.rules.specs.Proofs.ProgramLaws.{Sound}
-use Rattle.graph.specs.Table.{At, nodeBase, procBase, edgeBase, headBase, procHead, edgeRow, headOf, firstNode, firstEdge}
+use Rattle.rules.specs.Graph.{Kind, E, S, C, X, Node, Edge, noNode, noEdge, ownerAt, sourceAt, procCount, nodeCount, edgeCount, kindNumber, sameKind, orZero, isOf, entry, exit}
+use Rattle.rules.specs.ProgramFile.{Listing, addNode, current, withProc, withNode, withEdge}
+use Rattle.graph.specs.Table.{At, procHead, edgeRow, headOf, firstNode, firstEdge}
 use Rattle.graph.specs.Lookups.{in-table}
 use Rattle.lines.specs.Known.{Known}
 use Rattle.reader.specs.declared.Count.{Count}

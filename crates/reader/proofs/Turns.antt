@@ -1,29 +1,25 @@
 -- The turns of the loop over lines: what the whole text reads to is what its rest reads to, after what the work table holds.
 use mathlib.Core.Path.{_≡_, refl, sym, ap, _∙_, subst}
-use mathlib.Core.Bool.{Bool, true, false}
-use mathlib.Core.List.{List, [], _∷_, _++_}
-use Prim.Native.Nat.{ℕ, zero, suc, _+_, _-_, _*_, _≤_, _<_, min}
+use mathlib.Core.List.{List, [], _∷_}
+use Prim.Native.Nat.{ℕ, suc, _+_, _≤_, _<_}
 use native.Mathlib.Omega.{arith}
-use lib.Dec.{eqb}
 use lib.ListN.{length, getD, take, drop, length-take, length-drop}
 use lib.Seq.{length-take-le}
 use Rattle.laws.specs.Tests.{isnt}
-use Rattle.laws.specs.TestLaws.{true-isnt, false-isnt}
 use Rattle.laws.specs.Slices.{drop-end, drop-next}
-use Rattle.rules.specs.Text.{Bytes, empty, split, fieldsOf, linesOf, value, Answer, refused, accepted, then, unless, readLines}
+use Rattle.rules.specs.Text.{Bytes, empty, split, fieldsOf, Answer, refused, accepted, then, unless, readLines}
 use Rattle.rules.specs.ProgramFile.{Line, proc-line, node-line, edge-line, malformed, formOf, Listing, nothingRead, takeLine, stepProgram, finishProgram}
-use Rattle.rules.specs.Proofs.TextLaws.{split-cons, unless-passes}
+use Rattle.rules.specs.Proofs.TextLaws.{split-cons}
 use Rattle.rules.specs.Proofs.ProgramLaws.{Formed, formed}
 use Rattle.text.specs.Scans.{span}
 use Rattle.text.specs.SplitLaws.{uncut, cut, piece-short}
 use Rattle.lines.specs.declared.Form.{Form}
-use Rattle.lines.specs.declared.Form.the-variants.{Malformed, Proc, Node, Edge}
 use Rattle.lines.specs.Shape.{shape}
 use Rattle.lines.specs.Stands.{Stands, line-stands}
 use Rattle.lines.specs.Known.{Known, known-none, known-line}
 use Rattle.reader.specs.declared.Count.{Count}
-use Rattle.reader.specs.Result.{linksOf, Small}
-use Rattle.reader.specs.Reading.{Reading, Holds, After, Stepped, spread, wholeText, LinesDone, LinesRead}
+use Rattle.reader.specs.Result.{Small}
+use Rattle.reader.specs.Reading.{Holds, After, Stepped, spread, wholeText, LinesRead}
 
 -- ---- a form reaches no further than its line
 

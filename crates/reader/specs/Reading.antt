@@ -1,7 +1,7 @@
 -- What the reader of program files keeps while it reads, and what its inner functions claim.
 use mathlib.Core.Path.{_≡_}
-use mathlib.Core.Bool.{Bool, true, false}
-use mathlib.Core.Option.{Option, none, some}
+use mathlib.Core.Bool.{Bool, true}
+use mathlib.Core.Option.{none, some}
 use mathlib.Core.List.{List, [], _∷_}
 use Prim.Native.Nat.{ℕ, suc, _+_, _-_, _*_, _≤_, _<_}
 use lib.Dec.{eqb, leb, ltb}
@@ -9,7 +9,7 @@ use lib.ListN.{length, getD, take, drop, set}
 use lib.Seq.{sets}
 use Rattle.laws.specs.Tests.{_and_, _⇒_, every, first, count, choose}
 use Rattle.rules.specs.Text.{Bytes, value, Answer, refused, accepted, unless, readLines, linesOf as linesOfText}
-use Rattle.rules.specs.Graph.{Program, Kind, E, C, X, kindAt, labelAt, calleeAt, sourceAt, nodeCount, edgeCount, procCount, kindNumber, isOf, entry, exit, worded, wordAt, ownerAt}
+use Rattle.rules.specs.Graph.{Program, E, C, X, kindAt, labelAt, calleeAt, sourceAt, nodeCount, edgeCount, procCount, kindNumber, isOf, entry, exit, worded, wordAt, ownerAt}
 use Rattle.rules.specs.ProgramFile.{Line, Listing, current, complete, takeProc, takeLine, stepProgram, finishProgram, nothingRead, hasWord, withEdge, degreeFine, lost}
 use Rattle.rules.specs.Places.{Part}
 use Rattle.graph.specs.Table.{At, nodeBase, procBase, edgeBase, headBase, procHead, edgeRow, headOf, nodeRow}

@@ -1,12 +1,12 @@
--- Laws of nodes as records and as numbers: how long they are, one more of them, as many as fit; the same stores in both, and there and back.
-use mathlib.Core.Path.{_≡_, refl, sym, ap, ap₂, _∙_}
+-- Laws of nodes as records and as numbers: how long they are, one more of them, as many as fit; the same stores in both.
+use mathlib.Core.Path.{_≡_, refl, sym, ap, _∙_}
 use mathlib.Core.List.{List, [], _∷_, _++_, append-assoc}
 use Prim.Native.Nat.{ℕ, zero, suc, _+_, _-_, _*_, _≤_, _<_, min}
 use native.Mathlib.Nat.{zero-add, add-zero, add-suc, suc-add, le-refl, min-eq-left, min-eq-right}
 use native.Mathlib.Numerals.{add-one}
 use native.Mathlib.Omega.{arith}
 use lib.ListN.{length, getD, take, set, length-append}
-use lib.Seq.{sets, length-sets, set-out, take-all, take-suc, length-take-le}
+use lib.Seq.{sets, length-sets, set-out, take-all, length-take-le}
 use Rattle.laws.specs.Slices.{below-or, take-more, sets-append, sets-nil, sets-snoc}
 use Rattle.records.specs.declared.Node.{Node}
 use Rattle.records.specs.Nodes.{blank, row, flat, nodeAt, nodesOf}
@@ -123,23 +123,3 @@ flat-sets (v ∷ vs) ns i =
     ∙ ap (λ (l : List ℕ). sets l (4 * suc i) (flat vs)) (flat-set ns i v)
     ∙ ap (λ (k : ℕ). sets (sets (flat ns) (4 * i) (row v)) k (flat vs)) e
     ∙ sets-append (flat ns) (4 * i) (row v) (flat vs)
-
--- ---- records made numbers, and records again
-
-pub flat-at : (vs : List Node) (i : ℕ) → i < length vs → nodeAt (flat vs) i ≡ getD vs i blank
-unfolding flat
-flat-at [] i h = absurd (let z : ⊥ = omega arith in z)
-flat-at (v ∷ vs) zero h = refl
-flat-at (v ∷ vs) (suc i) h =
-    let past : (k m : ℕ) → k ≡ suc (suc (suc (suc m))) → getD (row v ++ flat vs) k 0 ≡ getD (flat vs) m 0 = λ k m q. ap (λ (x : ℕ). getD (row v ++ flat vs) x 0) q in
-    let p₀ = past (4 * suc i) (4 * i) (omega arith) in
-    let p₁ = past (4 * suc i + 1) (4 * i + 1) (omega arith) in
-    let p₂ = past (4 * suc i + 2) (4 * i + 2) (omega arith) in
-    let p₃ = past (4 * suc i + 3) (4 * i + 3) (omega arith) in
-    (λ j. record { kind = p₀ j; start = p₁ j; len = p₂ j; callee = p₃ j }) ∙ flat-at vs i (omega arith)
-
-pub nodes-flat : (vs : List Node) (k : ℕ) → k ≤ length vs → nodesOf (flat vs) k ≡ take k vs
-unfolding nodesOf
-nodes-flat vs zero h = refl
-nodes-flat vs (suc k) h =
-    ap₂ (λ (l : List Node) (v : Node). l ++ (v ∷ [])) (nodes-flat vs k (omega arith)) (flat-at vs k h) ∙ sym (take-suc vs k blank h)

@@ -8,10 +8,9 @@ use Rattle.rules.specs.Text.{Answer as Read, Bytes, accepted, refused}
 use Rattle.rules.specs.ProgramFile.{Listing, readListing, readProgram}
 use Rattle.rules.specs.Graph.{Program}
 use Rattle.rules.specs.Sheet.{readSheet}
-use Rattle.rules.specs.Job.{Given, Outcome, checkAnswer, judged, numberOf, outcome, outputAfter, packed, placeOf, readJob, readNewAnswer, readOldAnswer, readTestsAnswer, recordAnswer, refusal, sheetAnswer, success, wrote}
+use Rattle.rules.specs.Job.{Given, Outcome, checkAnswer, judged, numberOf, outcome, outputAfter, packed, placeOf, readJob, readNewAnswer, readOldAnswer, readTestsAnswer, recordAnswer, refusal, sheetAnswer, success}
 use Rattle.rules.specs.Promises.{Plain}
 use Rattle.rules.specs.Proofs.Answers.{plain-answers}
-use Rattle.rules.specs.Proofs.TextLaws.{then-passes}
 use Rattle.reader.specs.declared.Count.{Count}
 use Rattle.reader.specs.Result.{ReadInto, Told as ReaderTold, linksOf}
 use Rattle.versions.specs.Memory.{InMemory, memory}
@@ -146,7 +145,7 @@ module _ (old ow new nw tt tests rows : List ℕ) (had : Texts) (j : JobRead old
   unfolding sheetAnswer
   sheet-stop out z = job-stop _ out z
 
-  pub sheet-goes : (ol nl w w′ out out′ : List ℕ) (r : Answer) → had .number ≡ 0 → ol ≡ linksOf ow → nl ≡ linksOf nw → length w ≡ 12800
+  pub sheet-goes : (ol nl w w′ out out′ : List ℕ) (r : Answer) → had .number ≡ 0 → ol ≡ linksOf ow → nl ≡ linksOf nw → length w ≡ 16896
       → Done w w′ out out′ (SheetDone (memory old ow ol) (memory new nw nl) tt tests rows had w out r out′) → Told (sheetAnswer old new tt (length out)) r out out′
   unfolding sheetAnswer SheetDone
   sheet-goes ol nl w w′ out out′ r z eo en l d =
@@ -158,7 +157,7 @@ module _ (old ow new nw tt tests rows : List ℕ) (had : Texts) (j : JobRead old
   unfolding recordAnswer
   record-stop i out z = job-stop _ out z
 
-  pub record-goes : (i : ℕ) (ol nl w w′ out out′ : List ℕ) (r : Answer) → had .number ≡ 0 → ol ≡ linksOf ow → nl ≡ linksOf nw → length w ≡ 12800
+  pub record-goes : (i : ℕ) (ol nl w w′ out out′ : List ℕ) (r : Answer) → had .number ≡ 0 → ol ≡ linksOf ow → nl ≡ linksOf nw → length w ≡ 16896
       → Done w w′ out out′ (RecordDone (memory old ow ol) (memory new nw nl) tt tests rows had i w out r out′) → Told (recordAnswer old new tt i (length out)) r out out′
   unfolding recordAnswer RecordDone
   record-goes i ol nl w w′ out out′ r z eo en l d =

@@ -73,7 +73,7 @@ fn sheet_job(old: &[u8], new: &[u8], tt: &[u8], out: &mut [u8]) -> Answer
             place: had.place,
         };
     }
-    let mut w = [0usize; 12800];
+    let mut w = [0usize; 16896];
     let ol = reader::links(&ow);
     let nl = reader::links(&nw);
     work::write_sheet(
@@ -117,7 +117,7 @@ fn record_job(old: &[u8], new: &[u8], tt: &[u8], test: usize, out: &mut [u8]) ->
             place: had.place,
         };
     }
-    let mut w = [0usize; 12800];
+    let mut w = [0usize; 16896];
     let ol = reader::links(&ow);
     let nl = reader::links(&nw);
     work::write_record(
@@ -168,7 +168,7 @@ fn check_job(old: &[u8], new: &[u8], tt: &[u8], sheet: &[u8]) -> checker::Answer
     let news = had.new_nodes;
     let edges = had.old_edges;
     let count = had.tests;
-    let mut w = [0usize; 12800];
+    let mut w = [0usize; 16896];
     let mut sets = [0u64; 20];
     let ol = reader::links(&ow);
     let nl = reader::links(&nw);

@@ -1,5 +1,4 @@
 -- The promises, proved.
-use mathlib.Core.Path.{_≡_}
 use Rattle.rules.specs.Text.{Bytes}
 use Rattle.rules.specs.Promises.{AnswersPlain, ClosingRulesExact, Demand3, LabelShown, PassesExactly, ProgramLayout, ProgramPlaced, ProgramWellFormed, SuiteLayout, SuitePlaced}
 use Rattle.rules.specs.Proofs.Answers.{plain-answers}

@@ -12,37 +12,31 @@ use Rattle.laws.specs.TestLaws.{and-both, and-left, and-right, every-at, every-
 use Rattle.laws.specs.Lists.{choose-yes, choose-no}
 use Rattle.laws.specs.Slices.{same-or}
 use Rattle.laws.specs.Chain.{Chained, Walk, walk-start, walk-step, walk-end}
-use Rattle.rules.specs.Graph.{edgeCount, nodeCount, sourceAt}
+use Rattle.rules.specs.Graph.{edgeCount, sourceAt}
 use Rattle.rules.specs.Closing.{goesOn, joined, pairs}
 use Rattle.rules.specs.ProgramFile.{Listing}
 use Rattle.graph.specs.Table.{edgeBase}
 use Rattle.pairset.specs.Store.{lastPair, newAt, oldAt, pairBefore, pairsIn}
 use Rattle.pairset.specs.StoreLaws.{walked}
 use Rattle.versions.specs.Memory.{Memory, memory}
-use Rattle.versions.specs.MemoryLaws.{well-formed}
 use Rattle.versions.specs.Found.{none-found}
-use Rattle.versions.specs.Claims.{Fitting, GoesOn}
-use Rattle.selection.specs.Compared.{Compared, Leads, counterpart, joins-lead, partner-below}
+use Rattle.versions.specs.Claims.{GoesOn}
+use Rattle.selection.specs.Compared.{Compared, Fitting, Leads, counterpart, joins-lead, pair-there}
 use Rattle.selection.specs.Marks.{Joins, Only, differs, eitherOf, sole}
-use Rattle.selection.proofs.Dangers.{source-of}
+use Rattle.selection.proofs.Dangers.{goes-is, source-of}
 
 -- ---- `joins`
 
 module _ (ot on ol nt nn nl w : List ℕ) (e n m : ℕ) (g : Bool) (go : GoesOn on ol nn nl w n m g) where
-  goes-is : (o p : Listing) (c : ℕ) → Compared (memory ot on ol) (memory nt nn nl) w c o p → e < edgeCount (o .program) → n ≡ sourceAt (o .program) e → m < nodeCount (p .program)
-      → g ≡ goesOn (o .program) (p .program) (pairsIn w c) (sourceAt (o .program) e) m
-  unfolding GoesOn
-  goes-is o p c h i en j =
-      let l = well-formed _ o (h .old-in) .sources e i in
-      go ot nt o p c (h .old-in) (h .new-in) (h .held .store) (omega (arith, en)) j ∙ ap (λ (k : ℕ). goesOn (o .program) (p .program) (pairsIn w c) k m) en
-
   pub joins-stays : g ≡ false → Joins (memory ot on ol) (memory nt nn nl) w e n m 0
   unfolding Joins counterpart
-  joins-stays z o p c h i en j = sym (choose-no _ 0 (sym (goes-is o p c h i en j) ∙ z))
+  joins-stays z o p c h i en j = sym (choose-no _ 0 (rw (← en) (sym (goes-is ot on ol nt nn nl w e n m g go o p c h i en j) ∙ z)))
 
-  pub joins-goes : (t : ℕ) → g ≡ true → Fitting (memory ot on ol) (memory nt nn nl) e m t → Joins (memory ot on ol) (memory nt nn nl) w e n m t
+  pub joins-goes : (t : ℕ) → g ≡ true → Fitting ot ol nt nl w e m t → Joins (memory ot on ol) (memory nt nn nl) w e n m t
   unfolding Joins Fitting counterpart
-  joins-goes t z f o p c h i en j = f o p (h .old-in) (h .new-in) i j ∙ sym (choose-yes _ 0 (sym (goes-is o p c h i en j) ∙ z))
+  joins-goes t z f o p c h i en j =
+      let x : goesOn (o .program) (p .program) (pairsIn w c) (sourceAt (o .program) e) m ≡ true = rw (← en) (sym (goes-is ot on ol nt nn nl w e n m g go o p c h i en j) ∙ z) in
+      f on nn o p c h i (rw (← en) j) x ∙ sym (choose-yes _ 0 x)
 
 -- ---- `differ`, `either`
 
@@ -152,11 +146,11 @@ SeenTo v v′ w e n seen place =
     (sourceAt (o .program) e) c seen place
 
 -- What `joins` found for the pair k, in a walk along the pairs of the node that the old edge leaves.
-pub joins-here : {v v′ : Memory} {w : List ℕ} {c : ℕ} {o p : Listing} → Compared v v′ w c o p → (e n k m f : ℕ) → e < edgeCount (o .program) → n ≡ sourceAt (o .program) e → k < c → m ≡ newAt w k
+pub joins-here : {v v′ : Memory} {w : List ℕ} {c : ℕ} {o p : Listing} → Compared v v′ w c o p → (e n k m f : ℕ) → e < edgeCount (o .program) → n ≡ sourceAt (o .program) e → k < c → oldAt w k ≡ n → m ≡ newAt w k
     → Joins v v′ w e n m f → f ≡ counterpart (o .program) (p .program) (pairsIn w c) e (newAt w k)
 unfolding Joins
-joins-here {w = w} {c = c} {o = o} {p = p} h e n k m f i en l em j =
-    j o p c h i en (rw em (partner-below h k l)) ∙ ap (counterpart (o .program) (p .program) (pairsIn w c) e) em
+joins-here {w = w} {c = c} {o = o} {p = p} h e n k m f i en l a em j =
+    j o p c h i en (rw (← a, em) (pair-there w c k l)) ∙ ap (counterpart (o .program) (p .program) (pairsIn w c) e) em
 
 pub only-start : (ot on ol : List ℕ) (v′ : Memory) (w : List ℕ) (e n place : ℕ) → n ≡ getD ol (edgeBase e) 0 → place ≡ lastPair w n → SeenTo (memory ot on ol) v′ w e n 0 place
 unfolding SeenTo
@@ -176,7 +170,7 @@ module _ (v v′ : Memory) (w : List ℕ) (e n seen place : ℕ) (inv : SeenTo v
     found-here o p c h i =
         let s = inv o p c h i in
         let l : k < c = omega (arith, s .1 .walk .within) in
-        joins-here h e n k m f i (s .0) l em j ∙ ap (λ (x : ℕ). counterpart (o .program) (p .program) (pairsIn w c) e (newAt w x)) d
+        joins-here h e n k m f i (s .0) l (ap (oldAt w) d ∙ s .1 .walk .owner pos ∙ sym (s .0)) em j ∙ ap (λ (x : ℕ). counterpart (o .program) (p .program) (pairsIn w c) e (newAt w x)) d
 
     pub only-two : t ≡ true → Only v v′ w e 0
     unfolding SeenTo Only

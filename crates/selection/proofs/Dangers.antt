@@ -10,27 +10,29 @@ use lib.ListN.{getD, length, set, drop, length-set}
 use lib.Pow.{pow-mono}
 use lib.Seq.{drop-set-lt, getD-set-same, getD-set-other}
 use borrow.Author.Tests.{eqb-true, eq-eqb, ne-eqb}
-use Rattle.laws.specs.Tests.{_and_, any, first, found, has, isnt, plus}
-use Rattle.laws.specs.TestLaws.{and-left, any-of, fails, false-isnt, true-isnt}
+use Rattle.laws.specs.Tests.{_and_, any, first, found, has, isnt, listed, plus}
+use Rattle.laws.specs.TestLaws.{and-both, and-left, and-right, any-of, both-ways, fails, false-isnt, first-only, true-isnt}
 use Rattle.laws.specs.Slices.{same-or}
 use Rattle.laws.specs.Bits.{bitAt, bitIn, wordOf, bit-word, word-small}
 use Rattle.laws.specs.Chain.{Blind, Left, left-start, left-step}
-use Rattle.rules.specs.Graph.{edgeCount, sourceAt}
-use Rattle.rules.specs.Closing.{dangerous, dangerousAt, dangers as dangersOf, fitted, goesOn, pairs}
+use Rattle.rules.specs.Graph.{edgeCount, sourceAt, targetAt}
+use Rattle.rules.specs.Closing.{alike, dangerous, dangerousAt, dangers as dangersOf, fits, fitted, goesOn, pairs, sameWord}
 use Rattle.rules.specs.ProgramFile.{Listing}
 use Rattle.graph.specs.Table.{edgeBase}
-use Rattle.pairset.specs.Store.{lastPair, newAt, oldAt, pairBefore, pairsIn}
+use Rattle.pairset.specs.Store.{Has, lastPair, newAt, oldAt, pairBefore, pairsIn}
 use Rattle.pairset.specs.StoreLaws.{any-pair, before-le, walked}
 use Rattle.suite.specs.Rows.{rowCommon}
 use Rattle.versions.specs.Memory.{Memory, memory}
-use Rattle.versions.specs.MemoryLaws.{source-is, well-formed}
-use Rattle.versions.specs.Found.{found-any, found-not}
-use Rattle.versions.specs.Claims.{Fitting, GoesOn}
+use Rattle.versions.specs.MemoryLaws.{source-is, target-is, well-formed}
+use Rattle.versions.specs.Found.{found-any, found-none, found-not, none-found}
+use Rattle.versions.specs.Claims.{GoesOn, Taken}
+use Rattle.versions.proofs.Laws.{one-taken}
 use Rattle.versions.specs.Held.{dangerous-agree}
 use Rattle.laws.specs.Those.{any-skip}
-use Rattle.selection.specs.Compared.{Compared, partner-below}
+use Rattle.selection.specs.Compared.{Compared, Fitting, ends-pair, pair-there, partner-below}
 use Rattle.selection.specs.Dangers.{DangerWord, DangersMarked, Endangers, IsDangerous, Marks, Repeats}
 use Rattle.rules.specs.Proofs.Closure.{dangers-inside}
+use Rattle.rules.specs.Proofs.ClosingLaws.{fits-ends, fits-of, fits-word}
 use Rattle.selection.specs.DangerLaws.{danger-has, row-meets}
 
 -- ---- walks along the pairs of an old node
@@ -45,6 +47,52 @@ source-of {o = o} ot on ol e n h l q = q ∙ source-is _ o (h .old-in) e l
 
 pub ruleset walks = (before-less)
 
+-- ---- `fitting`
+
+module _ (ot ol nt nl w : List ℕ) (e m t : ℕ) (et : Taken ot ol nt nl e m t) where
+  pub fitting-none : t ≡ 0 → Fitting ot ol nt nl w e m 0
+  unfolding Taken Fitting
+  fitting-none z on nn o p c h i l g =
+      sym (none-found _ _ (λ f k y.
+      found-none _ _ (sym (et on nn o p (h .old-in) (h .new-in) i (partner-below h _ m l)) ∙ z) f k
+      (and-both (and-left _ _ y) (fits-word (o .program) (p .program) e f (and-right _ _ y)))))
+
+  module _ (d : t ≡ 0 → ⊥) (a b x : ℕ) (u : Bool) (ea : a ≡ getD ol (edgeBase e + 3) 0) (ex : x ≡ t - 1) (eb : b ≡ getD nl (edgeBase x + 3) 0) (eu : Has w a b u) where
+    -- The edge taken, the only one of its word, and whether the ends are alike.
+    ends-are : (on nn : List ℕ) (o p : Listing) (c : ℕ) (h : Compared (memory ot on ol) (memory nt nn nl) w c o p) → e < edgeCount (o .program)
+        → listed (pairsIn w c) (sourceAt (o .program) e) m ≡ true → goesOn (o .program) (p .program) (pairsIn w c) (sourceAt (o .program) e) m ≡ true
+        → (t - 1 < edgeCount (p .program)) × (sourceAt (p .program) (t - 1) ≡ m) × (sameWord (o .program) (p .program) e (t - 1) ≡ true)
+        × ((f : ℕ) → f < edgeCount (p .program) → (eqb (sourceAt (p .program) f) m and fits (o .program) (p .program) e f) ≡ true → f ≡ t - 1)
+        × (u ≡ alike (o .program) (p .program) (targetAt (o .program) e) (targetAt (p .program) (t - 1)))
+    unfolding Has
+    ends-are on nn o p c h i l g =
+        let r = one-taken ot on ol nt nn nl e m t et d o p (h .old-in) (h .new-in) i (partner-below h _ m l) in
+        let v : a ≡ targetAt (o .program) e = ea ∙ target-is _ o (h .old-in) e i in
+        let v′ : b ≡ targetAt (p .program) (t - 1) = eb ∙ ap (λ (y : ℕ). getD nl (edgeBase y + 3) 0) ex ∙ target-is _ p (h .new-in) (t - 1) (r .0) in (
+          r .0,
+          r .1,
+          r .2,
+          λ f k y. r .3 f k (eqb-true _ _ (and-left _ _ y)) (fits-word (o .program) (p .program) e f (and-right _ _ y)),
+          eu c (h .held .store) ∙ ap₂ (listed (pairsIn w c)) v v′ ∙ ends-pair h e (t - 1) i (r .0) (rw (r .1) l) (rw (r .1) g) (r .2),
+        )
+
+    pub fitting-ends : u ≡ true → Fitting ot ol nt nl w e m t
+    unfolding Fitting
+    fitting-ends z on nn o p c h i l g =
+        let r = ends-are on nn o p c h i l g in
+        let f = first-only (λ f. eqb (sourceAt (p .program) f) m and fits (o .program) (p .program) e f) (edgeCount (p .program)) (t - 1) (r .0)
+        (and-both (eq-eqb _ _ (r .1)) (fits-of (o .program) (p .program) e (t - 1) (r .2) (sym (r .4) ∙ z))) (r .3) in
+        let q : t ≡ suc (t - 1) = omega arith in
+        q ∙ sym (ap found f)
+
+    pub fitting-not : u ≡ false → Fitting ot ol nt nl w e m 0
+    unfolding Fitting
+    fitting-not z on nn o p c h i l g =
+        let r = ends-are on nn o p c h i l g in
+        sym (none-found _ _ (λ f k y.
+        both-ways (r .4 ∙ ap (λ (x : ℕ). alike (o .program) (p .program) (targetAt (o .program) e) (targetAt (p .program) x)) (sym (r .3 f k y))
+        ∙ fits-ends (o .program) (p .program) e f (and-right _ _ y)) z))
+
 -- ---- `endangers`
 
 found-isnt : (f : ℕ → Bool) (n : ℕ) → eqb (found (first n f)) 0 ≡ isnt (any n f)
@@ -54,19 +102,24 @@ found-isnt f n =
     (λ e. ne-eqb _ _ e ∙ sym (false-isnt (found-any f n (omega arith))))
 
 module _ (ot on ol nt nn nl w : List ℕ) (e n m : ℕ) (g : Bool) (go : GoesOn on ol nn nl w n m g) where
-  pub endangers-stays : g ≡ false → Endangers (memory ot on ol) (memory nt nn nl) w e n m false
-  unfolding Endangers GoesOn dangerousAt _and_
-  endangers-stays z o p c h i en j =
+  -- What was found of the pair of the node that the old edge leaves.
+  pub goes-is : (o p : Listing) (c : ℕ) → Compared (memory ot on ol) (memory nt nn nl) w c o p → e < edgeCount (o .program) → n ≡ sourceAt (o .program) e → listed (pairsIn w c) n m ≡ true
+      → g ≡ goesOn (o .program) (p .program) (pairsIn w c) n m
+  unfolding GoesOn
+  goes-is o p c h i en j =
       let l = well-formed _ o (h .old-in) .sources e i in
-      let x : goesOn (o .program) (p .program) (pairsIn w c) n m ≡ false = sym (go ot nt o p c (h .old-in) (h .new-in) (h .held .store) (omega (arith, en)) j) ∙ z in
-      sym (ap₂ (λ (a b : Bool). a and (b and isnt (fitted (o .program) (p .program) e m))) (eq-eqb _ _ (sym en)) x)
+      go ot nt o p c (h .old-in) (h .new-in) (h .held .store) (omega (arith, en)) (partner-below h n m j)
 
-  pub endangers-goes : (t : ℕ) → g ≡ true → Fitting (memory ot on ol) (memory nt nn nl) e m t → Endangers (memory ot on ol) (memory nt nn nl) w e n m (eqb t 0)
-  unfolding Endangers GoesOn Fitting dangerousAt fitted _and_
+  pub endangers-stays : g ≡ false → Endangers (memory ot on ol) (memory nt nn nl) w e n m false
+  unfolding Endangers dangerousAt _and_
+  endangers-stays z o p c h i en j =
+      sym (ap₂ (λ (a b : Bool). a and (b and isnt (fitted (o .program) (p .program) e m))) (eq-eqb _ _ (sym en)) (sym (goes-is o p c h i en j) ∙ z))
+
+  pub endangers-goes : (t : ℕ) → g ≡ true → Fitting ot ol nt nl w e m t → Endangers (memory ot on ol) (memory nt nn nl) w e n m (eqb t 0)
+  unfolding Endangers Fitting dangerousAt fitted _and_
   endangers-goes t z f o p c h i en j =
-      let l = well-formed _ o (h .old-in) .sources e i in
-      let x : goesOn (o .program) (p .program) (pairsIn w c) n m ≡ true = sym (go ot nt o p c (h .old-in) (h .new-in) (h .held .store) (omega (arith, en)) j) ∙ z in
-      ap (λ (k : ℕ). eqb k 0) (f o p (h .old-in) (h .new-in) i j) ∙ found-isnt _ _
+      let x = sym (goes-is o p c h i en j) ∙ z in
+      ap (λ (k : ℕ). eqb k 0) (f on nn o p c h i (rw (← en) j) (rw (← en) x)) ∙ found-isnt _ _
       ∙ sym (ap₂ (λ (a b : Bool). a and (b and isnt (fitted (o .program) (p .program) e m))) (eq-eqb _ _ (sym en)) x)
 
 -- ---- `dangerous`
@@ -107,7 +160,7 @@ module _ (v v′ : Memory) (w : List ℕ) (edges e n : ℕ) where
           let i = inv o p c h q in
           let l : k < c = omega (arith, i .2 .within) in
           let a : oldAt w k ≡ n = ap (oldAt w) d ∙ i .2 .owner pos in
-          (l, is o p c h (i .1) (i .0) (rw em (partner-below h k l)) ∙ ap₂ (dangerousAt (o .program) (p .program) (pairsIn w c) e) (sym a) em)
+          (l, is o p c h (i .1) (i .0) (rw (← a, em) (pair-there w c k l)) ∙ ap₂ (dangerousAt (o .program) (p .program) (pairsIn w c) e) (sym a) em)
 
       pub danger-hit : r ≡ true → IsDangerous v v′ w edges e true
       unfolding DangerBelow IsDangerous
@@ -138,7 +191,7 @@ danger-start ot on ol v′ w edges e n place l en ep o p c h q =
     ∙ any-pair w (dangerousAt (o .program) (p .program) (pairsIn w c) e) c in
     (s, i, rw ep (record { within = x .within; owner = x .owner; rest = all ∙ x .rest }))
 
-pub ruleset dangers = (endangers-stays, endangers-goes, danger-past, danger-start, danger-none, danger-hit, danger-on)
+pub ruleset dangers = (fitting-none, fitting-ends, fitting-not, endangers-stays, endangers-goes, danger-past, danger-start, danger-none, danger-hit, danger-on)
 
 -- ---- `with_bit`, `danger_word`
 

@@ -164,8 +164,8 @@ module _ (v v′ : Memory) (w : List ℕ) (e n : ℕ) (marks marks₁ : List ℕ
               λ x l.
                   let y = r .1 x l in
                   let b : k < c = omega (arith, y .within) in
-                  let q : f ≡ to k = joins-here h e n k m f i (r .0) b em j in
                   let own : oldAt w k ≡ a = ap (oldAt w) d ∙ y .owner pos in
+                  let q : f ≡ to k = joins-here h e n k m f i (r .0) b (own ∙ sym (r .0)) em j in
                   let T : ℕ → Bool = λ k. eqb (oldAt w k) a and eqb (to k) (suc x) in
                   let here : T k ≡ eqb f (suc x) = yes-and _ (eq-eqb _ _ own) ∙ ap (λ (u : ℕ). eqb u (suc x)) (sym q) in
                   let g : getD marks₂ x 0 ≡ carried (getD marks₁ x 0) (T k) false

@@ -7,30 +7,60 @@ use Prim.Native.Nat.{ℕ, suc, _-_, _<_}
 use native.Mathlib.Omega.{arith}
 use lib.Dec.{eqb, ltb}
 use borrow.Author.Tests.{eqb-true, eq-eqb, lt-ltb, ltb-true}
-use Rattle.laws.specs.Tests.{_and_, any, choose, first, found}
+use Rattle.laws.specs.Tests.{_and_, any, choose, first, found, listed}
 use Rattle.laws.specs.TestLaws.{and-both, and-left, and-right, any-at, any-of, first-only, passes?, same-test}
 use Rattle.laws.specs.Lists.{choose-yes, choose-no}
-use Rattle.rules.specs.Graph.{Program, edgeCount, nodeCount, sourceAt}
-use Rattle.rules.specs.Closing.{fits, goesOn, joined, pairs}
+use Rattle.rules.specs.Text.{Bytes}
+use Rattle.rules.specs.Graph.{Program, edgeCount, nodeCount, sourceAt, targetAt}
+use Rattle.rules.specs.Closing.{alike, edge-ends, fits, goesOn, joined, pairs, sameWord}
 use Rattle.rules.specs.ProgramFile.{Listing}
-use Rattle.rules.specs.Proofs.Closure.{pairs-inside}
-use Rattle.rules.specs.Proofs.ClosingLaws.{fits-word, same-word}
+use Rattle.rules.specs.Proofs.Closure.{joined-iff, joined-of, pair-alike, pairs-complete, pairs-inside, pairs-sound}
+use Rattle.rules.specs.Proofs.ClosingLaws.{fits-of, fits-word, same-word}
 use Rattle.pairset.specs.Store.{newAt, oldAt, pairsIn}
 use Rattle.pairset.specs.StoreLaws.{listed-at, listed-of}
-use Rattle.versions.specs.Memory.{InMemory, Memory}
+use Rattle.versions.specs.Memory.{InMemory, Memory, memory}
 use Rattle.versions.specs.MemoryLaws.{well-formed}
 use Rattle.versions.specs.Found.{found-at}
-use Rattle.versions.specs.Held.{PairsHeld, joined-agree}
+use Rattle.versions.specs.Held.{PairsHeld, goesOn-agree, joined-agree}
 
 pub record Compared (v v′ : Memory) (w : List ℕ) (c : ℕ) (o p : Listing) : Type 0 where
   pub old-in : InMemory v o
   pub new-in : InMemory v′ p
   pub held : PairsHeld (o .program) (p .program) w c
 
--- The new node of a pair of the table is one.
-pub partner-below : {v v′ : Memory} {w : List ℕ} {c : ℕ} {o p : Listing} → Compared v v′ w c o p → (k : ℕ) → k < c → newAt w k < nodeCount (p .program)
-partner-below {w = w} {c = c} {o = o} {p = p} h k l =
-    pairs-inside (o .program) (p .program) (oldAt w k) (newAt w k) (sym (h .held .same (oldAt w k) (newAt w k)) ∙ listed-of w (oldAt w k) (newAt w k) c k l refl refl) .1
+-- Each pair of the table is listed; the new node of a listed pair is one.
+pub pair-there : (w : List ℕ) (c k : ℕ) → k < c → listed (pairsIn w c) (oldAt w k) (newAt w k) ≡ true
+pair-there w c k l = listed-of w (oldAt w k) (newAt w k) c k l refl refl
+
+pub partner-below : {v v′ : Memory} {w : List ℕ} {c : ℕ} {o p : Listing} → Compared v v′ w c o p → (n m : ℕ) → listed (pairsIn w c) n m ≡ true → m < nodeCount (p .program)
+partner-below {o = o} {p = p} h n m l = pairs-inside (o .program) (p .program) n m (sym (h .held .same n m) ∙ l) .1
+
+-- ---- an old edge at a pair that may go on
+
+-- `fitting`: 1 + the edge of the new node m that fits the old edge e, or 0, where the node that e leaves and m are a pair that may go on.
+unfoldable pub Fitting : Bytes → List ℕ → Bytes → List ℕ → List ℕ → ℕ → ℕ → ℕ → Type 0
+Fitting ot ol nt nl w e m r =
+    (on nn : List ℕ) (o p : Listing) (c : ℕ) → Compared (memory ot on ol) (memory nt nn nl) w c o p → e < edgeCount (o .program)
+    → listed (pairsIn w c) (sourceAt (o .program) e) m ≡ true → goesOn (o .program) (p .program) (pairsIn w c) (sourceAt (o .program) e) m ≡ true
+    → r ≡ found (first (edgeCount (p .program)) (λ f. eqb (sourceAt (p .program) f) m and fits (o .program) (p .program) e f))
+
+-- There the ends of edges of one word are alike just where they are a pair.
+pub ends-pair : {v v′ : Memory} {w : List ℕ} {c : ℕ} {o p : Listing} → Compared v v′ w c o p → (e f : ℕ) → e < edgeCount (o .program) → f < edgeCount (p .program)
+    → listed (pairsIn w c) (sourceAt (o .program) e) (sourceAt (p .program) f) ≡ true → goesOn (o .program) (p .program) (pairsIn w c) (sourceAt (o .program) e) (sourceAt (p .program) f) ≡ true
+    → sameWord (o .program) (p .program) e f ≡ true
+    → listed (pairsIn w c) (targetAt (o .program) e) (targetAt (p .program) f) ≡ alike (o .program) (p .program) (targetAt (o .program) e) (targetAt (p .program) f)
+ends-pair {v = v} {v′ = v′} {w = w} {c = c} {o = o} {p = p} h e f i j l g s =
+    let old = o .program in
+    let new = p .program in
+    let wo = well-formed v o (h .old-in) in
+    let wn = well-formed v′ p (h .new-in) in
+    h .held .same (targetAt old e) (targetAt new f)
+    ∙ same-test _ _ (λ t. pair-alike old new wo wn (pairs-sound old new _ _ t))
+    (λ t.
+    let z : joined old new (pairs old new) e f ≡ true
+    = joined-of old new (pairs old new) e f (sym (h .held .same _ _) ∙ l) (sym (goesOn-agree old new (pairsIn w c) (pairs old new) (h .held .same) _ _) ∙ g) (fits-of old new e f s t) in
+    let x = joined-iff old new wo wn e f i j .0 z in
+    pairs-complete old new wo wn (edge-ends (x .pair) (x .mayGoOn) i j (x .fit)))
 
 -- ---- the counterparts of an old edge, found along the pairs of the node that it leaves
 

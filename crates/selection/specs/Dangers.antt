@@ -1,12 +1,12 @@
 -- What the functions that find dangerous edges and the tests to repeat answer.
 use mathlib.Core.Path.{_≡_}
-use mathlib.Core.Bool.{Bool}
+use mathlib.Core.Bool.{Bool, true}
 use mathlib.Core.List.{List}
 use Prim.Native.Nat.{ℕ, _+_, _*_, _≤_, _<_}
 use lib.ListN.{drop, length}
-use Rattle.laws.specs.Tests.{has}
+use Rattle.laws.specs.Tests.{has, listed}
 use Rattle.laws.specs.Bits.{bitAt, bitIn}
-use Rattle.rules.specs.Graph.{Program, edgeCount, nodeCount, sourceAt}
+use Rattle.rules.specs.Graph.{Program, edgeCount, sourceAt}
 use Rattle.rules.specs.Closing.{Coverage, dangerousAt, dangers, meets}
 use Rattle.rules.specs.ProgramFile.{Listing}
 use Rattle.pairset.specs.Store.{pairsIn}
@@ -21,7 +21,7 @@ pub record DangerSet (old new : Program) (set : List ℕ) : Type 0 where
 -- `endangers`: the old edge e, which leaves the node n, is dangerous for the pair of n and m.
 unfoldable pub Endangers : Memory → Memory → List ℕ → ℕ → ℕ → ℕ → Bool → Type 0
 Endangers v v′ w e n m r =
-    (o p : Listing) (c : ℕ) → Compared v v′ w c o p → e < edgeCount (o .program) → n ≡ sourceAt (o .program) e → m < nodeCount (p .program)
+    (o p : Listing) (c : ℕ) → Compared v v′ w c o p → e < edgeCount (o .program) → n ≡ sourceAt (o .program) e → listed (pairsIn w c) n m ≡ true
     → r ≡ dangerousAt (o .program) (p .program) (pairsIn w c) e n m
 
 -- `dangerous`: the edge e, of so many old edges, is dangerous.

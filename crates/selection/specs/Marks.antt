@@ -1,14 +1,14 @@
 -- What the functions that find a test's marks leave and answer. While they are found, the mark of a new edge is `0` (48) until an old counterpart is seen to be crossed, then `?` (63),
 -- and `1` (49) once a crossed one has it as its only counterpart.
 use mathlib.Core.Path.{_≡_}
-use mathlib.Core.Bool.{Bool, false}
+use mathlib.Core.Bool.{Bool, true, false}
 use mathlib.Core.List.{List}
 use Prim.Native.Nat.{ℕ, _-_, _≤_, _<_}
 use lib.Dec.{eqb, ltb}
 use lib.ListN.{getD, length, set}
 use lib.Seq.{sets}
-use Rattle.laws.specs.Tests.{_and_, _⇒_, any, choose, every, first, found, isnt}
-use Rattle.rules.specs.Graph.{Program, edgeCount, nodeCount, sourceAt}
+use Rattle.laws.specs.Tests.{_and_, _⇒_, any, choose, every, first, found, isnt, listed}
+use Rattle.rules.specs.Graph.{Program, edgeCount, sourceAt}
 use Rattle.rules.specs.Closing.{Coverage, carries, carriesOnly, dangers, joined, meets, pairs}
 use Rattle.rules.specs.Sheet.{marksOf}
 use Rattle.rules.specs.ProgramFile.{Listing}
@@ -20,7 +20,7 @@ use Rattle.selection.specs.Compared.{Compared, counterpart}
 -- `joins`: 1 + the edge of the new node m that is joined with the old edge e, which leaves the node n, for the pair of n and m, or 0.
 unfoldable pub Joins : Memory → Memory → List ℕ → ℕ → ℕ → ℕ → ℕ → Type 0
 Joins v v′ w e n m r =
-    (o p : Listing) (c : ℕ) → Compared v v′ w c o p → e < edgeCount (o .program) → n ≡ sourceAt (o .program) e → m < nodeCount (p .program)
+    (o p : Listing) (c : ℕ) → Compared v v′ w c o p → e < edgeCount (o .program) → n ≡ sourceAt (o .program) e → listed (pairsIn w c) n m ≡ true
     → r ≡ counterpart (o .program) (p .program) (pairsIn w c) e m
 
 -- `differ`: both are numbers found, and not the same one. `either`: the first, or the second where the first is none.

@@ -5,8 +5,36 @@ ghost use lib.ListN.{replicate};
 ghost use lib.Seq.{sets};
 ghost use Rattle.laws.specs.Tests.{plus};
 ghost use Rattle.versions.specs.Memory.{memory};
+ghost use Rattle.selection.specs.Compared.{Fitting};
 ghost use Rattle.selection.specs.Dangers.{DangerWord, DangersMarked, Endangers, IsDangerous, Repeats};
 ghost use Rattle.selection.specs.Marks.{AllCarried, AllRaised, Carried, Joins, MarksFound, Only, differs, eitherOf, markedOne, raised};
+
+// ---- an old edge at a pair
+
+// 1 + the edge of the new node m that fits the old edge e, or 0, where the node that e leaves and m are a pair that may go on: then the ends are
+// alike just where they are a pair.
+fn fitting(
+    ot: &[u8],
+    ol: &[usize],
+    nt: &[u8],
+    nl: &[usize],
+    w: &[usize],
+    e: usize,
+    m: usize,
+) -> usize
+    ensures { λ r. ⌜ Fitting (now (ot .entry)) (now (ol .entry)) (now (nt .entry)) (now (nl .entry)) (now (w .entry)) e m r ⌝ }
+{
+    let t = versions::taken(ot, ol, nt, nl, e, m);
+    if t == 0 {
+        return 0;
+    }
+    let a = versions::target(ol, e);
+    let b = versions::target(nl, t - 1);
+    if pairset::has(w, a, b) {
+        return t;
+    }
+    0
+}
 
 // ---- dangerous edges
 
@@ -26,7 +54,7 @@ fn endangers(
     ensures { λ r. ⌜ Endangers (memory (now (ot .entry)) (now (on .entry)) (now (ol .entry))) (memory (now (nt .entry)) (now (nn .entry)) (now (nl .entry))) (now (w .entry)) e n m r ⌝ }
 {
     if versions::goes_on(on, ol, nn, nl, w, n, m) {
-        return versions::fitting(ot, on, ol, nt, nn, nl, e, m) == 0;
+        return fitting(ot, ol, nt, nl, w, e, m) == 0;
     }
     false
 }
@@ -149,7 +177,7 @@ fn joins(
     ensures { λ r. ⌜ Joins (memory (now (ot .entry)) (now (on .entry)) (now (ol .entry))) (memory (now (nt .entry)) (now (nn .entry)) (now (nl .entry))) (now (w .entry)) e n m r ⌝ }
 {
     if versions::goes_on(on, ol, nn, nl, w, n, m) {
-        return versions::fitting(ot, on, ol, nt, nn, nl, e, m);
+        return fitting(ot, ol, nt, nl, w, e, m);
     }
     0
 }

@@ -94,7 +94,7 @@ fn lines(
 )
     requires { ⌜ Few had ⌝ }
 {
-    let mut w = [0usize; 12800];
+    let mut w = [0usize; 16896];
     let mut set = [0u64; 16];
     let edges = had.old_edges;
     let pairs = work::select(ot, on, ol, nt, nn, nl, edges, &mut w, &mut set);

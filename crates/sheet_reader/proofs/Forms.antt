@@ -2,15 +2,16 @@
 use mathlib.Core.Path.{_≡_, refl, sym, ap, ap₂, _∙_}
 use mathlib.Core.Bool.{Bool, true, false}
 use mathlib.Core.List.{List, [], _∷_}
-use Prim.Native.Nat.{ℕ, min}
-use lib.ListN.{length, getD}
+use Prim.Native.Nat.{ℕ, _+_, _≤_, _<_, min}
+use lib.ListN.{length, take, drop}
 use Rattle.laws.specs.Tests.{_and_, choose}
 use Rattle.laws.specs.TestLaws.{and-left, and-right, both-ways, fails}
 use Rattle.laws.specs.Lists.{choose-no}
-use Rattle.laws.specs.Slices.{two-are, three-are, four-are}
 use Rattle.rules.specs.Text.{Bytes, bytes, isName, isNumber, joinBy, onto, same, split, valueFrom}
 use Rattle.rules.specs.Sheet.{head-line, headLine, sheetForm}
-use Rattle.rules.specs.Proofs.TextLaws.{join-split, same-of, same-true}
+use Rattle.rules.specs.Proofs.TextLaws.{join-split, same-of, same-true, split-cons}
+use Rattle.text.specs.Scans.{span}
+use Rattle.text.specs.SplitLaws.{cut, first-last, first-more, uncut}
 use Rattle.sheet_reader.specs.declared.Form.{Form}
 use Rattle.sheet_reader.specs.declared.Form.the-variants.{Edge, End, Head, Nothing, Pair, Test}
 use Rattle.sheet_reader.specs.Forms.{isEnd, shape, twoForm}
@@ -110,15 +111,6 @@ two-fields : (f a : Bytes) → (same f (bytes "sheet") and same a (bytes "1")) �
 unfolding sheetForm twoForm
 two-fields f a h = choose-no head-line (twoForm f a) h
 
-none-other : (fs : List Bytes) → (length fs ≡ 2 → ⊥) → (length fs ≡ 3 → ⊥) → (length fs ≡ 4 → ⊥) → Nothing ≡ shape (sheetForm fs)
-unfolding sheetForm shape
-none-other [] h k m = refl
-none-other (f ∷ []) h k m = refl
-none-other (f ∷ a ∷ []) h k m = absurd (h refl)
-none-other (f ∷ a ∷ b ∷ []) h k m = absurd (k refl)
-none-other (f ∷ a ∷ b ∷ c ∷ []) h k m = absurd (m refl)
-none-other (f ∷ a ∷ b ∷ c ∷ d ∷ ds) h k m = refl
-
 head-form : shape (sheetForm (split 44 headLine)) ≡ Head
 unfolding split onto sheetForm shape choose same _and_
 head-form = refl
@@ -138,21 +130,32 @@ module _ (l : Bytes) (t : Bool) (e : t ≡ same l (115 ∷ 104 ∷ 101 ∷ 101 �
       ∙ ap₂ (λ (x z : Bytes). joinBy 44 (x ∷ z ∷ [])) (same-true f (bytes "sheet") (and-left _ _ y)) (same-true a (bytes "1") (and-right _ _ y)) in
       both-ways (same-of q) (sym e ∙ n))
 
-  module _ (n : ℕ) (h : t ≡ false) (m : n ≡ length (split 44 l)) where
-    pub line-two : (f a : Bytes) (r : Form) → n ≡ 2 → f ≡ getD (split 44 l) 0 [] → a ≡ getD (split 44 l) 1 [] → r ≡ shape (twoForm f a) → r ≡ shape (sheetForm (split 44 l))
-    line-two f a r k p q g =
-        let s : split 44 l ≡ f ∷ a ∷ [] = two-are (split 44 l) [] (sym m ∙ k) ∙ ap₂ (λ (x z : Bytes). x ∷ z ∷ []) (sym p) (sym q) in
-        g ∙ sym (ap (λ (fs : List Bytes). shape (sheetForm fs)) s ∙ ap shape (two-fields f a (no-head h f a s)))
+  module _ (f : Bytes) (ef : f ≡ take (span 44 l) l) where
+    pub line-one : length l ≤ length f → Nothing ≡ shape (sheetForm (split 44 l))
+    unfolding sheetForm shape
+    line-one h = sym (simp (first-last 44 l f ef h))
 
-    pub line-three : (f a b : Bytes) (r : Form) → n ≡ 3 → f ≡ getD (split 44 l) 0 [] → a ≡ getD (split 44 l) 1 [] → b ≡ getD (split 44 l) 2 []
-        → r ≡ shape (sheetForm (f ∷ a ∷ b ∷ [])) → r ≡ shape (sheetForm (split 44 l))
-    line-three f a b r k p q s g = g ∙ simp (p, q, s) (ap (λ (fs : List Bytes). shape (sheetForm fs)) (sym (three-are (split 44 l) [] (sym m ∙ k))))
+    module _ (rest a : Bytes) (h : length f < length l) (er : rest ≡ drop (length f + 1) l) (ea : a ≡ take (span 44 rest) rest) where
+      pub line-two : (r : Form) → t ≡ false → length rest ≤ length a → r ≡ shape (twoForm f rest) → r ≡ shape (sheetForm (split 44 l))
+      line-two r n k g =
+          let s : split 44 l ≡ f ∷ rest ∷ [] = first-more 44 l f ef rest h er ∙ ap (λ (fs : List Bytes). f ∷ fs) (first-last 44 rest a ea k) in
+          g ∙ sym (ap (λ (fs : List Bytes). shape (sheetForm fs)) s ∙ ap shape (two-fields f rest (no-head n f rest s)))
 
-    pub line-four : (f a b c : Bytes) (r : Form) → n ≡ 4 → f ≡ getD (split 44 l) 0 [] → a ≡ getD (split 44 l) 1 [] → b ≡ getD (split 44 l) 2 [] → c ≡ getD (split 44 l) 3 []
-        → r ≡ shape (sheetForm (f ∷ a ∷ b ∷ c ∷ [])) → r ≡ shape (sheetForm (split 44 l))
-    line-four f a b c r k p q s u g = g ∙ simp (p, q, s, u) (ap (λ (fs : List Bytes). shape (sheetForm fs)) (sym (four-are (split 44 l) [] (sym m ∙ k))))
+      module _ (more b : Bytes) (k : length a < length rest) (em : more ≡ drop (length a + 1) rest) (eb : b ≡ take (span 44 more) more) where
+        pub line-three : (r : Form) → length more ≤ length b → r ≡ shape (sheetForm (f ∷ a ∷ more ∷ [])) → r ≡ shape (sheetForm (split 44 l))
+        line-three r i g = g ∙ sym (simp (first-more 44 l f ef rest h er, first-more 44 rest a ea more k em, first-last 44 more b eb i))
 
-    pub line-other : (n ≡ 2 → ⊥) → (n ≡ 3 → ⊥) → (n ≡ 4 → ⊥) → Nothing ≡ shape (sheetForm (split 44 l))
-    line-other x y z = none-other (split 44 l) (λ q. x (m ∙ q)) (λ q. y (m ∙ q)) (λ q. z (m ∙ q))
+        module _ (c : Bytes) (i : length b < length more) (ec : c ≡ drop (length b + 1) more) (n : ℕ) (en : n ≡ span 44 c) where
+          all-fields : split 44 l ≡ f ∷ a ∷ b ∷ split 44 c
+          all-fields = simp (first-more 44 l f ef rest h er, first-more 44 rest a ea more k em, first-more 44 more b eb c i ec)
 
-pub ruleset lines = (line-head, line-two, line-three, line-four, line-other)
+          pub line-four : (r : Form) → length c ≤ n → r ≡ shape (sheetForm (f ∷ a ∷ b ∷ c ∷ [])) → r ≡ shape (sheetForm (split 44 l))
+          line-four r j g = g ∙ sym (simp (all-fields, uncut 44 c n en j))
+
+          pub line-five : n < length c → Nothing ≡ shape (sheetForm (split 44 l))
+          unfolding sheetForm shape
+          line-five j =
+              let s = split-cons 44 (drop (n + 1) c) in
+              sym (simp (all-fields, cut 44 c (take n c) (drop (n + 1) c) n en j refl refl, s .2))
+
+pub ruleset lines = (line-head, line-one, line-two, line-three, line-four, line-five)

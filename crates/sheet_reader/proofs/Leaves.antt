@@ -3,35 +3,21 @@ use mathlib.Core.Path.{_≡_, refl, sym, ap, _∙_}
 use mathlib.Core.Bool.{Bool, true, false}
 use mathlib.Core.Option.{none}
 use mathlib.Core.List.{List}
-use Prim.Native.Nat.{ℕ, _+_, _*_, _/_, _%_, _^_, _≤_, _<_}
+use Prim.Native.Nat.{ℕ, _+_, _*_, _≤_, _<_}
 use native.Mathlib.Numerals.{add-one}
-use native.Mathlib.Nat.{one-mul}
 use native.Mathlib.Omega.{arith}
-use lib.Bits.{bitOr}
 use lib.Dec.{eqb, leb}
-use lib.ListN.{length, getD, set}
-use lib.Pow.{shl-exact}
-use lib.Seq.{set-out}
 use borrow.Author.Tests.{eq-eqb, le-ltb, lt-ltb, ne-eqb}
 use Rattle.laws.specs.Tests.{_and_, first, found, isnt}
 use Rattle.laws.specs.TestLaws.{first-least, first-skip}
+use Rattle.laws.specs.BitSets.{bit-in, bit-out}
 use Rattle.rules.specs.Text.{Bytes, same}
 use Rattle.suite.specs.Reading.{nameAt}
 use Rattle.text.proofs.Laws.{clear-done, clear-on}
 use Rattle.sheet_reader.specs.declared.State.{State}
-use Rattle.sheet_reader.specs.Reading.{edgeFits, endFits, pairFits, testFits, testIn, underway, withBit}
+use Rattle.sheet_reader.specs.Reading.{edgeFits, endFits, pairFits, testFits, testIn, underway}
 
 -- ---- `clear_words`, `set_bit`
-
-pub bit-out : (ws : List ℕ) (i : ℕ) → length ws ≤ i / 64 → ws ≡ withBit ws i
-unfolding withBit
-bit-out ws i h = sym (set-out ws (i / 64) _ h)
-
-pub bit-in : (ws : List ℕ) (i : ℕ) → set ws (i / 64) (bitOr (getD ws (i / 64) 0) (1 * 2 ^ (i % 64) % 18446744073709551616)) ≡ withBit ws i
-unfolding withBit
-bit-in ws i =
-    ap (λ (x : ℕ). set ws (i / 64) (bitOr (getD ws (i / 64) 0) x))
-    (shl-exact {a = 1} 1 (i % 64) 64 (omega arith) (omega arith) ∙ one-mul (2 ^ (i % 64)))
 
 pub ruleset bits = (clear-on, clear-done, bit-out, bit-in)
 

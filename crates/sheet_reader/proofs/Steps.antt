@@ -13,14 +13,14 @@ use Rattle.laws.specs.TestLaws.{and-left, and-right, false-isnt, true-isnt}
 use Rattle.laws.specs.Lists.{snoc-length}
 use Rattle.laws.specs.Slices.{same-or}
 use Rattle.laws.specs.Bits.{bitIn}
+use Rattle.laws.specs.BitSets.{bit-with, withBit}
 use Rattle.rules.specs.Text.{Answer, Bytes, accepted, unless, value}
 use Rattle.rules.specs.Graph.{Program, edgeCount, nodeCount}
 use Rattle.rules.specs.Sheet.{SheetRead, addD, addM, addR, allBelow, going, openSheet, pairsBefore, takeSheetLine, testOf}
 use Rattle.pairset.specs.Store.{Appended, Appends}
 use Rattle.sheet_reader.specs.declared.State.{State}
-use Rattle.sheet_reader.specs.BitLaws.{bit-with}
 use Rattle.sheet_reader.specs.Forms.{kept}
-use Rattle.sheet_reader.specs.Reading.{AddsEdge, AddsPair, AddsTest, After, Ends, Holds, Opens, PairsUpTo, Refusal, Small, UpTo, edgeFits, endFits, pairFits, testFits, underway, withBit}
+use Rattle.sheet_reader.specs.Reading.{AddsEdge, AddsPair, AddsTest, After, Ends, Holds, Opens, PairsUpTo, Refusal, Small, UpTo, edgeFits, endFits, pairFits, testFits, underway}
 use Rattle.sheet_reader.proofs.Orders.{and-when, has-snoc, kept-below, kept-is, kept-same, none-is, pairs-up-more, up-more}
 
 -- ---- a test that refuses, and one that passes
@@ -201,10 +201,10 @@ module _ (olds news n a b : ℕ) (c : State) (w : List ℕ) where
             test = c .test;
           }
 
-      held-pair : (s : SheetRead) (sets w′ : List ℕ) → 12800 ≤ length w → Appended w (c .pairs) a b w′ → Holds w sets c s → Holds w′ sets withPair (addM a b s)
+      held-pair : (s : SheetRead) (sets w′ : List ℕ) → 16896 ≤ length w → Appended w (c .pairs) a b w′ → Holds w sets c s → Holds w′ sets withPair (addM a b s)
       unfolding Appends
       held-pair s sets w′ long ap hold =
-          let p = ap .appends (hold .held .store) (omega (arith, pair-old)) (omega arith) in
+          let p = ap .appends (hold .held .store) (omega (arith, pair-old)) (omega (arith, pair-new)) (omega arith) in
           record {
             opened-is = hold .opened-is;
             shut-is = hold .shut-is;
@@ -222,7 +222,7 @@ module _ (olds news n a b : ℕ) (c : State) (w : List ℕ) where
             };
           }
 
-      pub pair-more : (w′ : List ℕ) → 12800 ≤ length w → Appended w (c .pairs) a b w′ → AddsPair olds news n a b c w withPair w′
+      pub pair-more : (w′ : List ℕ) → 16896 ≤ length w → Appended w (c .pairs) a b w′ → AddsPair olds news n a b c w withPair w′
       unfolding AddsPair takeSheetLine
       pair-more w′ long ap old new suite s sets x z eo en ea eb hold =
           let xs : a ≡ value x = ea ∙ kept-is (value x) olds (omega arith) (subst (λ (i : ℕ). i < olds) ea pair-old) in

@@ -4,17 +4,17 @@ use mathlib.Core.Path.{_≡_, refl, sym, ap, ap₂, _∙_, subst}
 use mathlib.Core.Bool.{Bool, true, false, true≢false}
 use mathlib.Core.Option.{Option, none, some}
 use mathlib.Core.List.{List, [], _∷_}
-use Prim.Native.Nat.{ℕ, suc, _+_, _-_, _/_, _%_, _≤_, _<_}
+use Prim.Native.Nat.{ℕ, suc, _+_, _-_, _≤_, _<_}
 use native.Mathlib.Numerals.{add-one}
 use native.Mathlib.Omega.{arith}
-use lib.ListN.{length, getD, take, drop, length-drop, replicate, length-replicate, getD-replicate, List·getD-eq-default}
+use lib.ListN.{length, getD, take, drop, length-drop, replicate}
 use lib.Seq.{length-take-le}
 use borrow.Author.Tests.{le-ltb, lt-ltb}
 use Rattle.laws.specs.Tests.{_and_, choose, first, found, has, isnt}
 use Rattle.laws.specs.TestLaws.{first-at, true-isnt, false-isnt}
 use Rattle.laws.specs.Counting.{first-agree}
-use Rattle.laws.specs.Slices.{below-or, drop-end}
-use Rattle.laws.specs.Bits.{bitAt, bitIn, bit-none}
+use Rattle.laws.specs.Slices.{drop-end}
+use Rattle.laws.specs.BitSets.{clear-bits}
 use Rattle.rules.specs.Text.{Answer, Bytes, accepted, bytes, empty, isName, isNumber, readLines, readText, refused, same, split, then, unless}
 use Rattle.rules.specs.Graph.{Program}
 use Rattle.rules.specs.SuiteFile.{Suite, testCount, testName}
@@ -374,25 +374,15 @@ pub ruleset turns = (head-start, no-end, turn-at, turn-next, turn-number, head-o
 
 -- ---- `read_sheet`
 
-pub clear-store : (w v : List ℕ) → v ≡ replicate (length w) 0 → 12800 ≤ length w → Store v 0
+pub clear-store : (w v : List ℕ) → v ≡ replicate (length w) 0 → 16896 ≤ length w → Store v 0
 clear-store w v e h = subst (λ (x : List ℕ). Store x 0) (sym e) (store-clear (length w) (omega arith))
-
-clear-word : (n k : ℕ) → getD {A = ℕ} (replicate n 0) k 0 ≡ 0
-clear-word n k =
-    below-or k n
-    (λ h. getD-replicate n k 0 0 h)
-    (λ h. List·getD-eq-default (replicate {A = ℕ} n 0) 0 (let z : length (replicate {A = ℕ} n 0) ≤ k = omega (arith, length-replicate {A = ℕ} n 0) in z))
-
-clear-bits : (s : List ℕ) (n : ℕ) → s ≡ replicate n 0 → (e : ℕ) → bitIn s e ≡ false
-unfolding bitIn
-clear-bits s n q e = ap (λ (l : List ℕ). bitAt (getD l (e / 64) 0) (e % 64)) q ∙ ap (λ (x : ℕ). bitAt x (e % 64)) (clear-word n (e / 64)) ∙ bit-none (e % 64)
 
 module _ (olds news edges : ℕ) (tt : Bytes) (table : List ℕ) (count : ℕ) (sheet : Bytes) (r : Result) (w′ sets′ : List ℕ) where
   pub sheet-long : 65536 < length sheet → r .number ≡ 1 → r .place ≡ 0 → Reads olds news edges tt table count sheet r w′ sets′
   unfolding Reads readSheet readText unless
   sheet-long h en ep old new suite for = simp (lt-ltb 65536 (length sheet) h) (en, ep, omega arith)
 
-  pub sheet-read : (w sets w₁ sets₁ : List ℕ) → length sheet ≤ 65536 → 12800 ≤ length w → w₁ ≡ replicate (length w) 0 → sets₁ ≡ replicate (length sets) 0
+  pub sheet-read : (w sets w₁ sets₁ : List ℕ) → length sheet ≤ 65536 → 16896 ≤ length w → w₁ ≡ replicate (length w) 0 → sets₁ ≡ replicate (length sets) 0
       → Lines olds news edges tt table count sheet w₁ sets₁ r w′ sets′ → Reads olds news edges tt table count sheet r w′ sets′
   unfolding Reads Lines readSheet readText unless
   sheet-read w sets w₁ sets₁ h k ew es a old new suite for =

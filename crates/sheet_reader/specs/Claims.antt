@@ -1,17 +1,15 @@
 -- What the reader of sheets promises: its answer is the definition's, and the tables hold the claims of an accepted sheet.
-use mathlib.Core.Path.{_≡_, refl}
+use mathlib.Core.Path.{_≡_}
 use mathlib.Core.List.{List}
 use Prim.Native.Nat.{ℕ, _+_, _≤_, _<_}
 use Rattle.laws.specs.Tests.{has}
 use Rattle.laws.specs.Bits.{bitIn}
 use Rattle.rules.specs.Text.{Answer, Bytes, accepted, refused}
 use Rattle.rules.specs.Graph.{Program, edgeCount, nodeCount}
-use Rattle.rules.specs.SuiteFile.{Suite, TestListing, readTests, testCount, testName}
+use Rattle.rules.specs.SuiteFile.{Suite, testCount, testName}
 use Rattle.rules.specs.Sheet.{Sheet, readSheet}
 use Rattle.pairset.specs.Store.{Store, pairsIn}
 use Rattle.suite.specs.Reading.{nameAt}
-use Rattle.suite.specs.Rows.{Holds}
-use Rattle.suite.specs.RowLaws.{name-read}
 use Rattle.sheet_reader.specs.declared.SheetRead.{SheetRead}
 
 -- The programs and the suite that a sheet is read for: so many old and new nodes, old edges and tests, and the names that the table gives in the text of the tests.
@@ -42,15 +40,3 @@ Reads olds news edges tt table count sheet r w sets =
 pub record SheetTold (olds news edges : ℕ) (tt : Bytes) (table : List ℕ) (count : ℕ) (sheet : Bytes) (r : SheetRead) (w sets : List ℕ) : Type 0 where
   pub reads : Reads olds news edges tt table count sheet r w sets
   pub few : r .pairs ≤ 4096
-
--- A suite that was read and that the tables hold is one that a sheet can be read for.
-pub for-read : (old new : Program) (tt : Bytes) (l : TestListing) (table rows : List ℕ) (count : ℕ) → readTests (edgeCount old) tt ≡ accepted l → Holds (edgeCount old) table rows count l
-    → For (nodeCount old) (nodeCount new) (edgeCount old) tt table count old new (l .suite)
-for-read old new tt l table rows count e hold =
-    record {
-      old-nodes = refl;
-      new-nodes = refl;
-      old-edges = refl;
-      counted = hold .counted;
-      names = λ i h. name-read (edgeCount old) tt l table rows count i e hold h;
-    }

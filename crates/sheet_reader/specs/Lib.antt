@@ -2,4 +2,3 @@
 pub mod Forms
 pub mod Claims
 pub mod Reading
-pub mod BitLaws

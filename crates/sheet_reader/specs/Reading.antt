@@ -2,10 +2,9 @@
 use mathlib.Core.Path.{_≡_}
 use mathlib.Core.Bool.{Bool, false}
 use mathlib.Core.List.{List}
-use Prim.Native.Nat.{ℕ, _+_, _*_, _/_, _%_, _^_, _≤_, _<_}
-use lib.Bits.{bitOr}
+use Prim.Native.Nat.{ℕ, _+_, _*_, _≤_, _<_}
 use lib.Dec.{eqb, leb, ltb}
-use lib.ListN.{length, getD, set}
+use lib.ListN.{length}
 use Rattle.laws.specs.Tests.{_and_, first, found, isnt}
 use Rattle.laws.specs.Bits.{bitIn}
 use Rattle.rules.specs.Text.{Answer, Bytes, accepted, linesOf, readLines, refused, same}
@@ -64,11 +63,7 @@ pub record Refusal (k p : ℕ) (r : State) : Type 0 where
 abbrev pub nothingRead : State
 nothingRead = record { number = 0; place = 0; opened = false; shut = false; pairs = 0; edges = 0; tests = 0; pair = 0; edge = 0; test = 0 }
 
--- ---- bits and names
-
--- `set_bit`: the words with the bit i set.
-unfoldable pub withBit : List ℕ → ℕ → List ℕ
-withBit ws i = set ws (i / 64) (bitOr (getD ws (i / 64) 0) (2 ^ (i % 64)))
+-- ---- names
 
 -- `test_of`: 1 + the first of n tests that has the name, or 0.
 unfoldable pub testIn : Bytes → List ℕ → ℕ → Bytes → ℕ

@@ -3,6 +3,7 @@ ghost use mathlib.Core.Path.{_≡_};
 ghost use mathlib.Core.List.{_∷_, []};
 ghost use Prim.Native.Nat.{_≤_};
 ghost use lib.ListN.{length, replicate};
+ghost use Rattle.laws.specs.BitSets.{withBit};
 ghost use Rattle.rules.specs.Text.{fieldsOf};
 ghost use Rattle.rules.specs.Sheet.{sheetForm};
 ghost use Rattle.sheet_reader.specs.Claims.{SheetTold};
@@ -25,7 +26,6 @@ ghost use Rattle.sheet_reader.specs.Reading.{
   testFits,
   testIn,
   underway as isUnderway,
-  withBit,
 };
 
 // What was read: a refusal by number and place, where the number is not 0, or how many pairs there are.
@@ -132,26 +132,25 @@ fn form_of(l: &[u8]) -> Form
     if text::same(l, &text::SHEET_HEAD) {
         return Form::Head;
     }
-    let n = text::count(l, 44);
-    if n == 2 {
-        return two(text::field(l, 44, 0), text::field(l, 44, 1));
+    let f = text::first_short(l, 44);
+    if l.len() <= f.len() {
+        return Form::Nothing;
     }
-    if n == 3 {
-        return three(
-            text::field(l, 44, 0),
-            text::field(l, 44, 1),
-            text::field(l, 44, 2),
-        );
+    let rest = text::after(l, f.len() + 1);
+    let a = text::first_short(rest, 44);
+    if rest.len() <= a.len() {
+        return two(f, rest);
     }
-    if n == 4 {
-        return four(
-            text::field(l, 44, 0),
-            text::field(l, 44, 1),
-            text::field(l, 44, 2),
-            text::field(l, 44, 3),
-        );
+    let more = text::after(rest, a.len() + 1);
+    let b = text::first_short(more, 44);
+    if more.len() <= b.len() {
+        return three(f, a, more);
     }
-    Form::Nothing
+    let c = text::after(more, b.len() + 1);
+    if text::find(c, 44) < c.len() {
+        return Form::Nothing;
+    }
+    four(f, a, b, c)
 }
 
 // ---- bits and names
@@ -307,7 +306,7 @@ fn add_pair(
     w: &mut [usize],
 ) -> State
     requires { ⌜ Small had ⌝ }
-    requires { ⌜ (olds ≤ 512) × (news ≤ 512) × (12800 ≤ length (now w)) ⌝ }
+    requires { ⌜ (olds ≤ 512) × (news ≤ 512) × (16896 ≤ length (now w)) ⌝ }
     ensures { λ r. ⌜ AddedPair olds news n a b had (now (w .entry)) r (now (w .exit)) ⌝ }
 {
     let pairs = had.pairs;
@@ -471,7 +470,7 @@ fn step(
     sets: &mut [u64],
 ) -> State
     requires { ⌜ Small had ⌝ }
-    requires { ⌜ (olds ≤ 512) × (news ≤ 512) × (edges ≤ 1024) × (count ≤ 200) × (12800 ≤ length (now w)) × (20 ≤ length (now sets)) ⌝ }
+    requires { ⌜ (olds ≤ 512) × (news ≤ 512) × (edges ≤ 1024) × (count ≤ 200) × (16896 ≤ length (now w)) × (20 ≤ length (now sets)) ⌝ }
     ensures { λ r. ⌜ Stepped olds news edges (now (tt .entry)) (now (tests .entry)) count n (now (line .entry)) had (now (w .entry)) (now (sets .entry)) r (now (w .exit)) (now (sets .exit)) ⌝ }
 {
     let form = form_of(line);
@@ -522,7 +521,7 @@ fn read_lines(
     w: &mut [usize],
     sets: &mut [u64],
 ) -> SheetRead
-    requires { ⌜ (length (now sheet) ≤ 65536) × (olds ≤ 512) × (news ≤ 512) × (edges ≤ 1024) × (count ≤ 200) × (12800 ≤ length (now w)) × (20 ≤ length (now sets)) ⌝ }
+    requires { ⌜ (length (now sheet) ≤ 65536) × (olds ≤ 512) × (news ≤ 512) × (edges ≤ 1024) × (count ≤ 200) × (16896 ≤ length (now w)) × (20 ≤ length (now sets)) ⌝ }
     ensures { λ r. ⌜ LinesRead olds news edges (now (tt .entry)) (now (tests .entry)) count (now (sheet .entry)) (now (w .entry)) (now (sets .entry)) r (now (w .exit)) (now (sets .exit)) ⌝ }
 {
     let mut at = 0;
@@ -566,7 +565,7 @@ pub fn read_sheet(
     w: &mut [usize],
     sets: &mut [u64],
 ) -> SheetRead
-    requires { ⌜ (olds ≤ 512) × (news ≤ 512) × (edges ≤ 1024) × (count ≤ 200) × (12800 ≤ length (now w)) × (20 ≤ length (now sets)) ⌝ }
+    requires { ⌜ (olds ≤ 512) × (news ≤ 512) × (edges ≤ 1024) × (count ≤ 200) × (16896 ≤ length (now w)) × (20 ≤ length (now sets)) ⌝ }
     ensures { λ r. ⌜ SheetTold olds news edges (now (tt .entry)) (now (tests .entry)) count (now (sheet .entry)) r (now (w .exit)) (now (sets .exit)) ⌝ }
 {
     if 65536 < sheet.len() {

@@ -1,85 +1,130 @@
 -- The turns and the returns of the functions that look at a line: its form, its name, its row.
-use mathlib.Core.Path.{_≡_, refl, sym, ap, ap₂, _∙_}
-use mathlib.Core.Bool.{Bool, true, false, true≢false, false≢true}
+use mathlib.Core.Path.{_≡_, refl, sym, ap, ap₂, _∙_, subst}
+use mathlib.Core.Bool.{Bool, true, false}
 use mathlib.Core.List.{List, [], _∷_}
 use Prim.Native.Nat.{ℕ, _+_, _*_, _/_, _%_, _^_, _≤_, _<_}
 use native.Mathlib.Numerals.{add-one}
 use native.Mathlib.Omega.{arith}
-use lib.Dec.{eqb}
-use lib.ListN.{length, getD, take, drop}
+use lib.Dec.{eqb, ltb}
+use lib.ListN.{length, getD, take, drop, length-drop}
 use lib.Seq.{drop-drop}
-use borrow.Author.Tests.{eq-eqb, ne-eqb}
+use borrow.Author.Tests.{eq-eqb, ne-eqb, eqb-true, leb-true, lt-ltb, ltb-true}
 use Rattle.laws.specs.Tests.{_and_, _or_, isnt, any, choose}
-use Rattle.laws.specs.TestLaws.{any-of}
-use Rattle.laws.specs.Slices.{drop-at, drop-end, three-are}
+use Rattle.laws.specs.TestLaws.{and-both, and-left, and-right, any-of, both-ways, fails, true-isnt}
+use Rattle.laws.specs.Slices.{below-or, drop-at, drop-end}
 use Rattle.laws.specs.Bits.{wordOf, word-none, word-drop}
-use Rattle.rules.specs.Text.{Bytes, same, split, isName, allBytes}
-use Rattle.rules.specs.SuiteFile.{TestLine, bitsOf, hexByte, noneSet, no-test, rowFine, test-line, testForm}
-use Rattle.text.specs.Scans.{classByte}
-use Rattle.suite.specs.Reading.{isTest, nameAt, nameIn}
+use Rattle.rules.specs.Text.{Bytes, same, split, between, isName, allBytes}
+use Rattle.rules.specs.Proofs.TextLaws.{allBytes-more, other, same-true, split-cons, split-free}
+use Rattle.rules.specs.SuiteFile.{bitsOf, hexByte, noneSet, no-test, rowFine, test-line, testForm}
+use Rattle.text.specs.Scans.{classByte, span}
+use Rattle.text.specs.SplitLaws.{cut, first-last, first-more}
+use Rattle.suite.specs.Reading.{beginsTest, firstField, nameAt, nameIn}
 use Rattle.suite.proofs.Laws.{drop-bits}
 
--- ---- `is_test`
+-- ---- `begins_test`, and what the line says by it
 
-form-three : (f a b : Bytes) → isTest (testForm (f ∷ a ∷ b ∷ [])) ≡ (same f (84 ∷ []) and isName a)
-unfolding testForm isTest choose
-form-three f a b = go (same f (84 ∷ []) and isName a)
-  where
-    go : (t : Bool) → isTest (choose t (test-line a b) no-test) ≡ t
-    go true = refl
-    go false = refl
+form-three : (f a b : Bytes) (cs : List Bytes) → (same f (84 ∷ []) and isName a) ≡ false → testForm (f ∷ a ∷ b ∷ cs) ≡ no-test
+unfolding testForm choose
+form-three f a b [] h = simp h
+form-three f a b (c ∷ cs) h = refl
 
-form-other : (fs : List Bytes) → (length fs ≡ 3 → ⊥) → testForm fs ≡ no-test
+form-four : (f a b : Bytes) (cs : List Bytes) → 1 ≤ length cs → testForm (f ∷ a ∷ b ∷ cs) ≡ no-test
 unfolding testForm
-form-other [] h = refl
-form-other (f ∷ []) h = refl
-form-other (f ∷ a ∷ []) h = refl
-form-other (f ∷ a ∷ b ∷ []) h = absurd (h refl)
-form-other (f ∷ a ∷ b ∷ c ∷ cs) h = refl
+form-four f a b [] h = absurd (let z : ⊥ = omega arith in z)
+form-four f a b (c ∷ cs) h = refl
 
--- The form by what the test of it says.
-choose-is : (t : Bool) (a b : Bytes) → isTest (choose t (test-line a b) no-test) ≡ true → choose t (test-line a b) no-test ≡ test-line a b
-unfolding choose isTest
-choose-is true a b h = refl
-choose-is false a b h = absurd (false≢true h)
+module _ (line f : Bytes) (ef : f ≡ firstField line) where
+  -- After `T` and a comma.
+  after-letter : f ≡ 84 ∷ [] → drop (length f + 1) line ≡ drop 2 line
+  after-letter e = ap (λ (x : Bytes). drop (length x + 1) line) e
 
-pub form-is : (fs : List Bytes) → isTest (testForm fs) ≡ true → testForm fs ≡ test-line (getD fs 1 []) (getD fs 2 [])
-unfolding testForm isTest
-form-is [] h = absurd (false≢true h)
-form-is (f ∷ []) h = absurd (false≢true h)
-form-is (f ∷ a ∷ []) h = absurd (false≢true h)
-form-is (f ∷ a ∷ b ∷ []) h = choose-is (same f (84 ∷ []) and isName a) a b h
-form-is (f ∷ a ∷ b ∷ c ∷ cs) h = absurd (false≢true h)
+  pub begins-not : (t : Bool) → t ≡ same f (84 ∷ []) → t ≡ false → false ≡ beginsTest line
+  unfolding beginsTest _and_
+  begins-not t e y = sym (simp (← ef, ← e, y))
 
-pub form-not : (fs : List Bytes) → isTest (testForm fs) ≡ false → testForm fs ≡ no-test
-unfolding isTest
-form-not fs h = no (testForm fs) h
+  module _ (t : Bool) (et : t ≡ same f (84 ∷ [])) (yt : t ≡ true) (rest name : Bytes) (er : rest ≡ drop 2 line) (en : name ≡ take (span 44 rest) rest) (u : Bool) (eu : u ≡ isName name) where
+    begins-is : beginsTest line ≡ (u and ltb (length name) (length rest))
+    unfolding beginsTest _and_
+    begins-is =
+        let named : Bytes → Bool = λ x. isName (firstField x) and ltb (length (firstField x)) (length x) in
+        ap (λ (x : Bytes). same x (84 ∷ []) and named (drop 2 line)) (sym ef)
+        ∙ ap (λ (b : Bool). b and named (drop 2 line)) (sym et ∙ yt)
+        ∙ ap named (sym er)
+        ∙ ap (λ (x : Bytes). isName x and ltb (length x) (length rest)) (sym en)
+        ∙ ap (λ (b : Bool). b and ltb (length name) (length rest)) (sym eu)
+
+    pub begins-unnamed : u ≡ false → false ≡ beginsTest line
+    unfolding _and_
+    begins-unnamed y = sym (begins-is ∙ ap (λ (b : Bool). b and ltb (length name) (length rest)) y)
+
+    pub begins-named : u ≡ true → ltb (length name) (length rest) ≡ beginsTest line
+    unfolding _and_
+    begins-named y = sym (begins-is ∙ ap (λ (b : Bool). b and ltb (length name) (length rest)) y)
+
+pub ruleset lines = (begins-not, begins-unnamed, begins-named)
+
+-- A line that begins so has the fields `T`, the name, and those of the rest.
+module _ (line rest name row : Bytes) (er : rest ≡ drop 2 line) (en : name ≡ firstField rest) (ew : row ≡ drop (length name + 1) rest) (y : beginsTest line ≡ true) where
+  named : (isName name ≡ true) × (length name < length rest)
+  unfolding beginsTest
+  named =
+      let q : name ≡ firstField (drop 2 line) = en ∙ ap firstField er in
+      let z = and-right _ _ y in
+      (ap isName q ∙ and-left _ _ z, subst (λ (n : ℕ). n < length rest) (ap length (sym q)) (subst (λ (x : Bytes). length (firstField (drop 2 line)) < length x) (sym er) (ltb-true _ _ (and-right _ _ z))))
+
+  lettered : firstField line ≡ 84 ∷ []
+  unfolding beginsTest
+  lettered = same-true _ _ (and-left _ _ y)
+
+  pub begins-fields : split 44 line ≡ (84 ∷ []) ∷ name ∷ split 44 row
+  begins-fields =
+      let h : length (firstField line) < length line = omega (arith, ap length lettered, named .1, ap length er, length-drop 2 line) in
+      first-more 44 line (firstField line) refl rest h (er ∙ sym (after-letter line (firstField line) refl lettered))
+      ∙ ap₂ (λ (x : Bytes) (l : List Bytes). x ∷ l) lettered (first-more 44 rest name en row (named .1) ew)
+
+  pub begins-form : split 44 row ≡ row ∷ [] → testForm (split 44 line) ≡ test-line name row
+  unfolding testForm same choose _and_
+  begins-form e = ap testForm (begins-fields ∙ ap (λ (l : List Bytes). (84 ∷ []) ∷ name ∷ l) e) ∙ simp (named .0)
+
+  pub begins-four : (i : ℕ) → i ≡ span 44 row → i < length row → testForm (split 44 line) ≡ no-test
+  begins-four i e h =
+      let s = split-cons 44 (drop (i + 1) row) in
+      ap testForm (begins-fields ∙ ap (λ (l : List Bytes). (84 ∷ []) ∷ name ∷ l) (cut 44 row (take i row) (drop (i + 1) row) i e h refl refl))
+      ∙ form-four (84 ∷ []) name (take i row) (split 44 (drop (i + 1) row)) (omega (arith, ap length (s .2)))
+
+-- A line that does not says no test.
+pub begins-none : (line : Bytes) → beginsTest line ≡ false → testForm (split 44 line) ≡ no-test
+unfolding testForm beginsTest
+begins-none line y =
+    below-or (length (firstField line)) (length line)
+    (λ h. more (drop (length (firstField line) + 1) line) refl h)
+    (λ h. ap testForm (first-last 44 line (firstField line) refl h))
   where
-    no : (x : TestLine) → isTest x ≡ false → x ≡ no-test
-    no (test-line a b) e = absurd (true≢false e)
-    no no-test e = refl
+    three : (rest : Bytes) → rest ≡ drop (length (firstField line) + 1) line → length (firstField rest) < length rest → (same (firstField line) (84 ∷ []) and isName (firstField rest)) ≡ false
+    three rest er k =
+        fails _ (λ z.
+        let q : rest ≡ drop 2 line = er ∙ after-letter line (firstField line) refl (same-true _ _ (and-left _ _ z)) in
+        both-ways (and-both (and-left _ _ z) (subst (λ (x : Bytes). (isName (firstField x) and ltb (length (firstField x)) (length x)) ≡ true) q (and-both (and-right _ _ z) (lt-ltb _ _ k)))) y)
 
-module _ (l : Bytes) (n : ℕ) (e : n ≡ length (split 44 l)) where
-  pub line-other : (n ≡ 3 → ⊥) → false ≡ isTest (testForm (split 44 l))
-  unfolding isTest
-  line-other h = sym (ap isTest (form-other (split 44 l) (λ z. h (e ∙ z))))
+    more : (rest : Bytes) → rest ≡ drop (length (firstField line) + 1) line → length (firstField line) < length line → testForm (split 44 line) ≡ no-test
+    more rest er h =
+        ap testForm (first-more 44 line (firstField line) refl rest h er)
+        ∙ below-or (length (firstField rest)) (length rest)
+        (λ k.
+        let s = split-cons 44 (drop (length (firstField rest) + 1) rest) in
+        ap (λ (l : List Bytes). testForm (firstField line ∷ l)) (first-more 44 rest (firstField rest) refl (drop (length (firstField rest) + 1) rest) k refl)
+        ∙ ap (λ (l : List Bytes). testForm (firstField line ∷ firstField rest ∷ l)) (s .2)
+        ∙ form-three (firstField line) (firstField rest) (s .0) (s .1) (three rest er k))
+        (λ k. ap (λ (l : List Bytes). testForm (firstField line ∷ l)) (first-last 44 rest (firstField rest) refl k))
 
-  module _ (f : Bytes) (t : Bool) (h : n ≡ 3) (ef : f ≡ getD (split 44 l) 0 []) (et : t ≡ same f (84 ∷ [])) where
-    line-is : isTest (testForm (split 44 l)) ≡ (t and isName (getD (split 44 l) 1 []))
-    line-is =
-        ap (λ (fs : List Bytes). isTest (testForm fs)) (three-are (split 44 l) [] (sym e ∙ h))
-        ∙ form-three (getD (split 44 l) 0 []) (getD (split 44 l) 1 []) (getD (split 44 l) 2 [])
-        ∙ ap (λ (b : Bool). b and isName (getD (split 44 l) 1 [])) (sym (et ∙ ap (λ (x : Bytes). same x (84 ∷ [])) ef))
+-- A fine row has no comma.
+hex-other : (x : ℕ) → hexByte x ≡ true → other 44 x ≡ true
+unfolding hexByte between other _and_ _or_
+hex-other x h = true-isnt (fails _ (λ p. both-ways h (ap hexByte (eqb-true x 44 p))))
 
-    pub line-letter : t ≡ false → false ≡ isTest (testForm (split 44 l))
-    unfolding _and_
-    line-letter y = sym (line-is ∙ ap (λ (b : Bool). b and isName (getD (split 44 l) 1 [])) y)
-
-    pub line-test : (a : Bytes) (u : Bool) → t ≡ true → a ≡ getD (split 44 l) 1 [] → u ≡ isName a → u ≡ isTest (testForm (split 44 l))
-    unfolding _and_
-    line-test a u y ea eu = eu ∙ ap isName ea ∙ sym (line-is ∙ ap (λ (b : Bool). b and isName (getD (split 44 l) 1 [])) y)
-
-pub ruleset lines = (line-other, line-letter, line-test)
+pub fine-free : (m : ℕ) (row : Bytes) → rowFine m row ≡ true → split 44 row ≡ row ∷ []
+unfolding rowFine
+fine-free m row h = split-free 44 row (allBytes-more hexByte (other 44) hex-other row (and-left _ _ (and-right _ _ h)))
 
 -- ---- `name_at`, `name_seen`
 
@@ -159,8 +204,12 @@ module _ (m : ℕ) (row : Bytes) where
     unfolding rowFine _and_
     fine-not y = let q : length row ≡ (m + 3) / 4 = omega arith in sym (simp (eq-eqb (length row) ((m + 3) / 4) q, ← hex, y))
 
+    -- The digits are digits.
+    pub fine-digits : t ≡ true → allBytes hexByte row ≡ true
+    fine-digits y = sym hex ∙ y
+
     pub fine-spare : (u : Bool) → t ≡ true → u ≡ noneSet (drop m (bitsOf row)) → u ≡ rowFine m row
     unfolding rowFine _and_
     fine-spare u y f = let q : length row ≡ (m + 3) / 4 = omega arith in f ∙ sym (simp (eq-eqb (length row) ((m + 3) / 4) q, ← hex, y))
 
-pub ruleset fines = (spare-none, spare-last, fine-short, fine-long, fine-room, fine-not, fine-spare)
+pub ruleset fines = (spare-none, spare-last, fine-short, fine-long, fine-room, fine-not, fine-digits, fine-spare)

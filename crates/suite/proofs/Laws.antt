@@ -1,6 +1,6 @@
 -- The turns and the returns of this crate's functions, as `search` finds them: the premises are what the code holds there.
 use mathlib.Core.Path.{_≡_, refl, sym, ap, ap₂, _∙_}
-use mathlib.Core.Bool.{Bool}
+use mathlib.Core.Bool.{Bool, true}
 use mathlib.Core.Option.{none}
 use mathlib.Core.List.{List, [], _∷_}
 use Prim.Native.Nat.{ℕ, zero, suc, _+_, _-_, _*_, _/_, _%_, _^_, _≤_, _<_}
@@ -12,13 +12,14 @@ use lib.Dec.{eqb}
 use lib.ListN.{length, getD, take, drop, set, length-drop}
 use lib.Pow.{pow-mono}
 use lib.Seq.{sets, drop-drop, take-nil}
-use borrow.Author.Tests.{le-leb, lt-leb}
-use Rattle.laws.specs.Tests.{_and_, choose, count, first, found}
+use Rattle.laws.specs.Tests.{_and_, count, first, found}
+use Rattle.laws.specs.TestLaws.{and-both, and-left, and-right}
 use Rattle.laws.specs.Counting.{count-few}
-use Rattle.laws.specs.Slices.{drop-at, drop-end, sets-more, part-short}
+use Rattle.laws.specs.Slices.{drop-at, drop-end, drop-four, sets-more, part-short}
 use Rattle.laws.specs.Bits.{bitAt, bitIn, wordOf, wordsOf, bit-and, odd-plus, word-small, count-word, first-word, first-no-word}
-use Rattle.rules.specs.Text.{Bytes}
-use Rattle.rules.specs.SuiteFile.{bitsOf, hexValue, odd}
+use Rattle.laws.specs.BitSets.{word-bit}
+use Rattle.rules.specs.Text.{Bytes, allBytes}
+use Rattle.rules.specs.SuiteFile.{bitsOf, hexByte, hexValue, odd}
 use Rattle.rules.specs.Proofs.SuiteLaws.{bits-length}
 use Rattle.text.proofs.Laws.{get-out, put-out}
 use Rattle.suite.specs.Rows.{edgeBit, rowCommon, rowOnes, storedRow}
@@ -33,23 +34,7 @@ zeros-fit w = omega (arith, trailing-le 64 w)
 
 pub ruleset words = (get-out, put-out, ones-fit, zeros-fit)
 
--- ---- `hex_value`, `nibble`
-
-pub hex-none : (x : ℕ) → x ≤ 57 → x < 48 → 0 ≡ hexValue x
-unfolding hexValue choose
-hex-none x h k = sym (simp (le-leb x 57 h) (let q : x - 48 ≡ 0 = omega arith in q))
-
-pub hex-low : (x : ℕ) → x ≤ 57 → x - 48 ≡ hexValue x
-unfolding hexValue choose
-hex-low x h = sym (simp (le-leb x 57 h))
-
-pub hex-gap : (x : ℕ) → 57 < x → x < 87 → 0 ≡ hexValue x
-unfolding hexValue choose
-hex-gap x h k = sym (simp (lt-leb x 57 h) (let q : x - 87 ≡ 0 = omega arith in q))
-
-pub hex-high : (x : ℕ) → 57 < x → x - 87 ≡ hexValue x
-unfolding hexValue choose
-hex-high x h = sym (simp (lt-leb x 57 h))
+-- ---- `two`, `four`
 
 -- The four bits of a digit, then those of the others.
 digit-word : (x : ℕ) (s : Bytes) → wordOf (bitsOf (x ∷ s)) ≡ hexValue x / 8 % 2 + 2 * (hexValue x / 4 % 2 + 2 * (hexValue x / 2 % 2 + 2 * (hexValue x % 2 + 2 * wordOf (bitsOf s))))
@@ -60,29 +45,79 @@ no-bits : wordOf (bitsOf []) ≡ 0
 unfolding wordOf bitsOf
 no-bits = refl
 
-pub nibble-is : (x v : ℕ) → v ≡ hexValue x → v / 8 % 2 + 2 * (v / 4 % 2) + 4 * (v / 2 % 2) + 8 * (v % 2) ≡ wordOf (bitsOf (x ∷ []))
-nibble-is x v e =
-    let q : wordOf (bitsOf (x ∷ [])) ≡ hexValue x / 8 % 2 + 2 * (hexValue x / 4 % 2 + 2 * (hexValue x / 2 % 2 + 2 * (hexValue x % 2 + 2 * 0))) =
-    simp no-bits at (digit-word x []) in
-    let h : ℕ = hexValue x in
-    let r : h / 8 % 2 + 2 * (h / 4 % 2) + 4 * (h / 2 % 2) + 8 * (h % 2) ≡ wordOf (bitsOf (x ∷ [])) = omega (arith, q) in
-    ap (λ (n : ℕ). n / 8 % 2 + 2 * (n / 4 % 2) + 4 * (n / 2 % 2) + 8 * (n % 2)) e ∙ r
-
-pub ruleset digits = (hex-none, hex-low, hex-gap, hex-high, nibble-is)
-
--- ---- `pack`
-
--- One digit before the others.
+-- One, two and four digits before the others.
 digit-more : (x : ℕ) (s : Bytes) → wordOf (bitsOf (x ∷ s)) ≡ wordOf (bitsOf s) * 16 + wordOf (bitsOf (x ∷ []))
 digit-more x s =
     let q : wordOf (bitsOf (x ∷ [])) ≡ hexValue x / 8 % 2 + 2 * (hexValue x / 4 % 2 + 2 * (hexValue x / 2 % 2 + 2 * (hexValue x % 2 + 2 * 0))) =
     simp no-bits at (digit-word x []) in
     omega (arith, digit-word x s, q)
 
-digits-small : (s : Bytes) (n : ℕ) → 4 * length s ≤ n → wordOf (bitsOf s) < 2 ^ n
+two-more : (x y : ℕ) (s : Bytes) → wordOf (bitsOf (x ∷ y ∷ s)) ≡ wordOf (bitsOf s) * 256 + wordOf (bitsOf (x ∷ y ∷ []))
+two-more x y s = omega (arith, digit-more x (y ∷ s), digit-more y s, digit-more x (y ∷ []))
+
+four-more : (x y z u : ℕ) (s : Bytes) → wordOf (bitsOf (x ∷ y ∷ z ∷ u ∷ s)) ≡ wordOf (bitsOf s) * 65536 + wordOf (bitsOf (x ∷ y ∷ z ∷ u ∷ []))
+four-more x y z u s = omega (arith, two-more x y (z ∷ u ∷ s), two-more z u s, two-more x y (z ∷ u ∷ []))
+
+pub digits-small : (s : Bytes) (n : ℕ) → 4 * length s ≤ n → wordOf (bitsOf s) < 2 ^ n
 digits-small s n h =
     let a : length (bitsOf s) ≤ n = omega (arith, bits-length s) in
     omega (arith, word-small (bitsOf s), pow-mono a)
+
+module _ (b y : ℕ) (ey : y ≡ wordOf (bitsOf (b ∷ []))) where
+  pub two-room : y * 16 < 2 ^ 64
+  two-room = omega (arith, ey, digits-small (b ∷ []) 4 (omega arith))
+
+  module _ (a x : ℕ) (ex : x ≡ wordOf (bitsOf (a ∷ []))) where
+    pub two-fits : y * 16 + x < 2 ^ 64
+    two-fits = omega (arith, ey, ex, digits-small (b ∷ []) 4 (omega arith), digits-small (a ∷ []) 4 (omega arith))
+
+    pub two-is : y * 16 + x ≡ wordOf (bitsOf (a ∷ b ∷ []))
+    two-is = omega (arith, ey, ex, digit-more a (b ∷ []))
+
+module _ (c d y : ℕ) (ey : y ≡ wordOf (bitsOf (c ∷ d ∷ []))) where
+  pub four-room : y * 256 < 2 ^ 64
+  four-room = omega (arith, ey, digits-small (c ∷ d ∷ []) 8 (omega arith))
+
+  module _ (a b x : ℕ) (ex : x ≡ wordOf (bitsOf (a ∷ b ∷ []))) where
+    pub four-fits : y * 256 + x < 2 ^ 64
+    four-fits = omega (arith, ey, ex, digits-small (c ∷ d ∷ []) 8 (omega arith), digits-small (a ∷ b ∷ []) 8 (omega arith))
+
+    pub four-is : y * 256 + x ≡ wordOf (bitsOf (a ∷ b ∷ c ∷ d ∷ []))
+    four-is = omega (arith, ey, ex, two-more a b (c ∷ d ∷ []))
+
+pub ruleset digits = (two-room, two-fits, two-is, four-room, four-fits, four-is)
+
+-- ---- `pack`, `pack_front`
+
+-- The digits of a row are digits wherever they stand.
+pub digit-at : (s : Bytes) (i : ℕ) → allBytes hexByte s ≡ true → i < length s → hexByte (getD s i 0) ≡ true
+unfolding allBytes
+digit-at [] i e h = absurd (let z : ⊥ = omega arith in z)
+digit-at (x ∷ s) zero e h = and-left _ _ e
+digit-at (x ∷ s) (suc i) e h = digit-at s i (and-right _ _ e) (omega arith)
+
+all-drop : (s : Bytes) (n : ℕ) → allBytes hexByte s ≡ true → allBytes hexByte (drop n s) ≡ true
+unfolding allBytes
+all-drop s zero e = e
+all-drop [] (suc n) e = e
+all-drop (x ∷ s) (suc n) e = all-drop s n (and-right _ _ e)
+
+all-take : (s : Bytes) (n : ℕ) → allBytes hexByte s ≡ true → allBytes hexByte (take n s) ≡ true
+unfolding allBytes
+all-take s zero e = refl
+all-take [] (suc n) e = refl
+all-take (x ∷ s) (suc n) e = and-both (and-left _ _ e) (all-take s n (and-right _ _ e))
+
+pub digits-part : (s r : Bytes) (i n : ℕ) → allBytes hexByte s ≡ true → r ≡ take n (drop i s) → allBytes hexByte r ≡ true
+digits-part s r i n e q = ap (allBytes hexByte) q ∙ all-take (drop i s) n (all-drop s i e)
+
+pub digit-before : (s : Bytes) (i : ℕ) → allBytes hexByte s ≡ true → 0 < i → i ≤ length s → hexByte (getD s (i - 1) 0) ≡ true
+digit-before s i e h k = digit-at s (i - 1) e (omega arith)
+
+pub digits-four : (s : Bytes) (i : ℕ) → allBytes hexByte s ≡ true → 4 ≤ i → i ≤ length s
+    → (hexByte (getD s (i - 4) 0) ≡ true) × (hexByte (getD s (i - 4 + 1) 0) ≡ true) × (hexByte (getD s (i - 4 + 2) 0) ≡ true) × (hexByte (getD s (i - 4 + 3) 0) ≡ true)
+digits-four s i e h k =
+    (digit-at s (i - 4) e (omega arith), digit-at s (i - 4 + 1) e (omega arith), digit-at s (i - 4 + 2) e (omega arith), digit-at s (i - 4 + 3) e (omega arith))
 
 pub pack-start : (s : Bytes) → 0 ≡ wordOf (bitsOf (drop (length s) s))
 unfolding wordOf bitsOf
@@ -104,10 +139,28 @@ module _ (s : Bytes) (w i : ℕ) (inv : w ≡ wordOf (bitsOf (drop i s))) (h : l
       let r : drop (i - 1) s ≡ getD s (i - 1) 0 ∷ drop i s = drop-at s (i - 1) 0 (omega arith) ∙ ap (λ (n : ℕ). getD s (i - 1) 0 ∷ drop n s) q in
       ap₂ (λ (a b : ℕ). a * 16 + b) inv e ∙ sym (digit-more (getD s (i - 1) 0) (drop i s)) ∙ ap (λ (r : Bytes). wordOf (bitsOf r)) (sym r)
 
+module _ (s : Bytes) (w i : ℕ) (inv : w ≡ wordOf (bitsOf (drop i s))) (h : length s ≤ 16) (k : 4 ≤ i) (l : i ≤ length s) where
+  fours-small : w < 2 ^ 48
+  fours-small = omega (arith, inv, digits-small (drop i s) 48 (omega (arith, length-drop i s)))
+
+  pub fours-room : w * 65536 < 2 ^ 64
+  fours-room = omega (arith, fours-small)
+
+  module _ (x y z u d : ℕ) (e : d ≡ wordOf (bitsOf (x ∷ y ∷ z ∷ u ∷ []))) where
+    pub fours-fits : w * 65536 + d < 2 ^ 64
+    fours-fits = omega (arith, fours-small, e, digits-small (x ∷ y ∷ z ∷ u ∷ []) 16 (omega arith))
+
+  pub fours-on : (d : ℕ) → d ≡ wordOf (bitsOf (getD s (i - 4) 0 ∷ getD s (i - 4 + 1) 0 ∷ getD s (i - 4 + 2) 0 ∷ getD s (i - 4 + 3) 0 ∷ []))
+      → w * 65536 + d ≡ wordOf (bitsOf (drop (i - 4) s))
+  fours-on d e =
+      let q : i - 4 + 4 ≡ i = omega arith in
+      ap₂ (λ (a b : ℕ). a * 65536 + b) (inv ∙ ap (λ (n : ℕ). wordOf (bitsOf (drop n s))) (sym q)) e
+      ∙ sym (four-more _ _ _ _ (drop (i - 4 + 4) s)) ∙ ap (λ (r : Bytes). wordOf (bitsOf r)) (sym (drop-four s (i - 4) 0 (omega arith)))
+
 pub pack-done : (s : Bytes) (w i : ℕ) → w ≡ wordOf (bitsOf (drop i s)) → i ≤ 0 → w ≡ wordOf (bitsOf s)
 pack-done s w i inv h = let q : i ≡ 0 = omega arith in inv ∙ ap (λ (n : ℕ). wordOf (bitsOf (drop n s))) q
 
-pub ruleset packs = (pack-start, pack-room, pack-fits, pack-on, pack-done)
+pub ruleset packs = (digit-at, digits-part, digit-before, pack-start, pack-room, pack-fits, pack-on, pack-done, fours-room, fours-fits, fours-on)
 
 -- ---- `store_row`
 
@@ -180,13 +233,6 @@ row-word rows i k j h =
     let b : (64 * k + j) % 64 ≡ j = omega arith in
     ap₂ (λ (x y : ℕ). bitAt (getD rows (16 * i + x) 0) y) a b
 
-set-word : (set : List ℕ) (k j : ℕ) → j < 64 → bitIn set (64 * k + j) ≡ bitAt (getD set k 0) j
-unfolding bitIn
-set-word set k j h =
-    let a : (64 * k + j) / 64 ≡ k = omega arith in
-    let b : (64 * k + j) % 64 ≡ j = omega arith in
-    ap₂ (λ (x y : ℕ). bitAt (getD set x 0) y) a b
-
 module _ (rows : List ℕ) (i k sum : ℕ) (inv : sum ≡ count (64 * k) (edgeBit rows i)) where
   pub ones-room : (w o : ℕ) → k < 16 → w < 2 ^ 64 → o ≡ ones w → sum + o < 2 ^ 64
   ones-room w o h l e = omega (arith, inv, count-few (edgeBit rows i) (64 * k), ones-le 64 w l)
@@ -215,7 +261,7 @@ common-start rows i set = refl
 module _ (rows : List ℕ) (i : ℕ) (set : List ℕ) (k a b : ℕ) (inv : NoneTo rows i set k) (ea : a ≡ getD rows (16 * i + k) 0) (eb : b ≡ getD set k 0) (fits : a < 2 ^ 64) where
   both-word : (j : ℕ) → j < 64 → (edgeBit rows i (64 * k + j) and bitIn set (64 * k + j)) ≡ bitAt (bitAnd a b) j
   both-word j h =
-      ap₂ (λ (x y : Bool). x and y) (row-word rows i k j h ∙ ap (λ (w : ℕ). bitAt w j) (sym ea)) (set-word set k j h ∙ ap (λ (w : ℕ). bitAt w j) (sym eb))
+      ap₂ (λ (x y : Bool). x and y) (row-word rows i k j h ∙ ap (λ (w : ℕ). bitAt w j) (sym ea)) (word-bit set k j h ∙ ap (λ (w : ℕ). bitAt w j) (sym eb))
       ∙ sym (bit-and a b j)
 
   pub common-found : (z : ℕ) → k < 16 → (bitAnd a b ≡ 0 → ⊥) → z ≡ trailingZeros 64 (bitAnd a b) → 64 * k + z + 1 ≡ rowCommon rows i set

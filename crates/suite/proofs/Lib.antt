@@ -1,3 +1,4 @@
+pub mod Nibbles
 pub mod Laws
 pub mod Forms
 pub mod Stores

@@ -2,25 +2,27 @@
 use mathlib.Core.Path.{_≡_, refl, sym, ap, ap₂, _∙_, subst}
 use mathlib.Core.Logic.{⊎-elim}
 use mathlib.Core.Bool.{Bool, true, false}
-use mathlib.Core.List.{List, []}
+use mathlib.Core.List.{List, [], _∷_}
 use Prim.Native.Nat.{ℕ, suc, _+_, _-_, _*_, _/_, _%_, _≤_, _<_}
 use native.Mathlib.Omega.{arith}
 use lib.ListN.{length, getD, take, drop, set, length-set, length-take, List·getD-eq-default}
 use lib.Seq.{getD-drop, getD-set-other, getD-set-same, getD-take}
 use borrow.Author.Tests.{le-leb, lt-leb, eqb-true}
 use Rattle.laws.specs.Tests.{any, isnt}
-use Rattle.laws.specs.TestLaws.{and-right}
+use Rattle.laws.specs.TestLaws.{and-left, and-right}
 use Rattle.laws.specs.Lists.{snoc-cases, snoc-length, snoc-new, snoc-old}
 use Rattle.laws.specs.Counting.{any-agree}
 use Rattle.laws.specs.Slices.{below-or, getD-sets-before, getD-sets-in}
 use Rattle.laws.specs.Bits.{bitAt, bitIn, wordOf, wordsOf, bit-none, bit-word, bits-words, words-agree, words-length}
-use Rattle.rules.specs.Text.{Bytes, same, split, unless}
+use Rattle.rules.specs.Text.{Bytes, allBytes, same, split, unless}
 use Rattle.rules.specs.Closing.{Coverage}
-use Rattle.rules.specs.SuiteFile.{TestListing, bitsOf, rowFine, stepSuite, takeTest, test-line, testCount, testForm, testName, tested, withTest}
+use Rattle.rules.specs.SuiteFile.{TestListing, bitsOf, hexByte, rowFine, stepSuite, takeTest, no-test, testCount, testForm, testName, tested, withTest}
+use Rattle.text.specs.Scans.{span}
+use Rattle.text.specs.SplitLaws.{uncut}
 use Rattle.suite.specs.declared.Read.{Read}
 use Rattle.suite.specs.Rows.{Holds, Row, edgeBit, storedRow, storedTest}
-use Rattle.suite.specs.Reading.{Adds, Known, Steps, isTest, nameAt, nameIn}
-use Rattle.suite.proofs.Forms.{none-set, form-is, form-not}
+use Rattle.suite.specs.Reading.{Adds, Known, Steps, beginsTest, nameAt, nameIn}
+use Rattle.suite.proofs.Forms.{none-set, begins-form, begins-four, begins-none, fine-free}
 
 -- ---- what the stores leave
 
@@ -203,20 +205,45 @@ module _ (text : Bytes) (m n at : ℕ) (name row : Bytes) (c : ℕ) (t w t′ w�
           simp (lt-leb 200 (testCount (l .suite)) (omega (arith, hold .counted)), ← seen-is m t w c text l known hold at name row name, ← eu, fresh, ← ev, y, et, ew)
           (refl, refl, holds-more m t w c text l known hold at name row few room long wide (sym ev ∙ y))
 
-pub ruleset adds = (put-is, few-none, few-more, add-full, add-twice, add-unfit, add-new)
+-- The digits of a fine row.
+pub row-digits : (m : ℕ) (row : Bytes) (v : Bool) → v ≡ rowFine m row → v ≡ true → allBytes hexByte row ≡ true
+unfolding rowFine
+row-digits m row v e y = and-left _ _ (and-right _ _ (sym e ∙ y))
+
+pub ruleset adds = (row-digits, put-is, few-none, few-more, add-full, add-twice, add-unfit, add-new)
 
 -- ---- `step`
 
-module _ (text : Bytes) (m n at : ℕ) (line : Bytes) (c : ℕ) (t w t′ w′ : List ℕ) (r : Read) (u : Bool) (e : u ≡ isTest (testForm (split 44 line))) where
-  pub step-not : u ≡ false → r .number ≡ 2 → r .place ≡ n → Steps text m n at line c t w r t′ w′
+module _ (text : Bytes) (m n at : ℕ) (line : Bytes) (c : ℕ) (t w t′ w′ : List ℕ) (r : Read) where
+  step-none : testForm (split 44 line) ≡ no-test → r .number ≡ 2 → r .place ≡ n → Steps text m n at line c t w r t′ w′
   unfolding Steps stepSuite takeTest
-  step-not y en ep l known hold = simp (form-not (split 44 line) (sym e ∙ y)) (en, ep, omega arith)
+  step-none e en ep l known hold = simp e (en, ep, omega arith)
 
-  pub step-add : (name row : Bytes) → u ≡ true → name ≡ getD (split 44 line) 1 [] → row ≡ getD (split 44 line) 2 [] → Adds text m n at name row c t w r t′ w′ → Steps text m n at line c t w r t′ w′
-  unfolding Steps stepSuite Adds
-  step-add name row y en er h l known hold =
-      let q : testForm (split 44 line) ≡ test-line name row =
-      form-is (split 44 line) (sym e ∙ y) ∙ ap₂ test-line (sym en) (sym er) in
-      simp q (h l known hold)
+  module _ (u : Bool) (e : u ≡ beginsTest line) where
+    pub step-not : u ≡ false → r .number ≡ 2 → r .place ≡ n → Steps text m n at line c t w r t′ w′
+    step-not y en ep = step-none (begins-none line (sym e ∙ y)) en ep
 
-pub ruleset steps = (step-not, step-add)
+    module _ (y : u ≡ true) (rest name row : Bytes) (er : rest ≡ drop 2 line) (en : name ≡ take (span 44 rest) rest) (ew : row ≡ drop (length name + 1) rest) where
+      step-test : split 44 row ≡ row ∷ [] → Adds text m n at name row c t w r t′ w′ → Steps text m n at line c t w r t′ w′
+      unfolding Steps stepSuite Adds
+      step-test q h l known hold = simp (begins-form line rest name row er en ew (sym e ∙ y) q) (h l known hold)
+
+      pub step-fine : (v : Bool) → v ≡ rowFine m row → v ≡ true → Adds text m n at name row c t w r t′ w′ → Steps text m n at line c t w r t′ w′
+      step-fine v f z h = step-test (fine-free m row (sym f ∙ z)) h
+
+      module _ (k : ℕ) (ek : k ≡ span 44 row) where
+        pub step-unfit : length row ≤ k → Adds text m n at name row c t w r t′ w′ → Steps text m n at line c t w r t′ w′
+        step-unfit h a = step-test (uncut 44 row k ek h) a
+
+        pub step-comma : k < length row → r .number ≡ 2 → r .place ≡ n → Steps text m n at line c t w r t′ w′
+        step-comma h ne np = step-none (begins-four line rest name row er en ew (sym e ∙ y) k ek h) ne np
+
+-- What the test of the row said.
+module _ (m : ℕ) (row : Bytes) (v : Bool) (e : v ≡ rowFine m row) where
+  pub said-fine : v ≡ true → true ≡ rowFine m row
+  said-fine y = sym y ∙ e
+
+  pub said-unfit : v ≡ false → false ≡ rowFine m row
+  said-unfit y = sym y ∙ e
+
+pub ruleset steps = (said-fine, said-unfit, step-not, step-fine, step-unfit, step-comma)

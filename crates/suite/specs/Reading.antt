@@ -1,22 +1,30 @@
 -- What the reader of test files claims: its answer is the definition's, whatever the tables hold before.
 use mathlib.Core.Path.{_≡_, refl, sym, ap₂}
-use mathlib.Core.Bool.{Bool, true, false}
+use mathlib.Core.Bool.{Bool}
 use mathlib.Core.List.{List}
 use Prim.Native.Nat.{ℕ, _+_, _*_, _≤_, _<_}
 use native.Mathlib.Omega.{arith}
+use lib.Dec.{ltb}
 use lib.ListN.{length, getD, take, drop}
-use Rattle.laws.specs.Tests.{any}
-use Rattle.rules.specs.Text.{Bytes, same, Answer, refused, accepted, linesOf, readLines}
-use Rattle.rules.specs.SuiteFile.{TestLine, TestListing, finishSuite, no-test, noTests, readTests, stepSuite, takeTest, test-line, testCount, testName}
+use Rattle.laws.specs.Tests.{_and_, any}
+use Rattle.rules.specs.Text.{Bytes, same, bytes, isName, Answer, refused, accepted, linesOf, readLines}
+use Rattle.rules.specs.SuiteFile.{TestListing, finishSuite, noTests, readTests, stepSuite, takeTest, test-line, testCount, testName}
+use Rattle.text.specs.Scans.{span}
 use Rattle.suite.specs.declared.Read.{Read}
 use Rattle.suite.specs.Rows.{Holds}
 
 -- ---- a line
 
--- `is_test`: the line says a test.
-unfoldable pub isTest : TestLine → Bool
-isTest (test-line name row) = true
-isTest no-test = false
+-- What stands before the first comma.
+abbrev pub firstField : Bytes → Bytes
+firstField s = take (span 44 s) s
+
+-- `begins_test`: the line begins with `T`, a comma, a name and a comma.
+unfoldable pub beginsTest : Bytes → Bool
+beginsTest line =
+    same (firstField line) (bytes "T")
+    and isName (firstField (drop 2 line))
+    and ltb (length (firstField (drop 2 line))) (length (drop 2 line))
 
 -- `name_at`: the part of the text that the table gives as the name of the test i.
 unfoldable pub nameAt : Bytes → List ℕ → ℕ → Bytes

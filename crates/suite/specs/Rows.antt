@@ -1,9 +1,8 @@
 -- How two tables hold a suite: in `tests` two numbers a test, where its name stands in the text and how long it is; in `rows` 16 words of 64 bits a test, its coverage.
 use mathlib.Core.Path.{_≡_}
 use mathlib.Core.Bool.{Bool, false}
-use mathlib.Core.Option.{Option, none, some}
 use mathlib.Core.List.{List}
-use Prim.Native.Nat.{ℕ, suc, _+_, _*_, _/_, _%_, _≤_, _<_}
+use Prim.Native.Nat.{ℕ, _+_, _*_, _/_, _%_, _≤_, _<_}
 use lib.ListN.{length, getD, set}
 use lib.Seq.{sets}
 use Rattle.laws.specs.Tests.{_and_, first, count, found}

@@ -1,13 +1,14 @@
 // Test files, `T,name,row` lines, read into two tables: where each name stands in the text, and the rows as words of 64 bits.
 ghost use mathlib.Core.Path.{_≡_};
+ghost use mathlib.Core.Bool.{true};
 ghost use mathlib.Core.List.{_∷_, []};
 ghost use Prim.Native.Nat.{_+_, _/_, _≤_};
 ghost use lib.Count.{ones as onesOf, trailingZeros};
 ghost use lib.ListN.{drop, getD, length, set as setAt};
 ghost use Rattle.laws.specs.Bits.{wordOf};
-ghost use Rattle.rules.specs.Text.{fieldsOf};
-ghost use Rattle.rules.specs.SuiteFile.{bitsOf, hexValue, noneSet, rowFine, testForm};
-ghost use Rattle.suite.specs.Reading.{Added, LinesRead, Stepped, TestsRead, isTest, nameAt, nameIn};
+ghost use Rattle.rules.specs.Text.{allBytes};
+ghost use Rattle.rules.specs.SuiteFile.{bitsOf, hexByte, noneSet, rowFine};
+ghost use Rattle.suite.specs.Reading.{Added, LinesRead, Stepped, TestsRead, beginsTest, nameAt, nameIn};
 ghost use Rattle.suite.specs.Rows.{edgeBit, rowCommon, rowOnes, storedRow, storedTest};
 
 // What was read: a refusal by number and place, where the number is not 0, or how many tests there are.
@@ -52,37 +53,42 @@ fn zeros_below(w: u64) -> usize
     u64::trailing_zeros(w) as usize
 }
 
-// The value of a hexadecimal digit.
-fn hex_value(x: u8) -> u64
-    ensures { λ r. ⌜ r ≡ hexValue x ⌝ }
-{
-    if x <= 57 {
-        if x < 48 {
-            return 0;
-        }
-        return (x - 48) as u64;
-    }
-    if x < 87 {
-        return 0;
-    }
-    (x - 87) as u64
-}
+// The four bits of the digits 0 to f, the highest bit of each lowest; those of 0 stand lowest.
+const NIBBLES: u64 = 0xf7b3d591e6a2c480;
 
 // The four bits of a digit, its highest bit first.
 fn nibble(x: u8) -> u64
+    requires { ⌜ hexByte x ≡ true ⌝ }
     ensures { λ r. ⌜ r ≡ wordOf (bitsOf (x ∷ [])) ⌝ }
 {
-    let v = hex_value(x);
-    v / 8 % 2 + 2 * (v / 4 % 2) + 4 * (v / 2 % 2) + 8 * (v % 2)
+    let shift = 4 * (x % 16 + 9 * (x / 64));
+    (NIBBLES >> shift) % 16
 }
 
-// The word of at most 16 digits.
-fn pack(s: &[u8]) -> u64
-    requires { ⌜ length (now s) ≤ 16 ⌝ }
+// The word of two digits.
+fn two(a: u8, b: u8) -> u64
+    requires { ⌜ (hexByte a ≡ true) × (hexByte b ≡ true) ⌝ }
+    ensures { λ r. ⌜ r ≡ wordOf (bitsOf (a ∷ (b ∷ []))) ⌝ }
+{
+    nibble(b) * 16 + nibble(a)
+}
+
+// The word of four digits.
+fn four(a: u8, b: u8, c: u8, d: u8) -> u64
+    requires { ⌜ (hexByte a ≡ true) × (hexByte b ≡ true) × (hexByte c ≡ true) × (hexByte d ≡ true) ⌝ }
+    ensures { λ r. ⌜ r ≡ wordOf (bitsOf (a ∷ (b ∷ (c ∷ (d ∷ []))))) ⌝ }
+{
+    two(c, d) * 256 + two(a, b)
+}
+
+// The word of at most 16 digits, where `last` is that of the digits from n on.
+fn pack_front(s: &[u8], n: usize, last: u64) -> u64
+    requires { ⌜ (length (now s) ≤ 16) × (allBytes hexByte (now s) ≡ true) ⌝ }
+    requires { ⌜ (n ≤ length (now s)) × (last ≡ wordOf (bitsOf (drop n (now s)))) ⌝ }
     ensures { λ r. ⌜ r ≡ wordOf (bitsOf (now (s .entry))) ⌝ }
 {
-    let mut w: u64 = 0;
-    let mut i = s.len();
+    let mut w = last;
+    let mut i = n;
     while 0 < i {
         let j = i - 1;
         let d = nibble(s[j]);
@@ -92,9 +98,25 @@ fn pack(s: &[u8]) -> u64
     w
 }
 
+// The word of at most 16 digits, four at a time from the last.
+fn pack(s: &[u8]) -> u64
+    requires { ⌜ (length (now s) ≤ 16) × (allBytes hexByte (now s) ≡ true) ⌝ }
+    ensures { λ r. ⌜ r ≡ wordOf (bitsOf (now (s .entry))) ⌝ }
+{
+    let mut w: u64 = 0;
+    let mut i = s.len();
+    while 4 <= i {
+        let j = i - 4;
+        let d = four(s[j], s[j + 1], s[j + 2], s[j + 3]);
+        w = w * 65536 + d;
+        i = j;
+    }
+    pack_front(s, i, w)
+}
+
 // Makes the row of a test that of the digits.
 fn store_row(rows: &mut [u64], test: usize, row: &[u8])
-    requires { ⌜ test ≤ 200 ⌝ }
+    requires { ⌜ (test ≤ 200) × (allBytes hexByte (now row) ≡ true) ⌝ }
     ensures { λ _. ⌜ now (rows .exit) ≡ storedRow (now (rows .entry)) test (now (row .entry)) ⌝ }
 {
     let mut k = 0;
@@ -107,14 +129,15 @@ fn store_row(rows: &mut [u64], test: usize, row: &[u8])
 
 // ---- a line
 
-// Whether the line says a test: `T`, a name, and any row.
-fn is_test(line: &[u8]) -> bool
-    ensures { λ r. ⌜ r ≡ isTest (testForm (fieldsOf (now (line .entry)))) ⌝ }
+// Whether the line begins with `T`, a comma, a name and a comma.
+fn begins_test(line: &[u8]) -> bool
+    ensures { λ r. ⌜ r ≡ beginsTest (now (line .entry)) ⌝ }
 {
-    let n = text::count(line, 44);
-    if n == 3 {
-        if text::same(text::field(line, 44, 0), b"T") {
-            return text::is_name(text::field(line, 44, 1));
+    if text::same(text::first_short(line, 44), b"T") {
+        let rest = text::after(line, 2);
+        let name = text::first_short(rest, 44);
+        if text::is_name(name) {
+            return name.len() < rest.len();
         }
         return false;
     }
@@ -148,7 +171,7 @@ fn name_seen(text: &[u8], tests: &[usize], count: usize, name: &[u8]) -> bool
 
 // Whether the bits of a row past its edges are 0.
 fn spare_clear(edges: usize, row: &[u8]) -> bool
-    requires { ⌜ length (now row) ≤ edges / 4 + 1 ⌝ }
+    requires { ⌜ (length (now row) ≤ edges / 4 + 1) × (allBytes hexByte (now row) ≡ true) ⌝ }
     ensures { λ r. ⌜ r ≡ noneSet (drop edges (bitsOf (now (row .entry)))) ⌝ }
 {
     let i = edges / 4;
@@ -187,7 +210,7 @@ fn put_test(tests: &mut [usize], i: usize, start: usize, len: usize)
     text::put(tests, 2 * i + 1, len);
 }
 
-// Adds a test after `count` others: its line is numbered n and begins at the offset `at`.
+// Adds a test after `count` others: its line is numbered n and begins at the offset `at`; `fine` says whether its row is.
 fn add_test(
     text: &[u8],
     edges: usize,
@@ -195,10 +218,12 @@ fn add_test(
     at: usize,
     name: &[u8],
     row: &[u8],
+    fine: bool,
     count: usize,
     tests: &mut [usize],
     rows: &mut [u64],
 ) -> Read
+    requires { ⌜ fine ≡ rowFine edges (now row) ⌝ }
     requires { ⌜ (edges ≤ 1024) × (at ≤ 65536) × (count ≤ 200) × (400 ≤ length (now tests)) × (3200 ≤ length (now rows)) ⌝ }
     ensures { λ r. ⌜ Added (now (text .entry)) edges n at (now (name .entry)) (now (row .entry)) count (now (tests .entry)) (now (rows .entry)) r (now (tests .exit)) (now (rows .exit)) ⌝ }
 {
@@ -210,7 +235,6 @@ fn add_test(
         };
     }
     let seen = name_seen(text, tests, count, name);
-    let fine = row_fine(edges, row);
     if seen {
         return Read {
             number: 5,
@@ -234,6 +258,17 @@ fn add_test(
     }
 }
 
+// The refusal of a malformed line.
+fn malformed(n: usize) -> Read
+    ensures { λ r. ⌜ (r .number ≡ 2) × (r .place ≡ n) × (r .count ≡ 0) ⌝ }
+{
+    Read {
+        number: 2,
+        place: n,
+        count: 0,
+    }
+}
+
 // Takes a line, numbered n, that begins at the offset `at`, after `count` tests.
 fn step(
     text: &[u8],
@@ -248,16 +283,19 @@ fn step(
     requires { ⌜ (edges ≤ 1024) × (at ≤ 65536) × (count ≤ 200) × (400 ≤ length (now tests)) × (3200 ≤ length (now rows)) ⌝ }
     ensures { λ r. ⌜ Stepped (now (text .entry)) edges n at (now (line .entry)) count (now (tests .entry)) (now (rows .entry)) r (now (tests .exit)) (now (rows .exit)) ⌝ }
 {
-    if is_test(line) {
-        let name = text::field(line, 44, 1);
-        let row = text::field(line, 44, 2);
-        return add_test(text, edges, n, at, name, row, count, tests, rows);
+    if begins_test(line) {
+        let rest = text::after(line, 2);
+        let name = text::first_short(rest, 44);
+        let row = text::after(rest, name.len() + 1);
+        if row_fine(edges, row) {
+            return add_test(text, edges, n, at, name, row, true, count, tests, rows);
+        }
+        if text::find(row, 44) < row.len() {
+            return malformed(n);
+        }
+        return add_test(text, edges, n, at, name, row, false, count, tests, rows);
     }
-    Read {
-        number: 2,
-        place: n,
-        count: 0,
-    }
+    malformed(n)
 }
 
 // ---- a text

@@ -1,62 +1,113 @@
 -- The turns and the returns of this crate's functions, as `search` finds them: the premises are what the code holds there.
-use mathlib.Core.Path.{_≡_, refl, sym, ap, _∙_}
-use mathlib.Core.Bool.{Bool, true, false}
+use mathlib.Core.Path.{_≡_, refl, sym, ap, ap₂, _∙_}
+use mathlib.Core.Bool.{Bool, true, false, _&&_, _||_}
 use mathlib.Core.List.{List, [], _∷_, _++_, append-nil}
-use Prim.Native.Nat.{ℕ, _+_, _-_, _*_, _/_, _%_, _^_, _≤_, _<_, min}
+use Prim.Native.Nat.{ℕ, zero, suc, _+_, _-_, _*_, _/_, _%_, _^_, _≤_, _<_, min}
 use native.Mathlib.Nat.{add-sub-cancel-left}
 use native.Mathlib.Omega.{arith}
 use lib.Dec.{eqb, leb}
 use lib.ListN.{length, getD, take, drop, set, replicate, length-drop, length-append, List·getD-eq-default}
-use lib.Seq.{length-take-le, take-all, take-nil, set-out, sets, set-getD, getD-set-same}
+use lib.Seq.{drop-drop, length-take-le, take-all, take-nil, set-out, sets, set-getD, getD-set-same}
 use borrow.Author.Fill.{fill-more}
 use borrow.Author.Tests.{eq-eqb, ne-eqb, le-leb, lt-leb}
-use Rattle.laws.specs.Tests.{_and_, _or_, isnt, choose}
-use Rattle.laws.specs.TestLaws.{and-right, false-isnt, fails, both-ways}
+use Rattle.laws.specs.Tests.{_and_, _or_, isnt, choose, has}
+use Rattle.laws.specs.TestLaws.{and-assoc, and-ends, and-right, or-assoc, or-ends, or-left, or-right, false-isnt, fails, both-ways}
 use Rattle.laws.specs.Slices.{below-or, drop-at, drop-end, take-more, sets-more, sets-out, getD-sets-before}
 use Rattle.rules.specs.Text.{Bytes, same, between, allBytes, nameByte, labelByte, wordByte, digitByte, isName, isLabel, isWord, isNumber, valueFrom, decimal}
 use Rattle.rules.specs.SuiteFile.{hexByte}
-use Rattle.rules.specs.Proofs.TextLaws.{decimal-small, decimal-more, same-self, same-true}
+use Rattle.rules.specs.Proofs.TextLaws.{decimal-small, decimal-more, same-of, same-self, same-true}
 use Rattle.text.specs.Scans.{span, plainByte, classByte, sized}
-use Rattle.text.specs.SplitLaws.{span-hit, span-miss, span-end, counts, fields}
+use Rattle.text.specs.SplitLaws.{span-hit, span-miss, span-end, fields}
 use Rattle.text.specs.Puts.{Puts, puts-none, puts-then, puts-length}
 
--- ---- `find`
+-- The test of the code and that of the rules.
+also : (a b : Bool) → (a && b) ≡ (a and b)
+unfolding _and_
+also true b = refl
+also false b = refl
 
-module _ (b : ℕ) (s : Bytes) (i : ℕ) (inv : span b s ≡ i + span b (drop i s)) where
-  pub find-hit : i < length s → getD s i 0 ≡ b → i ≡ span b s
+either : (a b : Bool) → (a || b) ≡ (a or b)
+unfolding _or_
+either true b = refl
+either false b = refl
+
+-- ---- `find_from`, `block_has`, `find`
+
+module _ (b : ℕ) (s : Bytes) (n i : ℕ) (inv : n + span b (drop n s) ≡ i + span b (drop i s)) where
+  pub find-hit : i < length s → getD s i 0 ≡ b → i ≡ n + span b (drop n s)
   find-hit h e = omega (arith, span-hit b s i h e)
 
-  pub find-on : i < length s → (getD s i 0 ≡ b → ⊥) → span b s ≡ i + 1 + span b (drop (i + 1) s)
+  pub find-on : i < length s → (getD s i 0 ≡ b → ⊥) → n + span b (drop n s) ≡ i + 1 + span b (drop (i + 1) s)
   find-on h e = omega (arith, span-miss b s i h e)
 
-  pub find-end : i ≤ length s → length s ≤ i → i ≡ span b s
-  find-end h e = omega (arith, span-end b s i e)
+  pub find-end : length s ≤ i → i ≡ n + span b (drop n s)
+  find-end e = omega (arith, span-end b s i e)
 
-pub ruleset finds = (find-hit, find-on, find-end)
+pub has-start : (b : ℕ) (s : Bytes) → has s b ≡ (false or has s b)
+unfolding _or_
+has-start b s = refl
+
+module _ (b : ℕ) (s : Bytes) (i : ℕ) (hit : Bool) (inv : has s b ≡ (hit or has (drop i s) b)) where
+  pub has-on : i < length s → has s b ≡ ((hit || eqb (getD s i 0) b) or has (drop (i + 1) s) b)
+  unfolding has
+  has-on h =
+      let rest = has (drop (i + 1) s) b in
+      inv
+      ∙ ap (λ (l : Bytes). hit or has l b) (drop-at s i 0 h)
+      ∙ or-assoc hit (eqb (getD s i 0) b) rest
+      ∙ ap (λ (t : Bool). t or rest) (sym (either hit (eqb (getD s i 0) b)))
+
+  pub has-done : length s ≡ 16 → 16 ≤ i → hit ≡ has s b
+  unfolding has
+  has-done l h = sym (or-ends hit) ∙ sym (inv ∙ ap (λ (l : Bytes). hit or has l b) (drop-end s i (omega arith)))
+
+-- The first b stands past a part that has none.
+span-past : (b n : ℕ) (s : Bytes) → n ≤ length s → has (take n s) b ≡ false → span b s ≡ n + span b (drop n s)
+unfolding span has choose _or_
+span-past b zero s h e = omega arith
+span-past b (suc n) [] h e = absurd (let z : ⊥ = omega arith in z)
+span-past b (suc n) (x ∷ s) h e =
+    let p : eqb x b ≡ false = fails _ (λ y. both-ways (or-left (has (take n s) b) y) e) in
+    let q : has (take n s) b ≡ false = fails _ (λ y. both-ways (or-right (eqb x b) y) e) in
+    ap (λ (t : Bool). choose t 0 (suc (span b s))) p ∙ omega (arith, span-past b n s (omega arith) q)
+
+module _ (b : ℕ) (s : Bytes) (i : ℕ) (inv : span b s ≡ i + span b (drop i s)) where
+  pub find-past : (block : Bytes) (t : Bool) → block ≡ take 16 (drop i s) → t ≡ has block b → t ≡ false → 16 ≤ length s - i → span b s ≡ i + 16 + span b (drop (i + 16) s)
+  find-past block t eb et y h =
+      let q : span b (drop i s) ≡ 16 + span b (drop 16 (drop i s)) =
+      span-past b 16 (drop i s) (omega (arith, length-drop i s)) (ap (λ (l : Bytes). has l b) (sym eb) ∙ sym et ∙ y) in
+      omega (arith, q, ap (λ (l : Bytes). span b l) (drop-drop 16 i s))
+
+  pub find-here : (r : ℕ) → r ≡ i + span b (drop i s) → r ≡ span b s
+  find-here r e = e ∙ sym inv
+
+pub ruleset finds = (find-hit, find-on, find-end, has-start, has-on, has-done, find-past, find-here)
 
 -- ---- `same`
 
-module _ (a b : Bytes) (i : ℕ) (inv : same a b ≡ same (drop i a) (drop i b)) where
-  pub same-on : i < length a → i < length b → getD a i 0 ≡ getD b i 0 → same a b ≡ same (drop (i + 1) a) (drop (i + 1) b)
-  unfolding same _and_
-  same-on h k e = inv ∙ simp (drop-at a i 0 h, drop-at b i 0 k, eq-eqb _ _ e)
+pub same-sized : (a b : Bytes) → (length a ≡ length b → ⊥) → false ≡ same a b
+same-sized a b h = sym (fails _ (λ y. h (ap length (same-true a b y))))
 
-  pub same-not : i < length a → i < length b → (getD a i 0 ≡ getD b i 0 → ⊥) → false ≡ same a b
-  unfolding same _and_
-  same-not h k e = sym (inv ∙ simp (drop-at a i 0 h, drop-at b i 0 k, ne-eqb _ _ e))
+pub same-start : (a b : Bytes) → length a ≡ length b → drop (length a) a ≡ drop (length a) b
+same-start a b h = drop-end a (length a) (omega arith) ∙ sym (drop-end b (length a) (omega arith))
 
-  pub same-long : i < length a → length b ≤ i → false ≡ same a b
-  unfolding same
-  same-long h k = sym (inv ∙ simp (drop-at a i 0 h, drop-end b i k))
+module _ (a b : Bytes) (i : ℕ) (h : 0 < i) (k : i ≤ length a) where
+  pub same-on : length a ≡ length b → drop i a ≡ drop i b → getD a (i - 1) 0 ≡ getD b (i - 1) 0 → drop (i - 1) a ≡ drop (i - 1) b
+  same-on l inv e =
+      let q : i - 1 + 1 ≡ i = omega arith in
+      drop-at a (i - 1) 0 (omega arith)
+      ∙ ap₂ (λ (x : ℕ) (s : Bytes). x ∷ s) e (ap (λ (n : ℕ). drop n a) q ∙ inv ∙ ap (λ (n : ℕ). drop n b) (sym q))
+      ∙ sym (drop-at b (i - 1) 0 (omega arith))
 
-  pub same-done : length a ≤ i → leb (length b) i ≡ same a b
-  unfolding same
-  same-done h =
-      below-or i (length b)
-      (λ l. lt-leb (length b) i l ∙ sym (inv ∙ simp (drop-end a i h, drop-at b i 0 l)))
-      (λ l. le-leb (length b) i l ∙ sym (inv ∙ simp (drop-end a i h, drop-end b i l)))
+  pub same-not : (getD a (i - 1) 0 ≡ getD b (i - 1) 0 → ⊥) → false ≡ same a b
+  same-not e = sym (fails _ (λ y. e (ap (λ (s : Bytes). getD s (i - 1) 0) (same-true a b y))))
 
-pub ruleset sames = (same-on, same-not, same-long, same-done)
+pub same-done : (a b : Bytes) (i : ℕ) → drop i a ≡ drop i b → i ≤ 0 → true ≡ same a b
+same-done a b i inv h =
+    let q : i ≡ 0 = omega arith in
+    sym (same-of (ap (λ (n : ℕ). drop n a) (sym q) ∙ inv ∙ ap (λ (n : ℕ). drop n b) q))
+
+pub ruleset sames = (same-sized, same-start, same-on, same-not, same-done)
 
 -- ---- `part`, `run`, `front`, `after`
 
@@ -80,7 +131,13 @@ module _ (s : List ℕ) (n : ℕ) where
   pub after-in : take (length s - n) (drop n s) ≡ drop n s
   after-in = take-all (length s - n) (drop n s) (omega (arith, length-drop n s))
 
-pub ruleset parts = (part-out, part-rest, part-in, front-all, after-out, after-in, length-take-le)
+pub first-is : (b : ℕ) (s r : Bytes) (n : ℕ) → n ≡ span b s → r ≡ take n s → r ≡ take (span b s) s
+first-is b s r n e q = q ∙ ap (λ (m : ℕ). take m s) e
+
+pub first-short : (b : ℕ) (s r : Bytes) (n : ℕ) → n ≡ 0 + span b (drop 0 s) → r ≡ take n s → r ≡ take (span b s) s
+first-short b s r n e q = first-is b s r n (omega arith) q
+
+pub ruleset parts = (part-out, part-rest, part-in, front-all, after-out, after-in, first-is, first-short, length-take-le)
 
 -- ---- `get`, `put`, `clear`, `copy`
 
@@ -167,14 +224,9 @@ pub plain-comma : (a x : ℕ) → x ≡ 44 → false ≡ plainByte a x
 unfolding plainByte
 plain-comma a x h = sym (fails _ (λ p. both-ways (and-right _ _ p) (false-isnt (eq-eqb x 44 h))))
 
-and-true : (t : Bool) → (t and true) ≡ t
-unfolding _and_
-and-true true = refl
-and-true false = refl
-
 pub plain-other : (a x : ℕ) (t : Bool) → (x ≡ 44 → ⊥) → t ≡ between a 126 x → t ≡ plainByte a x
 unfolding plainByte isnt
-plain-other a x t h e = e ∙ sym (simp (ne-eqb x 44 h) (and-true (between a 126 x)))
+plain-other a x t h e = e ∙ sym (simp (ne-eqb x 44 h) (and-ends (between a 126 x)))
 
 module _ (k x : ℕ) (r : Bool) where
   pub class-name : k ≡ 0 → r ≡ nameByte x → r ≡ classByte k x
@@ -193,33 +245,107 @@ module _ (k x : ℕ) (r : Bool) where
   unfolding classByte choose digitByte
   class-digit h e = e ∙ sym (simp h)
 
-  module _ (a : k ≡ 0 → ⊥) (b : k ≡ 1 → ⊥) (c : k ≡ 2 → ⊥) (d : k ≡ 3 → ⊥) (e : r ≡ between 48 57 x) where
-    pub class-low : r ≡ true → true ≡ classByte k x
-    unfolding classByte choose hexByte _or_
-    class-low y = sym (simp (ne-eqb k 0 a, ne-eqb k 1 b, ne-eqb k 2 c, ne-eqb k 3 d, ← e, y))
+  pub class-hex : (k ≡ 0 → ⊥) → (k ≡ 1 → ⊥) → (k ≡ 2 → ⊥) → (k ≡ 3 → ⊥) → r ≡ hexByte x → r ≡ classByte k x
+  unfolding classByte choose
+  class-hex a b c d e = e ∙ sym (simp (ne-eqb k 0 a, ne-eqb k 1 b, ne-eqb k 2 c, ne-eqb k 3 d))
 
-    pub class-high : (t : Bool) → r ≡ false → t ≡ between 97 102 x → t ≡ classByte k x
-    unfolding classByte choose hexByte _or_
-    class-high t y f = f ∙ sym (simp (ne-eqb k 0 a, ne-eqb k 1 b, ne-eqb k 2 c, ne-eqb k 3 d, ← e, y))
+module _ (x : ℕ) (r : Bool) (e : r ≡ between 48 57 x) where
+  pub hex-low : r ≡ true → true ≡ hexByte x
+  unfolding hexByte _or_
+  hex-low y = sym (simp (← e, y))
 
-pub ruleset classes = (under, from, name-upper, name-lower, name-digit, name-other, plain-comma, plain-other, class-name, class-label, class-word, class-digit, class-low, class-high)
+  pub hex-high : (t : Bool) → r ≡ false → t ≡ between 97 102 x → t ≡ hexByte x
+  unfolding hexByte _or_
+  hex-high t y f = f ∙ sym (simp (← e, y))
 
--- ---- `all_in`
+pub ruleset classes = (under, from, name-upper, name-lower, name-digit, name-other, plain-comma, plain-other, class-name, class-label, class-word, class-digit, class-hex, hex-low, hex-high)
 
-module _ (k : ℕ) (s : Bytes) (i : ℕ) (inv : allBytes (classByte k) s ≡ allBytes (classByte k) (drop i s)) where
-  pub all-on : (t : Bool) → i < length s → t ≡ classByte k (getD s i 0) → t ≡ true → allBytes (classByte k) s ≡ allBytes (classByte k) (drop (i + 1) s)
+-- ---- `all_from`, `label_block`, `hex_block`, `block_in`, `all_in`
+
+module _ (k : ℕ) (s : Bytes) (n i : ℕ) (inv : allBytes (classByte k) (drop n s) ≡ allBytes (classByte k) (drop i s)) where
+  pub all-on : (t : Bool) → i < length s → t ≡ classByte k (getD s i 0) → t ≡ true → allBytes (classByte k) (drop n s) ≡ allBytes (classByte k) (drop (i + 1) s)
   unfolding allBytes _and_
   all-on t h e y = inv ∙ simp (drop-at s i 0 h, ← e, y)
 
-  pub all-not : (t : Bool) → i < length s → t ≡ classByte k (getD s i 0) → t ≡ false → false ≡ allBytes (classByte k) s
+  pub all-not : (t : Bool) → i < length s → t ≡ classByte k (getD s i 0) → t ≡ false → false ≡ allBytes (classByte k) (drop n s)
   unfolding allBytes _and_
   all-not t h e y = sym (inv ∙ simp (drop-at s i 0 h, ← e, y))
 
-  pub all-done : length s ≤ i → true ≡ allBytes (classByte k) s
+  pub all-done : length s ≤ i → true ≡ allBytes (classByte k) (drop n s)
   unfolding allBytes
   all-done h = sym (inv ∙ simp (drop-end s i h))
 
-pub ruleset alls = (all-on, all-not, all-done)
+pub block-start : (f : ℕ → Bool) (s : Bytes) → allBytes f s ≡ (true and allBytes f s)
+unfolding _and_
+block-start f s = refl
+
+module _ (f : ℕ → Bool) (s : Bytes) (i : ℕ) (all : Bool) (inv : allBytes f s ≡ (all and allBytes f (drop i s))) where
+  pub block-on : (t : Bool) → i < length s → t ≡ f (getD s i 0) → allBytes f s ≡ ((all && t) and allBytes f (drop (i + 1) s))
+  unfolding allBytes
+  block-on t h e =
+      let rest = allBytes f (drop (i + 1) s) in
+      inv
+      ∙ ap (λ (l : Bytes). all and allBytes f l) (drop-at s i 0 h)
+      ∙ ap (λ (b : Bool). all and b and rest) (sym e)
+      ∙ and-assoc all t rest
+      ∙ ap (λ (b : Bool). b and rest) (sym (also all t))
+
+  pub block-done : length s ≡ 16 → 16 ≤ i → all ≡ allBytes f s
+  unfolding allBytes
+  block-done l h = sym (and-ends all) ∙ sym (inv ∙ ap (λ (l : Bytes). all and allBytes f l) (drop-end s i (omega arith)))
+
+hex-class : (k x : ℕ) → 3 < k → hexByte x ≡ classByte k x
+unfolding classByte choose
+hex-class k x h =
+    let n : (j : ℕ) → j < 4 → eqb k j ≡ false = λ j l. ne-eqb k j (λ e. let z : ⊥ = omega arith in z) in
+    sym (simp (n 0 (omega arith), n 1 (omega arith), n 2 (omega arith), n 3 (omega arith)))
+
+hex-all : (k : ℕ) → 3 < k → (s : Bytes) → allBytes hexByte s ≡ allBytes (classByte k) s
+unfolding allBytes
+hex-all k h [] = refl
+hex-all k h (x ∷ s) = ap₂ (λ (a b : Bool). a and b) (hex-class k x h) (hex-all k h s)
+
+module _ (k : ℕ) (s : Bytes) (r : Bool) where
+  pub block-label : k ≡ 1 → r ≡ allBytes (plainByte 32) s → r ≡ allBytes (classByte k) s
+  unfolding classByte choose labelByte plainByte
+  block-label h e = e ∙ sym (simp h)
+
+  pub block-hex : 3 < k → r ≡ allBytes hexByte s → r ≡ allBytes (classByte k) s
+  block-hex h e = e ∙ hex-all k h s
+
+  pub block-other : r ≡ allBytes (classByte k) (drop 0 s) → r ≡ allBytes (classByte k) s
+  block-other e = e
+
+-- A part and the rest of it.
+all-part : (f : ℕ → Bool) (n : ℕ) (s : Bytes) → allBytes f s ≡ (allBytes f (take n s) and allBytes f (drop n s))
+unfolding allBytes _and_
+all-part f zero s = refl
+all-part f (suc n) [] = refl
+all-part f (suc n) (x ∷ s) = ap (λ (b : Bool). f x and b) (all-part f n s) ∙ and-assoc (f x) (allBytes f (take n s)) (allBytes f (drop n s))
+
+module _ (k : ℕ) (s : Bytes) (i : ℕ) (inv : allBytes (classByte k) s ≡ allBytes (classByte k) (drop i s)) where
+  module _ (block : Bytes) (t : Bool) (eb : block ≡ take 16 (drop i s)) (et : t ≡ allBytes (classByte k) block) where
+    parted : allBytes (classByte k) s ≡ (t and allBytes (classByte k) (drop (i + 16) s))
+    parted =
+        inv ∙ all-part (classByte k) 16 (drop i s)
+        ∙ ap₂ (λ (b : Bool) (l : Bytes). b and allBytes (classByte k) l) (sym (et ∙ ap (allBytes (classByte k)) eb)) (drop-drop 16 i s)
+
+    pub parts-on : t ≡ true → allBytes (classByte k) s ≡ allBytes (classByte k) (drop (i + 16) s)
+    unfolding _and_
+    parts-on y = parted ∙ ap (λ (b : Bool). b and allBytes (classByte k) (drop (i + 16) s)) y
+
+    pub parts-not : t ≡ false → false ≡ allBytes (classByte k) s
+    unfolding _and_
+    parts-not y = sym (parted ∙ ap (λ (b : Bool). b and allBytes (classByte k) (drop (i + 16) s)) y)
+
+  pub parts-done : (t : Bool) → t ≡ allBytes (classByte k) (drop i s) → t ≡ allBytes (classByte k) s
+  parts-done t e = e ∙ sym inv
+
+-- A block is 16 bytes long.
+pub block-long : (s block : Bytes) (i : ℕ) → block ≡ take 16 (drop i s) → 16 ≤ length s - i → length block ≡ 16
+block-long s block i e h = ap length e ∙ length-take-le 16 (drop i s) (omega (arith, length-drop i s))
+
+pub ruleset alls = (all-on, all-not, all-done, block-start, block-on, block-done, block-label, block-hex, block-other, parts-on, parts-not, parts-done, block-long)
 
 -- ---- `sized` and the three that it serves
 
@@ -269,7 +395,7 @@ number-none (d ∷ ds) h = absurd (let z : ⊥ = omega arith in z)
 pub number-one : (s : Bytes) (t : Bool) → 1 ≤ length s → length s < 2 → t ≡ allBytes (classByte 3) s → t ≡ isNumber s
 unfolding isNumber allBytes classByte choose
 number-one [] t g h e = absurd (let z : ⊥ = omega arith in z)
-number-one (d ∷ []) t g h e = e ∙ and-true (digitByte d)
+number-one (d ∷ []) t g h e = e ∙ and-ends (digitByte d)
 number-one (d ∷ x ∷ ds) t g h e = absurd (let z : ⊥ = omega arith in z)
 
 pub number-zero : (s : Bytes) → 2 ≤ length s → getD s 0 0 ≡ 48 → false ≡ isNumber s
@@ -359,4 +485,4 @@ module _ (at x : ℕ) (l : at + length (decimal x) < 2 ^ 64) where
 
 pub ruleset writes = (byte-past, bytes-none, bytes-room, bytes-on, bytes-done, decimal-one, decimal-on, room-one, room-before, room-last, puts-length)
 
-pub ruleset all = (finds, sames, parts, stores, runs, classes, alls, sizes, numbers, counts, fields, values, writes)
+pub ruleset all = (finds, sames, parts, stores, runs, classes, alls, sizes, numbers, fields, values, writes)

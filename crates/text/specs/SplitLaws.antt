@@ -1,4 +1,4 @@
--- Laws of `span` and `split`: the first piece and the rest, how long the pieces are, and the turns of a loop that counts pieces or finds one.
+-- Laws of `span` and `split`: the first piece and the rest, how long the pieces are, and the turns of a loop that finds one.
 use mathlib.Core.Path.{_≡_, refl, sym, ap, _∙_}
 use mathlib.Core.Bool.{Bool, true, false}
 use mathlib.Core.List.{List, [], _∷_}
@@ -7,7 +7,7 @@ use native.Mathlib.Numerals.{add-one}
 use native.Mathlib.Omega.{arith}
 use lib.Dec.{eqb}
 use lib.ListN.{length, getD, take, drop, length-drop}
-use lib.Seq.{take-all}
+use lib.Seq.{length-take-le, take-all}
 use borrow.Author.Tests.{eq-eqb, ne-eqb}
 use Rattle.laws.specs.Tests.{choose}
 use Rattle.laws.specs.Slices.{drop-at, drop-end, drop-next, below-or}
@@ -72,6 +72,17 @@ uncut b s i e h = split-last b s (omega arith)
 pub cut : (b : ℕ) (s f r : Bytes) (i : ℕ) → i ≡ span b s → i < length s → f ≡ take i s → r ≡ drop (i + 1) s → split b s ≡ f ∷ split b r
 cut b s f r i e h ef er = simp (ef, er, add-one, e) (split-more b s (omega arith))
 
+-- The same by the first piece f: it is all there is, or a separator and the other pieces follow it.
+module _ (b : ℕ) (s f : Bytes) (ef : f ≡ take (span b s) s) where
+  first-long : length f ≡ span b s
+  first-long = ap length ef ∙ length-take-le (span b s) s (span-within b s)
+
+  pub first-last : length s ≤ length f → split b s ≡ s ∷ []
+  first-last h = split-last b s (omega (arith, first-long))
+
+  pub first-more : (r : Bytes) → length f < length s → r ≡ drop (length f + 1) s → split b s ≡ f ∷ split b r
+  first-more r h er = cut b s f r (length f) first-long h (ef ∙ ap (λ (n : ℕ). take n s) (sym first-long)) er
+
 -- The same of what stands from the place `at` on.
 module _ (b : ℕ) (s rest : Bytes) (at n : ℕ) (er : rest ≡ drop at s) (e : n ≡ span b rest) where
   pub uncut-at : length rest ≤ n → split b (drop at s) ≡ rest ∷ []
@@ -110,12 +121,9 @@ split-total b (x ∷ s) =
     let q : total (onto (eqb x b) x (split b s)) + length (onto (eqb x b) x (split b s)) ≡ suc (total (split b s) + length (split b s)) = rw e (onto-total (eqb x b) x (c .0) (c .1)) in
     omega (arith, q, split-total b s)
 
--- There is a piece, and at most one more than there are bytes.
+-- There is a piece.
 pub split-some : (b : ℕ) (s : Bytes) → 1 ≤ length (split b s)
 split-some b s = let c = split-cons b s in omega (arith, ap length (c .2))
-
-pub split-few : (b : ℕ) (s : Bytes) → length (split b s) ≤ length s + 1
-split-few b s = omega (arith, split-total b s)
 
 -- A piece is no longer than all of them, nor than the bytes.
 piece-total : (ps : List Bytes) (k : ℕ) → length (getD ps k []) ≤ total ps
@@ -126,35 +134,6 @@ piece-total (p ∷ ps) (suc k) = omega (arith, piece-total ps k)
 
 pub piece-short : (b : ℕ) (s : Bytes) (k : ℕ) → length (getD (split b s) k []) ≤ length s
 piece-short b s k = omega (arith, piece-total (split b s) k, split-total b s, split-some b s)
-
--- ---- the turns of a loop that counts the pieces
-
-onto-length : (x : ℕ) (ps : List Bytes) (p : Bytes) (qs : List Bytes) → ps ≡ p ∷ qs → length (onto false x ps) ≡ length ps
-unfolding onto
-onto-length x ps p qs e = simp e
-
-module _ (b : ℕ) (s : Bytes) (n i : ℕ) (inv : length (split b s) + 1 ≡ n + length (split b (drop i s))) where
-  pub count-hit : i < length s → getD s i 0 ≡ b → length (split b s) + 1 ≡ n + 1 + length (split b (drop (i + 1) s))
-  unfolding split onto
-  count-hit h e =
-      let q : length (split b (drop i s)) ≡ suc (length (split b (drop (i + 1) s))) = simp (drop-at s i 0 h, eq-eqb (getD s i 0) b e) in
-      omega arith
-
-  pub count-on : i < length s → (getD s i 0 ≡ b → ⊥) → length (split b s) + 1 ≡ n + length (split b (drop (i + 1) s))
-  unfolding split
-  count-on h e =
-      let c = split-cons b (drop (i + 1) s) in
-      let q : length (split b (drop i s)) ≡ length (split b (drop (i + 1) s)) =
-      simp (drop-at s i 0 h, ne-eqb (getD s i 0) b e) (onto-length (getD s i 0) (split b (drop (i + 1) s)) (c .0) (c .1) (c .2)) in
-      omega arith
-
-  pub count-done : length s ≤ i → n ≡ length (split b s)
-  unfolding split
-  count-done h =
-      let q : length (split b (drop i s)) ≡ 1 = simp (drop-end s i h) in
-      omega arith
-
-pub ruleset counts = (count-hit, count-on, count-done)
 
 -- ---- the turns of a loop that finds the piece k: j pieces before it are left, from the place `at` on
 

@@ -3,7 +3,7 @@
 // only that the next place can be counted.
 ghost use mathlib.Core.Path.{_≡_};
 ghost use mathlib.Core.List.{List, _∷_, []};
-ghost use Prim.Native.Nat.{_+_, _-_, _%_, _^_, _<_, min};
+ghost use Prim.Native.Nat.{_+_, _-_, _%_, _^_, _≤_, _<_, min};
 ghost use lib.ListN.{take, drop, getD, set, length, replicate};
 ghost use lib.Seq.{sets};
 ghost use Rattle.rules.specs.Text.{
@@ -20,17 +20,20 @@ ghost use Rattle.rules.specs.Text.{
   split,
   value as valueOf,
 };
+ghost use Rattle.laws.specs.Tests.{has};
+ghost use Rattle.rules.specs.SuiteFile.{hexByte};
 ghost use Rattle.text.specs.Puts.{Puts};
 ghost use Rattle.text.specs.Scans.{classByte, plainByte, sized as isSized, span};
 
 // The bytes of a sheet's first line.
 pub const SHEET_HEAD: [u8; 7] = *b"sheet,1";
 
-// How many bytes stand before the first b: all of them, where there is none.
-pub fn find(s: &[u8], b: u8) -> usize
-    ensures { λ r. ⌜ r ≡ span b (now (s .entry)) ⌝ }
+// The place of the first b from n on: the end, where there is none.
+fn find_from(s: &[u8], n: usize, b: u8) -> usize
+    requires { ⌜ n ≤ length (now s) ⌝ }
+    ensures { λ r. ⌜ r ≡ n + span b (drop n (now (s .entry))) ⌝ }
 {
-    let mut i = 0;
+    let mut i = n;
     while i < s.len() {
         if s[i] == b {
             return i;
@@ -40,21 +43,36 @@ pub fn find(s: &[u8], b: u8) -> usize
     i
 }
 
-// Whether the two hold the same bytes.
+// How many bytes stand before the first b: all of them, where there is none.
+pub fn find(s: &[u8], b: u8) -> usize
+    ensures { λ r. ⌜ r ≡ span b (now (s .entry)) ⌝ }
+{
+    let mut i = 0;
+    while 16 <= s.len() - i {
+        if block_has(part(s, i, 16), b) {
+            return find_from(s, i, b);
+        }
+        i += 16;
+    }
+    find_from(s, i, b)
+}
+
+// Whether the two hold the same bytes. The last is compared first: names and labels often differ by a number at their end.
 pub fn same(a: &[u8], b: &[u8]) -> bool
     ensures { λ r. ⌜ r ≡ sameBytes (now (a .entry)) (now (b .entry)) ⌝ }
 {
-    let mut i = 0;
-    while i < a.len() {
-        if b.len() <= i {
-            return false;
-        }
-        if a[i] != b[i] {
-            return false;
-        }
-        i += 1;
+    if a.len() != b.len() {
+        return false;
     }
-    b.len() <= i
+    let mut i = a.len();
+    while 0 < i {
+        let j = i - 1;
+        if a[j] != b[j] {
+            return false;
+        }
+        i = j;
+    }
+    true
 }
 
 // The part of s from start, len bytes long, cut at the end of s.
@@ -259,8 +277,18 @@ fn plain_byte(a: u8, x: u8) -> bool
     between(a, 126, x)
 }
 
+// Whether x is a lower-case hexadecimal digit.
+fn hex_byte(x: u8) -> bool
+    ensures { λ r. ⌜ r ≡ hexByte x ⌝ }
+{
+    if between(48, 57, x) {
+        return true;
+    }
+    between(97, 102, x)
+}
+
 // Whether x is of the class k: 0 of a name, 1 of a label, 2 of a word, 3 a decimal digit, else a lower-case hexadecimal digit.
-pub fn in_class(k: u8, x: u8) -> bool
+fn in_class(k: u8, x: u8) -> bool
     ensures { λ r. ⌜ r ≡ classByte k x ⌝ }
 {
     if k == 0 {
@@ -275,17 +303,14 @@ pub fn in_class(k: u8, x: u8) -> bool
     if k == 3 {
         return between(48, 57, x);
     }
-    if between(48, 57, x) {
-        return true;
-    }
-    between(97, 102, x)
+    hex_byte(x)
 }
 
-// Whether every byte is of the class k.
-pub fn all_in(k: u8, s: &[u8]) -> bool
-    ensures { λ r. ⌜ r ≡ allBytes (classByte k) (now (s .entry)) ⌝ }
+// Whether every byte from n on is of the class k.
+fn all_from(k: u8, s: &[u8], n: usize) -> bool
+    ensures { λ r. ⌜ r ≡ allBytes (classByte k) (drop n (now (s .entry))) ⌝ }
 {
-    let mut i = 0;
+    let mut i = n;
     while i < s.len() {
         if in_class(k, s[i]) {
             i += 1;
@@ -294,6 +319,79 @@ pub fn all_in(k: u8, s: &[u8]) -> bool
         }
     }
     true
+}
+
+// ---- blocks of 16 bytes: each byte is looked at, whatever stands before it, so that the machine takes them all at once
+
+// Whether b is one of the bytes of a block.
+fn block_has(block: &[u8], b: u8) -> bool
+    requires { ⌜ length (now block) ≡ 16 ⌝ }
+    ensures { λ r. ⌜ r ≡ has (now (block .entry)) b ⌝ }
+{
+    let mut hit = false;
+    let mut i = 0;
+    while i < 16 {
+        hit = hit | (block[i] == b);
+        i += 1;
+    }
+    hit
+}
+
+// Whether the bytes of a block are all of a label.
+fn label_block(block: &[u8]) -> bool
+    requires { ⌜ length (now block) ≡ 16 ⌝ }
+    ensures { λ r. ⌜ r ≡ allBytes (plainByte 32) (now (block .entry)) ⌝ }
+{
+    let mut all = true;
+    let mut i = 0;
+    while i < 16 {
+        all = all & plain_byte(32, block[i]);
+        i += 1;
+    }
+    all
+}
+
+// Whether the bytes of a block are all lower-case hexadecimal digits.
+fn hex_block(block: &[u8]) -> bool
+    requires { ⌜ length (now block) ≡ 16 ⌝ }
+    ensures { λ r. ⌜ r ≡ allBytes hexByte (now (block .entry)) ⌝ }
+{
+    let mut all = true;
+    let mut i = 0;
+    while i < 16 {
+        all = all & hex_byte(block[i]);
+        i += 1;
+    }
+    all
+}
+
+// Whether the bytes of a block are all of the class k.
+fn block_in(k: u8, block: &[u8]) -> bool
+    requires { ⌜ length (now block) ≡ 16 ⌝ }
+    ensures { λ r. ⌜ r ≡ allBytes (classByte k) (now (block .entry)) ⌝ }
+{
+    if k == 1 {
+        return label_block(block);
+    }
+    if 3 < k {
+        return hex_block(block);
+    }
+    all_from(k, block, 0)
+}
+
+// Whether every byte is of the class k.
+pub fn all_in(k: u8, s: &[u8]) -> bool
+    ensures { λ r. ⌜ r ≡ allBytes (classByte k) (now (s .entry)) ⌝ }
+{
+    let mut i = 0;
+    while 16 <= s.len() - i {
+        if block_in(k, part(s, i, 16)) {
+            i += 16;
+        } else {
+            return false;
+        }
+    }
+    all_from(k, s, i)
 }
 
 // Whether there are from 1 to `most` bytes, all of the class k.
@@ -305,6 +403,9 @@ fn sized(k: u8, most: usize, s: &[u8]) -> bool
     }
     if most < s.len() {
         return false;
+    }
+    if most < 16 {
+        return all_from(k, s, 0);
     }
     all_in(k, s)
 }
@@ -338,29 +439,26 @@ pub fn is_number(s: &[u8]) -> bool
         return false;
     }
     if s.len() < 2 {
-        return all_in(3, s);
+        return all_from(3, s, 0);
     }
     if s[0] == 48 {
         return false;
     }
-    all_in(3, s)
+    all_from(3, s, 0)
 }
 
-// How many fields there are between the bytes b.
-pub fn count(s: &[u8], b: u8) -> usize
-    ensures { λ r. ⌜ r ≡ length (split b (now (s .entry))) ⌝ }
+// What stands before the first b: the first field between the bytes b.
+pub fn first(s: &[u8], b: u8) -> &[u8]
+    ensures { λ r. ⌜ now r ≡ take (span b (now (s .entry))) (now (s .entry)) ⌝ }
 {
-    let mut n = 1;
-    let mut i = 0;
-    while i < s.len() {
-        if s[i] == b {
-            n += 1;
-            i += 1;
-        } else {
-            i += 1;
-        }
-    }
-    n
+    front(s, find(s, b))
+}
+
+// The same, byte by byte: the quicker where the field is a short one.
+pub fn first_short(s: &[u8], b: u8) -> &[u8]
+    ensures { λ r. ⌜ now r ≡ take (span b (now (s .entry))) (now (s .entry)) ⌝ }
+{
+    front(s, find_from(s, 0, b))
 }
 
 // The field k between the bytes b, empty where there are not so many.

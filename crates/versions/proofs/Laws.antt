@@ -2,18 +2,18 @@
 use mathlib.Core.Path.{_≡_, refl, sym, ap, ap₂, _∙_}
 use mathlib.Core.Bool.{Bool, true, false}
 use mathlib.Core.List.{List, []}
-use Prim.Native.Nat.{ℕ, suc, _+_, _-_, _≤_, _<_}
+use Prim.Native.Nat.{ℕ, _+_, _-_, _≤_, _<_}
 use native.Mathlib.Omega.{arith}
 use lib.Dec.{eqb}
 use lib.ListN.{getD, length}
 use borrow.Author.Tests.{eqb-true, eq-eqb, ne-eqb}
 use Rattle.laws.specs.Tests.{_and_, _⇒_, found, listed}
-use Rattle.laws.specs.TestLaws.{and-both, and-left, and-right, both-ways, fails, first-only}
+use Rattle.laws.specs.TestLaws.{and-both, and-left, and-right, both-ways, fails}
 use Rattle.rules.specs.Text.{Bytes, same}
-use Rattle.rules.specs.Graph.{C, Kind, E, S, X, called, calleeAt, edgeCount, edgeTaken, entry, exit, filled, kindAt, kindNumber, labelAt, nodeCount, sameKind, sourceAt, targetAt}
-use Rattle.rules.specs.Closing.{alike, bothCall, fits, goesOn, sameCallee, sameLabel, sameWord}
+use Rattle.rules.specs.Graph.{C, Kind, E, S, X, called, calleeAt, edgeCount, edgeTaken, entry, exit, filled, kindAt, kindNumber, labelAt, nodeCount, sameKind, sourceAt}
+use Rattle.rules.specs.Closing.{alike, bothCall, goesOn, sameCallee, sameLabel, sameWord}
 use Rattle.rules.specs.ProgramFile.{Listing}
-use Rattle.rules.specs.Proofs.ClosingLaws.{alike-parts, bare-callees, fits-ends, fits-of, fits-word, same-word, sameCallee-is, sameLabel-is, taken-same}
+use Rattle.rules.specs.Proofs.ClosingLaws.{alike-parts, bare-callees, same-word, sameCallee-is, sameLabel-is, taken-same}
 use Rattle.rules.specs.Proofs.GraphLaws.{called-below, called-name, sameKind-true}
 use Rattle.rules.specs.Proofs.TextLaws.{empty-true}
 use Rattle.graph.specs.Table.{edgeBase, nodeBase, procBase}
@@ -21,9 +21,9 @@ use Rattle.graph.specs.Lookups.{EdgeTaken}
 use Rattle.graph.specs.Reads.{partAt, past, part-past}
 use Rattle.pairset.specs.Store.{Has, pairsIn}
 use Rattle.versions.specs.Memory.{InMemory, memory}
-use Rattle.versions.specs.MemoryLaws.{kind-is, label-is, callee-is, name-is, entry-is, exit-is, word-is, target-is, edges-in, well-formed}
-use Rattle.versions.specs.Found.{found-at, found-none, none-found}
-use Rattle.versions.specs.Claims.{Alike, BothCall, Entered, Fitting, GoesOn, Taken}
+use Rattle.versions.specs.MemoryLaws.{kind-is, label-is, callee-is, name-is, entry-is, exit-is, word-is, edges-in, well-formed}
+use Rattle.versions.specs.Found.{found-at}
+use Rattle.versions.specs.Claims.{Alike, BothCall, Entered, GoesOn, Taken}
 
 -- ---- what the tables hold, past their ends
 
@@ -142,66 +142,25 @@ taken-is ot ol nt nl word e m r ew t on nn o p h g i j =
     t p (edges-in _ p g) j
     ∙ ap found (ap (λ (x : Bytes). edgeTaken (p .program) m x) (ew ∙ word-is _ o h e i) ∙ taken-same (o .program) (p .program) e m)
 
--- ---- `fitting`
-
-module _ (ot on ol nt nn nl : List ℕ) (e m t : ℕ) (et : Taken ot ol nt nl e m t) where
-  pub fitting-none : t ≡ 0 → Fitting (memory ot on ol) (memory nt nn nl) e m 0
-  unfolding Taken Fitting
-  fitting-none z o p h g i j =
-      sym (none-found _ _ (λ f l y.
-      found-none _ _ (sym (et on nn o p h g i j) ∙ z) f l (and-both (and-left _ _ y) (fits-word (o .program) (p .program) e f (and-right _ _ y)))))
-
-  module _ (d : t ≡ 0 → ⊥) where
-    -- The edge taken is one of the new node with the word of the old edge, and there is no other.
-    pub one-taken : (o p : Listing) → InMemory (memory ot on ol) o → InMemory (memory nt nn nl) p → e < edgeCount (o .program) → m < nodeCount (p .program)
-        → (t - 1 < edgeCount (p .program)) × (sourceAt (p .program) (t - 1) ≡ m) × (sameWord (o .program) (p .program) e (t - 1) ≡ true)
-        × ((f : ℕ) → f < edgeCount (p .program) → sourceAt (p .program) f ≡ m → sameWord (o .program) (p .program) e f ≡ true → f ≡ t - 1)
-    unfolding Taken
-    one-taken o p h g i j =
-        let q = et on nn o p h g i j in
-        let r = found-at (λ f. eqb (sourceAt (p .program) f) m and sameWord (o .program) (p .program) e f) (edgeCount (p .program)) (omega arith) in
-        let l : t - 1 < edgeCount (p .program) = omega (arith, r .0) in
-        let y : (eqb (sourceAt (p .program) (t - 1)) m and sameWord (o .program) (p .program) e (t - 1)) ≡ true
-        = ap (λ (x : ℕ). eqb (sourceAt (p .program) (x - 1)) m and sameWord (o .program) (p .program) e (x - 1)) q ∙ r .1 in
-        let s : sourceAt (p .program) (t - 1) ≡ m = eqb-true _ _ (and-left _ _ y) in (
-          l,
-          s,
-          and-right _ _ y,
-          λ f k a b. well-formed _ p g .words (t - 1) f l k (a ∙ sym s)
-              (sym (same-word (o .program) (p .program) e f b) ∙ same-word (o .program) (p .program) e (t - 1) (and-right _ _ y)),
-        )
-
-    module _ (a b x : ℕ) (u : Bool) (ea : a ≡ getD ol (edgeBase e + 3) 0) (ex : x ≡ t - 1) (eb : b ≡ getD nl (edgeBase x + 3) 0) (eu : Alike (memory ot on ol) (memory nt nn nl) a b u) where
-      ends-are : (o p : Listing) → InMemory (memory ot on ol) o → InMemory (memory nt nn nl) p → e < edgeCount (o .program) → t - 1 < edgeCount (p .program)
-          → u ≡ alike (o .program) (p .program) (targetAt (o .program) e) (targetAt (p .program) (t - 1))
-      unfolding Alike
-      ends-are o p h g i l =
-          let v : a ≡ targetAt (o .program) e = ea ∙ target-is _ o h e i in
-          let w : b ≡ targetAt (p .program) (t - 1) = eb ∙ ap (λ (y : ℕ). getD nl (edgeBase y + 3) 0) ex ∙ target-is _ p g (t - 1) l in
-          let c : a < nodeCount (o .program) = rw v (well-formed _ o h .targets e i) in
-          let c′ : b < nodeCount (p .program) = rw w (well-formed _ p g .targets (t - 1) l) in
-          eu o p h g c c′ ∙ ap₂ (alike (o .program) (p .program)) v w
-
-      pub fitting-ends : u ≡ true → Fitting (memory ot on ol) (memory nt nn nl) e m t
-      unfolding Fitting
-      fitting-ends z o p h g i j =
-          let r = one-taken o p h g i j in
-          let y : fits (o .program) (p .program) e (t - 1) ≡ true = fits-of (o .program) (p .program) e (t - 1) (r .2) (sym (ends-are o p h g i (r .0)) ∙ z) in
-          let f = first-only (λ f. eqb (sourceAt (p .program) f) m and fits (o .program) (p .program) e f) (edgeCount (p .program)) (t - 1) (r .0) (and-both (eq-eqb _ _ (r .1)) y)
-          (λ f l k. r .3 f l (eqb-true _ _ (and-left _ _ k)) (fits-word (o .program) (p .program) e f (and-right _ _ k))) in
-          let q : t ≡ suc (t - 1) = omega arith in
-          q ∙ sym (ap found f)
-
-      pub fitting-not : u ≡ false → Fitting (memory ot on ol) (memory nt nn nl) e m 0
-      unfolding Fitting
-      fitting-not z o p h g i j =
-          let r = one-taken o p h g i j in
-          sym (none-found _ _ (λ f l k.
-          let s : f ≡ t - 1 = r .3 f l (eqb-true _ _ (and-left _ _ k)) (fits-word (o .program) (p .program) e f (and-right _ _ k)) in
-          both-ways (ends-are o p h g i (r .0) ∙ ap (λ (x : ℕ). alike (o .program) (p .program) (targetAt (o .program) e) (targetAt (p .program) x)) (sym s)
-          ∙ fits-ends (o .program) (p .program) e f (and-right _ _ k)) z))
-
-pub ruleset fittings = (taken-is, fitting-none, fitting-ends, fitting-not)
+module _ (ot on ol nt nn nl : List ℕ) (e m t : ℕ) (et : Taken ot ol nt nl e m t) (d : t ≡ 0 → ⊥) where
+  -- The edge taken is one of the new node with the word of the old edge, and there is no other.
+  pub one-taken : (o p : Listing) → InMemory (memory ot on ol) o → InMemory (memory nt nn nl) p → e < edgeCount (o .program) → m < nodeCount (p .program)
+      → (t - 1 < edgeCount (p .program)) × (sourceAt (p .program) (t - 1) ≡ m) × (sameWord (o .program) (p .program) e (t - 1) ≡ true)
+      × ((f : ℕ) → f < edgeCount (p .program) → sourceAt (p .program) f ≡ m → sameWord (o .program) (p .program) e f ≡ true → f ≡ t - 1)
+  unfolding Taken
+  one-taken o p h g i j =
+      let q = et on nn o p h g i j in
+      let r = found-at (λ f. eqb (sourceAt (p .program) f) m and sameWord (o .program) (p .program) e f) (edgeCount (p .program)) (omega arith) in
+      let l : t - 1 < edgeCount (p .program) = omega (arith, r .0) in
+      let y : (eqb (sourceAt (p .program) (t - 1)) m and sameWord (o .program) (p .program) e (t - 1)) ≡ true
+      = ap (λ (x : ℕ). eqb (sourceAt (p .program) (x - 1)) m and sameWord (o .program) (p .program) e (x - 1)) q ∙ r .1 in
+      let s : sourceAt (p .program) (t - 1) ≡ m = eqb-true _ _ (and-left _ _ y) in (
+        l,
+        s,
+        and-right _ _ y,
+        λ f k a b. well-formed _ p g .words (t - 1) f l k (a ∙ sym s)
+            (sym (same-word (o .program) (p .program) e f b) ∙ same-word (o .program) (p .program) e (t - 1) (and-right _ _ y)),
+      )
 
 -- ---- `both_call`
 
@@ -255,4 +214,4 @@ module _ (on ol nn nl w : List ℕ) (n m : ℕ) where
 
 pub ruleset goes = (goes-free, goes-exits, entered-free, entered-entries)
 
-pub ruleset all = (reads, sames, alikes, fittings, calls, goes)
+pub ruleset all = (reads, sames, alikes, taken-is, calls, goes)

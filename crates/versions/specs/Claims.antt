@@ -7,7 +7,7 @@ use lib.Dec.{eqb}
 use Rattle.laws.specs.Tests.{_and_, _⇒_, first, found, listed}
 use Rattle.rules.specs.Text.{Bytes}
 use Rattle.rules.specs.Graph.{called, edgeCount, entry, nodeCount, sourceAt}
-use Rattle.rules.specs.Closing.{alike, bothCall, fits, goesOn, sameWord}
+use Rattle.rules.specs.Closing.{alike, bothCall, goesOn, sameWord}
 use Rattle.rules.specs.ProgramFile.{Listing}
 use Rattle.pairset.specs.Store.{Store, pairsIn}
 use Rattle.versions.specs.Memory.{InMemory, Memory, memory}
@@ -22,12 +22,6 @@ unfoldable pub Taken : Bytes → List ℕ → Bytes → List ℕ → ℕ → ℕ
 Taken ot ol nt nl e m r =
     (on nn : List ℕ) (o p : Listing) → InMemory (memory ot on ol) o → InMemory (memory nt nn nl) p → e < edgeCount (o .program) → m < nodeCount (p .program)
     → r ≡ found (first (edgeCount (p .program)) (λ f. eqb (sourceAt (p .program) f) m and sameWord (o .program) (p .program) e f))
-
--- `fitting`: 1 + the edge of the new node m that fits the old edge e, or 0.
-unfoldable pub Fitting : Memory → Memory → ℕ → ℕ → ℕ → Type 0
-Fitting v v′ e m r =
-    (o p : Listing) → InMemory v o → InMemory v′ p → e < edgeCount (o .program) → m < nodeCount (p .program)
-    → r ≡ found (first (edgeCount (p .program)) (λ f. eqb (sourceAt (p .program) f) m and fits (o .program) (p .program) e f))
 
 -- `both_call`: both nodes are calls.
 unfoldable pub BothCall : List ℕ → List ℕ → ℕ → ℕ → Bool → Type 0

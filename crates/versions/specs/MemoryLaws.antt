@@ -7,7 +7,7 @@ use native.Mathlib.Omega.{arith}
 use lib.ListN.{getD, take, drop}
 use borrow.Author.Tests.{le-leb}
 use Rattle.laws.specs.Lists.{choose-yes}
-use Rattle.laws.specs.Chain.{Chained, latest, link-le}
+use Rattle.laws.specs.Chain.{Chained, link-le}
 use Rattle.rules.specs.Text.{accepted}
 use Rattle.rules.specs.Graph.{WellFormed, called, edgeCount, entry, exit, kindAt, kindNumber, labelAt, nameAt, nodeCount, procCount, sourceAt, targetAt, wordAt}
 use Rattle.rules.specs.ProgramFile.{Listing, readListing, readProgram}
@@ -96,12 +96,6 @@ module _ (m : Memory) (s : Listing) (h : InMemory m s) where
       let raw : Chained (sourceAt (s .program)) (nodeCount (s .program)) (edgeCount (s .program)) (λ n. getD (m .links) (headBase n) 0) (λ e. getD (m .links) (edgeBase e + 4) 0)
       = record { top = h .heads; link = λ e l. h .edges e l 4 (omega arith) } in
       record { top = h .heads; link = λ e l. choose-yes _ 0 (le-leb _ e (link-le raw e l)) ∙ h .edges e l 4 (omega arith) }
-
-  pub last-edge-is : (n : ℕ) → n < nodeCount (s .program) → getD (m .links) (headBase n) 0 ≡ latest (sourceAt (s .program)) n (edgeCount (s .program))
-  last-edge-is n l = edges-chained .top n l
-
-  pub edge-before-is : (e : ℕ) → e < edgeCount (s .program) → upTo e (getD (m .links) (edgeBase e + 4) 0) ≡ latest (sourceAt (s .program)) (sourceAt (s .program) e) e
-  edge-before-is e l = edges-chained .link e l
 
   -- What the look-ups of edges by a word ask.
   pub edges-in : Edges (m .text) (in-table (m .links)) s

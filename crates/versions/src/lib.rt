@@ -7,7 +7,7 @@ ghost use Rattle.graph.specs.Table.{edgeBase, headBase, nodeBase, procBase};
 ghost use Rattle.graph.specs.Reads.{partAt, upTo};
 ghost use Rattle.rules.specs.Closing.{sameCallee, sameLabel};
 ghost use Rattle.versions.specs.Memory.{memory};
-ghost use Rattle.versions.specs.Claims.{Alike, BothCall, Entered, Fitting, GoesOn, Taken};
+ghost use Rattle.versions.specs.Claims.{Alike, BothCall, Entered, GoesOn, Taken};
 
 // ---- what the tables hold
 
@@ -170,31 +170,6 @@ pub fn taken(ot: &[u8], ol: &[usize], nt: &[u8], nl: &[usize], e: usize, m: usiz
 {
     let w = word(ot, ol, e);
     graph::edge_taken(nt, nl, m, w)
-}
-
-// 1 + the edge of the new node m that fits the old edge e, or 0.
-pub fn fitting(
-    ot: &[u8],
-    on: &[usize],
-    ol: &[usize],
-    nt: &[u8],
-    nn: &[usize],
-    nl: &[usize],
-    e: usize,
-    m: usize,
-) -> usize
-    ensures { λ r. ⌜ Fitting (memory (now (ot .entry)) (now (on .entry)) (now (ol .entry))) (memory (now (nt .entry)) (now (nn .entry)) (now (nl .entry))) e m r ⌝ }
-{
-    let t = taken(ot, ol, nt, nl, e, m);
-    if t == 0 {
-        return 0;
-    }
-    let a = target(ol, e);
-    let b = target(nl, t - 1);
-    if alike(ot, on, ol, nt, nn, nl, a, b) {
-        return t;
-    }
-    0
 }
 
 // Whether the old node n and the new node m are calls.

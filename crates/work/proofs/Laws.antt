@@ -1,31 +1,30 @@
 -- The returns of the functions.
 use mathlib.Core.Path.{_≡_, refl, sym, ap, _∙_, subst}
-use mathlib.Core.Bool.{Bool, true, false}
-use mathlib.Core.List.{List, [], _++_}
-use Prim.Native.Nat.{ℕ, suc, _+_, _*_, _≤_, _<_}
+use mathlib.Core.Bool.{Bool}
+use mathlib.Core.List.{List}
+use Prim.Native.Nat.{ℕ, _≤_, _<_}
 use native.Mathlib.Omega.{arith}
-use borrow.Author.Tests.{le-leb, lt-leb, le-ltb, lt-ltb}
-use lib.Dec.{leb, ltb}
+use borrow.Author.Tests.{le-leb, le-ltb, lt-ltb}
 use lib.ListN.{length, take}
-use Rattle.laws.specs.Tests.{choose}
 use Rattle.laws.specs.Lists.{choose-no, choose-yes}
 use Rattle.laws.specs.Slices.{below-or}
-use Rattle.rules.specs.Text.{Bytes, accepted, maxPairs}
+use Rattle.rules.specs.Text.{Bytes, maxPairs}
 use Rattle.rules.specs.Graph.{Program, edgeCount}
 use Rattle.rules.specs.ProgramFile.{Listing}
-use Rattle.rules.specs.SuiteFile.{TestListing, coverageAt, readTests, testCount}
-use Rattle.rules.specs.Closing.{dangers, meets, pairs}
+use Rattle.rules.specs.SuiteFile.{coverageAt, readTests, testCount}
+use Rattle.rules.specs.Closing.{pairs}
 use Rattle.rules.specs.Job.{Given, Outcome, outputAfter, recordBytes, refusal, sheetBytes, writing}
+use Rattle.rules.specs.Proofs.ReadBack.{selected-short}
 use Rattle.versions.specs.Memory.{InMemory, Memory}
-use Rattle.versions.specs.Held.{PairsHeld}
+use Rattle.versions.specs.MemoryLaws.{sound}
 use Rattle.closure.specs.Claims.{Closes, Found, Sized}
-use Rattle.selection.specs.Compared.{Compared}
-use Rattle.selection.specs.Dangers.{DangerSet, DangersMarked, Marks, Repeats}
+use Rattle.selection.specs.Dangers.{DangersMarked, Marks, Repeats}
 use Rattle.selection.specs.Marks.{Finds, MarksFound}
 use Rattle.selection.specs.MarkLaws.{marks-front}
-use Rattle.suite.specs.Rows.{Holds, Row}
+use Rattle.suite.specs.Rows.{Holds}
+use Rattle.suite.specs.RowLaws.{suite-read}
 use Rattle.writer.specs.declared.Answer.{Answer}
-use Rattle.writer.specs.Sheets.{Marked, RecordWrites, RecordWritten, SheetWrites, SheetWritten, Told, recordOf, selection, sheetOf, written, writing-written}
+use Rattle.writer.specs.Sheets.{RecordWrites, RecordWritten, SheetWrites, SheetWritten, Told, selection, writing-written}
 use Rattle.writer.specs.Sheets as writer
 use Rattle.intake.specs.declared.Texts.{Texts}
 use Rattle.intake.specs.Ready.{Few, Ready}
@@ -34,7 +33,7 @@ use Rattle.work.specs.Work.{Chosen, Done, RecordDone, RecordFrom, Select
 -- ---- `select`
 
 module _ (v v′ : Memory) (edges : ℕ) (w w′ : List ℕ) (c : ℕ) (h : Sized w w′ (Closes v v′ 4096 w w′ c)) where
-  found : (o p : Listing) → InMemory v o → InMemory v′ p → 12800 ≤ length w → Found (o .program) (p .program) 4096 w′ c
+  found : (o p : Listing) → InMemory v o → InMemory v′ p → 16896 ≤ length w → Found (o .program) (p .program) 4096 w′ c
   unfolding Closes
   found o p io ip l = h .claim o p io ip (omega arith)
 
@@ -92,7 +91,7 @@ module _ (v v′ : Memory) (tt tests rows : List ℕ) (had : Texts) (w : List �
   abbrev giving : (g : Given) → Ready v v′ tt tests rows had g → Given
   giving g y = record { old = y .o .program; new = y .p .program; suite = y .l .suite }
 
-  chosen : (w′ set set′ : List ℕ) (c : ℕ) → Selected v v′ (had .«old_edges») w w′ set set′ c → length set ≡ 16 → (g : Given) (y : Ready v v′ tt tests rows had g) → 12800 ≤ length w
+  chosen : (w′ set set′ : List ℕ) (c : ℕ) → Selected v v′ (had .«old_edges») w w′ set set′ c → length set ≡ 16 → (g : Given) (y : Ready v v′ tt tests rows had g) → 16896 ≤ length w
       → Chosen (y .o .program) (y .p .program) w′ set′ c
   unfolding Selects
   chosen w′ set set′ c s k g y l = s .selects (y .o) (y .p) (y .old-in) (y .new-in) (y .old-edges-n) l (omega arith)
@@ -133,6 +132,8 @@ module _ (v v′ : Memory) (tt tests rows : List ℕ) (had : Texts) (w : List �
               dangerous = x .marked m .bits;
               suite-read = ap (λ (n : ℕ). readTests n tt) (y .old-edges-n) ∙ y .tests-read;
               suite-held = subst (λ (n : ℕ). Holds n tests rows (had .tests) (y .l)) (sym (y .old-edges-n)) (y .tests-in);
+              short = selected-short (giving g y) (edgeCount (y .o .program)) (suite-read (edgeCount (y .o .program)) tt (y .l) (y .tests-read)) (held-few g y w′ set′ c x m)
+                  (sound v (y .o) (y .old-in)) (sound v′ (y .p) (y .new-in));
             }) in
             subst (λ (g : Given). Told (writing g (length out) (sheetBytes g)) r out out′) (sym (y .given-is))
             (told-as (writing-written (giving g y) (length out) (sheetBytes (giving g y)) (held-few g y w′ set′ c x m)) t);

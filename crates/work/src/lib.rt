@@ -1,5 +1,5 @@
 // The work of a job whose texts were read: the selection, the sheet, the record lines. Programs and tests are in memory, as reading them
-// leaves them; `w` is the table of the pairs, of 12,800 numbers.
+// leaves them; `w` is the table of the pairs, of 16,896 numbers.
 use intake::Texts;
 use writer::Answer;
 ghost use mathlib.Core.Path.{_≡_};

@@ -179,6 +179,13 @@ none-left : (o₁ o : List ℕ) → length o₁ ≡ 0 → o₁ ++ o ≡ o
 none-left [] o h = refl
 none-left (x ∷ o₁) o h = absurd (let z : ⊥ = omega arith in z)
 
+-- Where there is room, the bytes are written.
+told-put : (o : List ℕ) {vs o₂ : List ℕ} {k : ℕ} → length vs ≤ length o → Puts o 0 vs k o₂ → Told (written (length o) vs) (record { number = 0; place = k }) o o₂
+unfolding written outputAfter
+told-put o {vs} {o₂} {k} h w =
+    let q : written (length o) vs ≡ wrote vs = choose-no _ _ (le-ltb (length o) (length vs) h) in
+    subst (λ (x : Outcome). Told x (record { number = 0; place = k }) o o₂) (sym q) (record { numbered = refl; placed = omega (arith, w .next); output = puts-front w h })
+
 module _ {vs o₁ : List ℕ} {n : ℕ} (o : List ℕ) (p : Puts [] 0 vs n o₁) where
   told-short : length o < n → Told (written (length o) vs) (record { number = 16; place = 0 }) o o
   unfolding written outputAfter
@@ -187,11 +194,10 @@ module _ {vs o₁ : List ℕ} {n : ℕ} (o : List ℕ) (p : Puts [] 0 vs n o₁)
       subst (λ (x : Outcome). Told x (record { number = 16; place = 0 }) o o) (sym q) (record { numbered = refl; placed = refl; output = refl })
 
   told-written : {o₂ : List ℕ} {k : ℕ} → n ≤ length o → Puts o 0 vs k o₂ → Told (written (length o) vs) (record { number = 0; place = n }) o o₂
-  unfolding written outputAfter
   told-written {o₂} {k} h w =
       let m : n ≡ length vs = puts-measure p .0 in
-      let q : written (length o) vs ≡ wrote vs = choose-no _ _ (le-ltb (length o) (length vs) (omega arith)) in
-      subst (λ (x : Outcome). Told x (record { number = 0; place = n }) o o₂) (sym q) (record { numbered = refl; placed = m; output = puts-front w (omega arith) })
+      let e : k ≡ n = omega (arith, w .next) in
+      subst (λ (q : ℕ). Told (written (length o) vs) (record { number = 0; place = q }) o o₂) e (told-put o (omega arith) w)
 
 -- `write_sheet`: the output after measuring is o₁ before o, and o₁ is no bytes.
 module _ {s : Selection} {o₁ : List ℕ} {n : ℕ} (o : List ℕ) (p : SheetPut s [] n o₁) where
@@ -204,14 +210,19 @@ module _ {s : Selection} {o₁ : List ℕ} {n : ℕ} (o : List ℕ) (p : SheetPu
       let l : length o < n = rw back at h in
       rw back (record { writes = λ old new t g. told-short o (p .puts old new t g) l; size = refl })
 
-  pub sheet-written : {o₂ : List ℕ} {k : ℕ} → n ≤ length (o₁ ++ o) → SheetPut s (o₁ ++ o) k o₂ → SheetWritten s o (record { number = 0; place = n }) o₂
+  pub sheet-written : {o₂ : List ℕ} {k : ℕ} → n ≤ length (o₁ ++ o) → SheetPut s (o₁ ++ o) k o₂ → SheetWritten s o (record { number = 0; place = k }) o₂
   unfolding SheetPuts SheetWrites
   sheet-written {o₂} {k} h q =
       let l : n ≤ length o = rw back at h in
       let w : SheetPut s o k o₂ = rw back at q in
-      record { writes = λ old new t g. told-written o (p .puts old new t g) l (w .puts old new t g); size = w .size }
+      record { writes = λ old new t g. told-put o (omega (arith, puts-measure (p .puts old new t g) .0)) (w .puts old new t g); size = w .size }
 
-pub ruleset sheets = (sheet-short, sheet-written)
+-- Not measured: it fits in any case.
+pub sheet-fits : {s : Selection} {o o₂ : List ℕ} {k : ℕ} → 65536 ≤ length o → SheetPut s o k o₂ → SheetWritten s o (record { number = 0; place = k }) o₂
+unfolding SheetPuts SheetWrites
+sheet-fits {o = o} h w = record { writes = λ old new t g. told-put o (omega (arith, g .short)) (w .puts old new t g); size = w .size }
+
+pub ruleset sheets = (sheet-short, sheet-written, sheet-fits)
 
 -- ---- record lines
 

@@ -9,7 +9,6 @@ use native.Mathlib.Numerals.{add-one}
 use native.Mathlib.Nat.{add-zero, add-suc}
 use native.Mathlib.Omega.{arith}
 use lib.Dec.{leb}
-use lib.ListN.{length}
 use borrow.Author.Tests.{eqb-true, le-leb, leb-true}
 use Rattle.laws.specs.Tests.{_and_, _or_, first, found, gridRow, has, ifTrue, keep, listed, orElse, pick, those}
 use Rattle.laws.specs.TestLaws.{Ascending, Before, and-both, and-left, and-right, asc-more, asc-none, both-ways, eqb-self, fails, first-at, first-none, or-cases, or-left, or-right, same-test}

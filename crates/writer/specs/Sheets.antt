@@ -8,7 +8,7 @@ use borrow.Author.Tests.{le-ltb}
 use Rattle.laws.specs.Tests.{choose, has}
 use Rattle.laws.specs.Lists.{choose-no}
 use Rattle.laws.specs.Bits.{bitIn}
-use Rattle.rules.specs.Text.{Bytes, accepted, maxPairs, textOf}
+use Rattle.rules.specs.Text.{Bytes, accepted, maxBytes, maxPairs, textOf}
 use Rattle.rules.specs.Graph.{Program, edgeCount, nodeCount}
 use Rattle.rules.specs.Closing.{dangers, pairs}
 use Rattle.rules.specs.SuiteFile.{TestListing, coverageAt, readTests, testCount, testName}
@@ -56,7 +56,11 @@ pub record Selection : Type 0 where
 abbrev pub selection : List ℕ → ℕ → ℕ → ℕ → List ℕ → ℕ → Bytes → List ℕ → List ℕ → ℕ → Selection
 selection w c a b d e t i r n = record { table = w; pairCount = c; olds = a; news = b; set = d; edges = e; text = t; tests = i; rows = r; tested = n }
 
--- It is that of two programs and the tests that were read.
+-- The selector's sheet of two programs and the tests that were read.
+abbrev pub sheetOf : Program → Program → TestListing → Bytes
+sheetOf old new l = sheetText (l .suite .names) (selected old new (l .suite .coverages))
+
+-- The selection is that of two programs and the tests that were read, whose sheet is within the limit on bytes.
 pub record Selects (old new : Program) (l : TestListing) (s : Selection) : Type 0 where
   pub old-nodes : s .olds ≡ nodeCount old
   pub new-nodes : s .news ≡ nodeCount new
@@ -65,10 +69,7 @@ pub record Selects (old new : Program) (l : TestListing) (s : Selection) : Type 
   pub dangerous : (e : ℕ) → e < 1024 → bitIn (s .set) e ≡ has (dangers old new) e
   pub suite-read : readTests (s .edges) (s .text) ≡ accepted l
   pub suite-held : Holds (s .edges) (s .tests) (s .rows) (s .tested) l
-
--- The selector's sheet of two programs and the tests that were read.
-abbrev pub sheetOf : Program → Program → TestListing → Bytes
-sheetOf old new l = sheetText (l .suite .names) (selected old new (l .suite .coverages))
+  pub short : length (sheetOf old new l) ≤ maxBytes
 
 -- `put_sheet`: the bytes of the sheet, from the front on.
 unfoldable pub SheetPuts : Selection → List ℕ → ℕ → List ℕ → Type 0

@@ -275,8 +275,8 @@ fn put_sheet(
     put_end(out, d, pairs, dangers, repeats)
 }
 
-// Writes the sheet of a selection: measures it, and refuses with 16 where the output is shorter.
-pub fn write_sheet(
+// Measures the sheet, refuses with 16 where the output is shorter, and else writes it.
+fn write_measured(
     w: &[usize],
     pairs: usize,
     olds: usize,
@@ -311,7 +311,7 @@ pub fn write_sheet(
             place: 0,
         };
     }
-    put_sheet(
+    let place = put_sheet(
         out,
         w,
         pairs,
@@ -324,10 +324,56 @@ pub fn write_sheet(
         rows,
         count,
     );
-    Answer {
-        number: 0,
-        place: n,
+    Answer { number: 0, place }
+}
+
+// Writes the sheet of a selection, or refuses with 16 where the output is shorter. No sheet has more than 65,536 bytes, so that into so many
+// it is written without being measured.
+pub fn write_sheet(
+    w: &[usize],
+    pairs: usize,
+    olds: usize,
+    news: usize,
+    set: &[u64],
+    edges: usize,
+    text: &[u8],
+    tests: &[usize],
+    rows: &[u64],
+    count: usize,
+    out: &mut [u8],
+) -> Answer
+    requires { ⌜ (olds ≤ 512) × (news ≤ 512) × (edges ≤ 1024) × (count ≤ 200) ⌝ }
+    ensures { λ r. ⌜ SheetWritten (selection (now (w .entry)) pairs olds news (now (set .entry)) edges (now (text .entry)) (now (tests .entry)) (now (rows .entry)) count) (now (out .entry)) r (now (out .exit)) ⌝ }
+{
+    if 65536 <= out.len() {
+        let place = put_sheet(
+            out,
+            w,
+            pairs,
+            olds,
+            news,
+            set,
+            edges,
+            text,
+            tests,
+            rows,
+            count,
+        );
+        return Answer { number: 0, place };
     }
+    write_measured(
+        w,
+        pairs,
+        olds,
+        news,
+        set,
+        edges,
+        text,
+        tests,
+        rows,
+        count,
+        out,
+    )
 }
 
 // ---- record lines

@@ -34,6 +34,12 @@ same-length-2 c = search (all, needs)
 returns-2 : tie.Need-returns-2 Inv-loop μ-loop
 returns-2 c = search (all, needs)
 
+same-length-3 : tie.Need-same-length-3 Inv-loop μ-loop
+same-length-3 c = search (all, needs)
+
+returns-3 : tie.Need-returns-3 Inv-loop μ-loop
+returns-3 c = search (all, needs)
+
 loop-less : tie.Need-loop-less Inv-loop μ-loop
 loop-less c = search (all, needs)
 
@@ -53,5 +59,7 @@ repeat-spec =
     returns
     same-length-2
     returns-2
+    same-length-3
+    returns-3
     loop-less
     loop-again)

@@ -1,6 +1,6 @@
 use mathlib.Core.Path.{refl}
 use borrow.Author.Needs.{needs}
-use Rattle.job_calls.proofs.Laws.{sheets, check-goes, due-asks, unloads}
+use Rattle.job_calls.proofs.Laws.{sheets, check-goes, due-asks, unloads, wide}
 use Rattle.job_calls.proofs.check_in.Statement.{statement}
 use Rattle.job_calls.proofs.check_in.Tie as tie
 
@@ -47,15 +47,13 @@ slice-aggregate-check-sheet-3 : tie.Need-slice-aggregate-check-sheet-3
 slice-aggregate-check-sheet-3 c = search needs
 
 check-sheet-requires : tie.Need-check-sheet-requires
-check-sheet-requires c κs =
-    let a = due-asks _ _ _ (c .before .before .before .before .before .before .due .ensures) (c .before .before .before .before .if1 .left) in
-    (a .0, a .1, a .2, a .3, a .4, search needs)
+check-sheet-requires c κs = let a = due-asks _ _ _ (c .before .before .before .before .before .before .before .before .due .ensures) (c .before .before .before .before .if1 .left) in (a .0, a .1, a .2, a .3, wide _ _ _ (a .4) (search needs), search needs)
 
 same-length-2 : tie.Need-same-length-2
 same-length-2 c = search needs
 
 returns-2 : tie.Need-returns-2
-returns-2 c = check-goes _ _ _ _ _ _ _ _ _ _ _ _ _ (unloads _ _ _ _ 0 refl (c .before .before .before .before .before .before .before .before .before .before .before .before .before .before .before .before .before .before .before .before .run .ensures) (c .before .before .before .before .before .before .before .before .before .before .before .before .before .before .before .before .before .before .before .copy .ensures)) (unloads _ _ _ _ 2048 refl (c .before .before .before .before .before .before .before .before .before .before .before .before .before .before .before .run2 .ensures) (c .before .before .before .before .before .before .before .before .before .before .before .before .before .before .copy2 .ensures)) _ (c .before .before .before .before .before .before .before .before .before .before .due .ensures) _ _ (c .before .before .before .before .before .before .before .before .if1 .left) (c .before .before .before .check-sheet .ensures)
+returns-2 c = check-goes _ _ _ _ _ _ _ _ _ _ _ _ _ (unloads _ _ _ _ 0 refl (c .before .before .before .before .before .before .before .before .before .before .before .before .before .before .before .before .before .before .before .before .before .before .before .run .ensures) (c .before .before .before .before .before .before .before .before .before .before .before .before .before .before .before .before .before .before .before .before .before .before .copy .ensures)) (unloads _ _ _ _ 2048 refl (c .before .before .before .before .before .before .before .before .before .before .before .before .before .before .before .before .before .before .run2 .ensures) (c .before .before .before .before .before .before .before .before .before .before .before .before .before .before .before .before .before .copy2 .ensures)) _ (c .before .before .before .before .before .before .before .before .before .before .before .before .due .ensures) _ _ (c .before .before .before .before .before .before .before .before .if1 .left) (c .before .before .before .check-sheet .ensures)
 
 pub check-in-spec : {M : Type 1} → statement M
 check-in-spec =

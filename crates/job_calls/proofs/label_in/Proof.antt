@@ -31,8 +31,11 @@ slice-aggregate-due-2 c = search needs
 due-requires : tie.Need-due-requires
 due-requires c κs = search needs
 
+same-length : tie.Need-same-length
+same-length c = search needs
+
 returns : tie.Need-returns
-returns c = label-stop _ _ _ _ _ _ _ _ _ _ _ _ _ (unloads _ _ _ _ 0 refl (c .before .before .before .before .before .before .before .before .before .before .before .run .ensures) (c .before .before .before .before .before .before .before .before .before .before .copy .ensures)) (unloads _ _ _ _ 2048 refl (c .before .before .before .before .before .before .before .run2 .ensures) (c .before .before .before .before .before .before .copy2 .ensures)) _ (c .before .before .due .ensures) _ _ (c .if1 .taken)
+returns c = label-stop _ _ _ _ _ _ _ _ _ _ _ _ _ (unloads _ _ _ _ 0 refl (c .before .before .before .before .before .before .before .before .before .before .before .before .before .before .before .run .ensures) (c .before .before .before .before .before .before .before .before .before .before .before .before .before .before .copy .ensures)) (unloads _ _ _ _ 2048 refl (c .before .before .before .before .before .before .before .before .before .before .run2 .ensures) (c .before .before .before .before .before .before .before .before .before .copy2 .ensures)) _ (c .before .before .before .before .due .ensures) _ _ (c .if1 .taken)
 
 slice-aggregate-label-of : tie.Need-slice-aggregate-label-of
 slice-aggregate-label-of c = search needs
@@ -41,10 +44,13 @@ slice-aggregate-label-of-2 : tie.Need-slice-aggregate-label-of-2
 slice-aggregate-label-of-2 c = search needs
 
 label-of-requires : tie.Need-label-of-requires
-label-of-requires c κs = let a = due-asks _ _ _ (c .before .before .before .before .due .ensures) (c .before .before .if1 .left) in (a .0, a .1)
+label-of-requires c κs = let a = due-asks _ _ _ (c .before .before .before .before .before .before .due .ensures) (c .before .before .if1 .left) in (a .0, a .1)
+
+same-length-2 : tie.Need-same-length-2
+same-length-2 c = search needs
 
 returns-2 : tie.Need-returns-2
-returns-2 c = label-goes _ _ _ _ _ _ _ _ _ _ _ _ _ (unloads _ _ _ _ 0 refl (c .before .before .before .before .before .before .before .before .before .before .before .before .before .before .run .ensures) (c .before .before .before .before .before .before .before .before .before .before .before .before .before .copy .ensures)) (unloads _ _ _ _ 2048 refl (c .before .before .before .before .before .before .before .before .before .before .run2 .ensures) (c .before .before .before .before .before .before .before .before .before .copy2 .ensures)) _ (c .before .before .before .before .before .due .ensures) _ _ _ (c .before .before .before .if1 .left) (c .label-of .ensures)
+returns-2 c = label-goes _ _ _ _ _ _ _ _ _ _ _ _ _ (unloads _ _ _ _ 0 refl (c .before .before .before .before .before .before .before .before .before .before .before .before .before .before .before .before .before .before .run .ensures) (c .before .before .before .before .before .before .before .before .before .before .before .before .before .before .before .before .before .copy .ensures)) (unloads _ _ _ _ 2048 refl (c .before .before .before .before .before .before .before .before .before .before .before .before .before .run2 .ensures) (c .before .before .before .before .before .before .before .before .before .before .before .before .copy2 .ensures)) _ (c .before .before .before .before .before .before .before .due .ensures) _ _ _ (c .before .before .before .if1 .left) (c .label-of .ensures)
 
 pub label-in-spec : {M : Type 1} → statement M
 label-in-spec =
@@ -59,8 +65,10 @@ label-in-spec =
     slice-aggregate-due
     slice-aggregate-due-2
     due-requires
+    same-length
     returns
     slice-aggregate-label-of
     slice-aggregate-label-of-2
     label-of-requires
+    same-length-2
     returns-2)

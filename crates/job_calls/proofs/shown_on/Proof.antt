@@ -1,5 +1,5 @@
 use borrow.Author.Needs.{needs}
-use Rattle.job_calls.proofs.Laws.{on-shown}
+use Rattle.job_calls.proofs.Laws.{on-shown, on-zero}
 use Rattle.job_calls.proofs.shown_on.Statement.{statement}
 use Rattle.job_calls.proofs.shown_on.Tie as tie
 
@@ -16,7 +16,7 @@ same-length : tie.Need-same-length
 same-length c = search needs
 
 returns : tie.Need-returns
-returns c = (on-shown _ _ _ _ _ (c .before .before .before .before .before .label-in .ensures) (c .shown-part .ensures), c .before .before .before .clear .ensures)
+returns c = (on-shown _ _ _ _ _ (c .before .before .before .before .before .before .before .label-in .ensures) (c .shown-part .ensures), on-zero _ _ _ (c .before .before .before .before .before .before .scratch .given) (c .before .before .before .clear .ensures))
 
 pub shown-on-spec : {M : Type 1} → statement M
 shown-on-spec =

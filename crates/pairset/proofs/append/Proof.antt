@@ -6,6 +6,12 @@ use Rattle.pairset.proofs.append.Tie as tie
 returns : tie.Need-returns
 returns c = search (all, needs)
 
+returns-2 : tie.Need-returns-2
+returns-2 c = search (all, needs)
+
+returns-3 : tie.Need-returns-3
+returns-3 c = search (all, needs)
+
 last-pair-requires : tie.Need-last-pair-requires
 last-pair-requires c κs = search needs
 
@@ -18,6 +24,21 @@ add-put-row c = search needs
 put-row-requires : tie.Need-put-row-requires
 put-row-requires c κs = search needs
 
+mul-set-bit : tie.Need-mul-set-bit
+mul-set-bit c = search needs
+
+add-set-bit : tie.Need-add-set-bit
+add-set-bit c = search needs
+
+mul-set-bit-2 : tie.Need-mul-set-bit-2
+mul-set-bit-2 c = search needs
+
+add-set-bit-2 : tie.Need-add-set-bit-2
+add-set-bit-2 c = search needs
+
+set-bit-requires : tie.Need-set-bit-requires
+set-bit-requires c κs = search needs
+
 add-put : tie.Need-add-put
 add-put c = search needs
 
@@ -27,19 +48,26 @@ put-requires c κs = search needs
 same-length : tie.Need-same-length
 same-length c = search needs
 
-returns-2 : tie.Need-returns-2
-returns-2 c = search (all, needs)
+returns-4 : tie.Need-returns-4
+returns-4 c = search (all, needs)
 
 pub append-spec : {M : Type 1} → statement M
 append-spec =
     tie.close
     (tie.spec
     returns
+    returns-2
+    returns-3
     last-pair-requires
     mul-put-row
     add-put-row
     put-row-requires
+    mul-set-bit
+    add-set-bit
+    mul-set-bit-2
+    add-set-bit-2
+    set-bit-requires
     add-put
     put-requires
     same-length
-    returns-2)
+    returns-4)

@@ -3,13 +3,13 @@ use mathlib.Core.Path.{_≡_, refl, sym, ap, subst}
 use mathlib.Core.Bool.{Bool, true, false}
 use mathlib.Core.Option.{Option, none, some}
 use mathlib.Core.List.{List, [], _∷_, _++_}
-use Prim.Native.Nat.{ℕ, zero, suc, _+_, _≤_, _<_}
+use Prim.Native.Nat.{ℕ, suc, _+_, _≤_, _<_}
 use native.Mathlib.Omega.{arith}
 use native.Mathlib.Decide.{decLt}
 use lib.Dec.{eqb}
 use lib.ListN.{length, getD, length-append, List·getD-eq-default}
 use borrow.Author.Tests.{ltb-false}
-use Rattle.laws.specs.Tests.{after, choose, count, first, firstFailed, plus}
+use Rattle.laws.specs.Tests.{after, choose, count, first, firstFailed}
 use Rattle.laws.specs.Counting.{count-few}
 use Rattle.laws.specs.Lists.{snoc-all, snoc-length}
 use Rattle.rules.specs.Text.{Answer, Bytes, accepted, bytes, decimal, fieldsOf, joinBy, linesOf, onto, readLines, readText, refused, split, textOf, then, unless, maxBytes}

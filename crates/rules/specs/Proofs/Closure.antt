@@ -9,7 +9,7 @@ use lib.Dec.{eqb}
 use lib.ListN.{length, getD}
 use borrow.Author.Tests.{eqb-true, eqb-false, eq-eqb}
 use Rattle.laws.specs.Tests.{_and_, _or_, any, has, listed, anyPair, pick, grid}
-use Rattle.laws.specs.TestLaws.{and-left, and-right, and-both, implied, implies, or-cases, or-left, or-right, both-ways, fails, passes?, true-isnt, isnt-true, same-test, eqb-self, every-of, any-at, any-of, those-of, anyPair-at, anyPair-of, allPairs-of, pick-of, pick-at, pick-more, pick-same, pick-all, pick-agree, grid-of, grid-at, Ascending, grid-ascends, pick-ascends, none-left, none-failed, those-at, anyOf-at, anyOf-of}
+use Rattle.laws.specs.TestLaws.{and-left, and-right, and-both, implied, implies, or-cases, or-left, or-right, both-ways, fails, passes?, true-isnt, isnt-true, eqb-self, every-of, any-at, any-of, those-of, anyPair-at, anyPair-of, allPairs-of, pick-of, pick-at, pick-more, pick-same, pick-all, grid-of, grid-at, Ascending, grid-ascends, pick-ascends, none-left, none-failed, those-at, anyOf-at, anyOf-of}
 use Rattle.laws.specs.Lists.{Rising, those-rise}
 use Rattle.rules.specs.Graph.{E, C, Program, WellFormed, procCount, nodeCount, edgeCount, kindAt, labelAt, calleeAt, sourceAt, targetAt, entry, exit, called, filled}
 use Rattle.rules.specs.Closing.{alike, fits, Pair, first-entries, callee-entries, edge-ends, Counterparts, Dangerous, bothCall, fitted, goesOn, joined, byStart, byCall, byEdge, follows, grown, dangerousAt, dangerous, closed, pairs, dangers, Coverage, meets, repeated, holds}
@@ -224,29 +224,6 @@ module _ (old new : Program) (wo : WellFormed old) (wn : WellFormed new) where
   -- The computed list holds just the pairs.
   pub smallest : (a b : ℕ) → (listed (pairs old new) a b ≡ true) ↔ Pair old new a b
   smallest a b = (pairs-sound old new a b, pairs-complete)
-
-  -- Any test that passes just the pairs picks that list: what a selector that finds them in another way has to show.
-  pub pairs-by : (f : ℕ → ℕ → Bool) → ((a b : ℕ) → a < nodeCount old → b < nodeCount new → (f a b ≡ true) ↔ Pair old new a b)
-      → pairs old new ≡ pick f (grid (nodeCount old) (nodeCount new))
-  pairs-by f h = q .1 ∙ pick-agree (q .0) f (grid (nodeCount old) (nodeCount new)) agree
-    where
-      q : (q : ℕ → ℕ → Bool) × (pairs old new ≡ pick q (grid (nodeCount old) (nodeCount new)))
-      q = pairs-picked old new
-
-      agree : (a b : ℕ) → listed (grid (nodeCount old) (nodeCount new)) a b ≡ true → q .0 a b ≡ f a b
-      agree a b l =
-          let i = grid-at _ _ a b l in
-          same-test _ _ (λ t. h a b (i .0) (i .1) .1 (pairs-sound old new a b (rw (q .1) (pick-of (q .0) _ a b l t))))
-          (λ t. pick-at (q .0) _ a b (rw (q .1) at (pairs-complete (h a b (i .0) (i .1) .0 t))) .1)
-
-  -- A test that passes only pairs, and has the three rules, passes just the pairs: what a loop that finds them has to keep.
-  pub pairs-found : (f : ℕ → ℕ → Bool) → ((a b : ℕ) → f a b ≡ true → Pair old new a b) → f (entry old 0) (entry new 0) ≡ true
-      → ((n n′ : ℕ) → f n n′ ≡ true → kindAt old n ≡ C → kindAt new n′ ≡ C → f (entry old (called old n)) (entry new (called new n′)) ≡ true)
-      → ((e e′ : ℕ) → f (sourceAt old e) (sourceAt new e′) ≡ true
-      → (kindAt old (sourceAt old e) ≡ C → f (exit old (called old (sourceAt old e))) (exit new (called new (sourceAt new e′))) ≡ true)
-      → e < edgeCount old → e′ < edgeCount new → fits old new e e′ ≡ true → f (targetAt old e) (targetAt new e′) ≡ true)
-      → pairs old new ≡ pick f (grid (nodeCount old) (nodeCount new))
-  pairs-found f sound r1 r2 r3 = pairs-by f (λ a b h h′. (sound a b, least old new (λ a b. f a b ≡ true) r1 r2 r3))
 
   -- Rule 3 joins by the list of pairs just the counterparts.
   pub joined-iff : (e e′ : ℕ) → e < edgeCount old → e′ < edgeCount new → (joined old new (pairs old new) e e′ ≡ true) ↔ Counterparts old new e e′

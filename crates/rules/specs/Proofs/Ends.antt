@@ -1,5 +1,5 @@
 -- What a run's end is: a run that has ended takes no step, so that it crosses nothing more.
-use mathlib.Core.Path.{_≡_, refl, sym, ap, _∙_, subst}
+use mathlib.Core.Path.{_≡_, refl, sym, subst}
 use mathlib.Core.Logic.{⊎-elim}
 use mathlib.Core.Bool.{true, false, false≢true}
 use mathlib.Core.Option.{Option, none, some, Option·some-injective, Option·none-ne-some}
@@ -7,9 +7,8 @@ use mathlib.Core.List.{List, [], _∷_, _++_}
 use Prim.Native.Nat.{ℕ, zero, suc}
 use Rattle.laws.specs.Tests.{has, after}
 use Rattle.laws.specs.TestLaws.{has-append, has-append-left, has-append-right}
-use Rattle.rules.specs.Text.{Bytes}
-use Rattle.rules.specs.Graph.{Kind, E, S, C, X, Program, kindAt, targetAt, edgeTaken, dash}
-use Rattle.rules.specs.Run.{Meaning, Config, listOf, across, stepAt, step, edgeAhead, crossing, run, trail, endedAt, ended}
+use Rattle.rules.specs.Graph.{Kind, E, S, C, X, Program, kindAt}
+use Rattle.rules.specs.Run.{Meaning, Config, listOf, stepAt, step, crossing, run, trail, endedAt, ended}
 
 module _ {ℓ κ} {St : Type ℓ} {Out : Type κ} (p : Program) (m : Meaning St Out) where
   -- A run that has ended takes no step.
@@ -23,23 +22,6 @@ module _ {ℓ κ} {St : Type ℓ} {Out : Type κ} (p : Program) (m : Meaning St 
       go C calls e = absurd (false≢true e)
       go X [] e = refl
       go X (k ∷ calls) e = absurd (false≢true e)
-
-  -- A step that crosses an edge ends on the end of that edge.
-  pub crossing-lands : (c d : Config St Out) (e : ℕ) → step p m c ≡ some d → crossing p c ≡ some e → d .node ≡ targetAt p e
-  unfolding step stepAt crossing edgeAhead
-  crossing-lands c d e s x = go (kindAt p (c .node)) (c .word) (c .calls) s x
-    where
-      land : (o : Option ℕ) (calls : List ℕ) → across p calls c o ≡ some d → o ≡ some e → d .node ≡ targetAt p e
-      land none calls s x = absurd (Option·none-ne-some e x)
-      land (some f) calls s x = sym (ap (λ (c : Config St Out). c .node) (Option·some-injective _ d s)) ∙ ap (targetAt p) (Option·some-injective f e x)
-
-      go : (k : Kind) (w : Option Bytes) (calls : List ℕ) → stepAt p m k w calls c ≡ some d → edgeAhead p k w calls (c .node) ≡ some e → d .node ≡ targetAt p e
-      go E w calls s x = land (edgeTaken p (c .node) dash) calls s x
-      go S none calls s x = absurd (Option·none-ne-some e x)
-      go S (some w) calls s x = land (edgeTaken p (c .node) w) calls s x
-      go C w calls s x = absurd (Option·none-ne-some e x)
-      go X w [] s x = absurd (Option·none-ne-some e x)
-      go X w (k ∷ calls) s x = land (edgeTaken p k dash) calls s x
 
   -- Where a run has ended after k steps, it crosses no edge that it has not crossed in them.
   pub ended-crosses : (k j : ℕ) (c d : Config St Out) → run p m k c ≡ some d → ended p d ≡ true

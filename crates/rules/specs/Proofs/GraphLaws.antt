@@ -76,14 +76,6 @@ module _ (p : Program) (wf : WellFormed p) where
       let s = isOf-true p q E (r .0) (r .2) in
       rw (r .4) (r .1, s .0, s .1)
 
-  -- The only node of kind X of a procedure is its exit.
-  pub exit-is : (q : ℕ) → q < procCount p → (exit p q < nodeCount p) × (ownerAt p (exit p q) ≡ q) × (kindAt p (exit p q) ≡ X)
-  unfolding exit orZero
-  exit-is q h =
-      let r = first-found (nodeCount p) (isOf p q X) (wf .exits q h) in
-      let s = isOf-true p q X (r .0) (r .2) in
-      rw (r .4) (r .1, s .0, s .1)
-
   pub exit-only : (q n : ℕ) → q < procCount p → n < nodeCount p → ownerAt p n ≡ q → kindAt p n ≡ X → n ≡ exit p q
   unfolding exit orZero
   exit-only q n h l a b =

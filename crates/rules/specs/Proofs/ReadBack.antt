@@ -318,6 +318,10 @@ module _ (g : Given) (w : ℕ) (h : SoundSuite w (g .suite)) (few : length (pair
         fewR = omega (arith, those-few (λ i. meets (dangers (g .old) (g .new)) (getD (g .suite .coverages) i [])) (length (g .suite .coverages)), h .paired, h .few);
       }
 
+  -- It is within the limit on bytes.
+  pub selected-short : Sound (g .old) → Sound (g .new) → length (sheetText (g .suite .names) (selected (g .old) (g .new) (g .suite .coverages))) ≤ maxBytes
+  selected-short so sn = sheet-short (g .old) (g .new) (g .suite) so sn w h (selected (g .old) (g .new) (g .suite .coverages)) chosen-orderly (chosen-few so)
+
 -- The checker passes all that the selector writes.
 pub written-passes : (old new tests : Bytes) (room : ℕ) (sheet : Bytes) → sheetAnswer old new tests room ≡ wrote sheet
     → (checkAnswer old new tests sheet ≡ passed) × (length sheet ≤ maxBytes)
@@ -333,5 +337,5 @@ written-passes old new tests room sheet e =
       passed-check old new tests sheet g c (u .1)
           (subst (λ (b : Bytes). readSheet (g .old) (g .new) (g .suite) b ≡ accepted c) (u .4) (read-back (g .old) (g .new) (g .suite) (n .old-sound) (n .new-sound) _ h c o f))
           (selected-passes (g .old) (g .new) (n .old-formed) (n .new-formed) (g .suite .coverages)),
-      subst (λ (b : Bytes). length b ≤ maxBytes) (u .4) (sheet-short (g .old) (g .new) (g .suite) (n .old-sound) (n .new-sound) _ h c o f),
+      subst (λ (b : Bytes). length b ≤ maxBytes) (u .4) (selected-short g _ h (u .2) (n .old-sound) (n .new-sound)),
     )

@@ -12,56 +12,59 @@ same-requires c κs = search needs
 returns : tie.Need-returns
 returns c = search (all, needs)
 
-count-requires : tie.Need-count-requires
-count-requires c κs = search needs
-
-field-requires : tie.Need-field-requires
-field-requires c κs = search needs
-
-field-requires-2 : tie.Need-field-requires-2
-field-requires-2 c κs = search needs
-
-two-requires : tie.Need-two-requires
-two-requires c κs = search needs
+first-short-requires : tie.Need-first-short-requires
+first-short-requires c κs = search needs
 
 returns-2 : tie.Need-returns-2
 returns-2 c = search (all, needs)
 
-field-requires-3 : tie.Need-field-requires-3
-field-requires-3 c κs = search needs
+add-after : tie.Need-add-after
+add-after c = search needs
 
-field-requires-4 : tie.Need-field-requires-4
-field-requires-4 c κs = search needs
+after-requires : tie.Need-after-requires
+after-requires c κs = search needs
 
-field-requires-5 : tie.Need-field-requires-5
-field-requires-5 c κs = search needs
+first-short-requires-2 : tie.Need-first-short-requires-2
+first-short-requires-2 c κs = search needs
 
-three-requires : tie.Need-three-requires
-three-requires c κs = search needs
+two-requires : tie.Need-two-requires
+two-requires c κs = search needs
 
 returns-3 : tie.Need-returns-3
 returns-3 c = search (all, needs)
 
-field-requires-6 : tie.Need-field-requires-6
-field-requires-6 c κs = search needs
+add-after-2 : tie.Need-add-after-2
+add-after-2 c = search needs
 
-field-requires-7 : tie.Need-field-requires-7
-field-requires-7 c κs = search needs
+after-requires-2 : tie.Need-after-requires-2
+after-requires-2 c κs = search needs
 
-field-requires-8 : tie.Need-field-requires-8
-field-requires-8 c κs = search needs
+first-short-requires-3 : tie.Need-first-short-requires-3
+first-short-requires-3 c κs = search needs
 
-field-requires-9 : tie.Need-field-requires-9
-field-requires-9 c κs = search needs
-
-four-requires : tie.Need-four-requires
-four-requires c κs = search needs
+three-requires : tie.Need-three-requires
+three-requires c κs = search needs
 
 returns-4 : tie.Need-returns-4
 returns-4 c = search (all, needs)
 
+add-after-3 : tie.Need-add-after-3
+add-after-3 c = search needs
+
+after-requires-3 : tie.Need-after-requires-3
+after-requires-3 c κs = search needs
+
+find-requires : tie.Need-find-requires
+find-requires c κs = search needs
+
 returns-5 : tie.Need-returns-5
 returns-5 c = search (all, needs)
+
+four-requires : tie.Need-four-requires
+four-requires c κs = search needs
+
+returns-6 : tie.Need-returns-6
+returns-6 c = search (all, needs)
 
 pub form-of-spec : {M : Type 1} → statement M
 form-of-spec =
@@ -70,20 +73,21 @@ form-of-spec =
     slice-aggregate-same
     same-requires
     returns
-    count-requires
-    field-requires
-    field-requires-2
-    two-requires
+    first-short-requires
     returns-2
-    field-requires-3
-    field-requires-4
-    field-requires-5
-    three-requires
+    add-after
+    after-requires
+    first-short-requires-2
+    two-requires
     returns-3
-    field-requires-6
-    field-requires-7
-    field-requires-8
-    field-requires-9
-    four-requires
+    add-after-2
+    after-requires-2
+    first-short-requires-3
+    three-requires
     returns-4
-    returns-5)
+    add-after-3
+    after-requires-3
+    find-requires
+    returns-5
+    four-requires
+    returns-6)

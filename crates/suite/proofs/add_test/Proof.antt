@@ -9,9 +9,6 @@ returns c = search (all, needs)
 name-seen-requires : tie.Need-name-seen-requires
 name-seen-requires c κs = search needs
 
-row-fine-requires : tie.Need-row-fine-requires
-row-fine-requires c κs = search needs
-
 same-length : tie.Need-same-length
 same-length c = search needs
 
@@ -25,7 +22,7 @@ put-test-requires : tie.Need-put-test-requires
 put-test-requires c κs = search needs
 
 store-row-requires : tie.Need-store-row-requires
-store-row-requires c κs = search needs
+store-row-requires c κs = search (all, needs)
 
 add-t19 : tie.Need-add-t19
 add-t19 c = search needs
@@ -51,7 +48,6 @@ add-test-spec =
     (tie.spec
     returns
     name-seen-requires
-    row-fine-requires
     same-length
     returns-2
     add-put-test

@@ -3,39 +3,23 @@ use Rattle.suite.proofs.All.{all}
 use Rattle.suite.proofs.nibble.Statement.{statement}
 use Rattle.suite.proofs.nibble.Tie as tie
 
-hex-value-requires : tie.Need-hex-value-requires
-hex-value-requires c κs = search needs
+mul-shift : tie.Need-mul-shift
+mul-shift c = search needs
 
-mul-result : tie.Need-mul-result
-mul-result c = search needs
+add-shift : tie.Need-add-shift
+add-shift c = search needs
 
-add-result : tie.Need-add-result
-add-result c = search needs
+mul-shift-2 : tie.Need-mul-shift-2
+mul-shift-2 c = search needs
 
-mul-result-2 : tie.Need-mul-result-2
-mul-result-2 c = search needs
+cast-result : tie.Need-cast-result
+cast-result c = search needs
 
-add-result-2 : tie.Need-add-result-2
-add-result-2 c = search needs
-
-mul-result-3 : tie.Need-mul-result-3
-mul-result-3 c = search needs
-
-add-result-3 : tie.Need-add-result-3
-add-result-3 c = search needs
+shr-result : tie.Need-shr-result
+shr-result c = search (all, needs)
 
 returns : tie.Need-returns
 returns c = search (all, needs)
 
 pub nibble-spec : {M : Type 1} → statement M
-nibble-spec =
-    tie.close
-    (tie.spec
-    hex-value-requires
-    mul-result
-    add-result
-    mul-result-2
-    add-result-2
-    mul-result-3
-    add-result-3
-    returns)
+nibble-spec = tie.close (tie.spec mul-shift add-shift mul-shift-2 cast-result shr-result returns)

@@ -1,5 +1,6 @@
 use borrow.Author.Needs.{needs}
 use Rattle.suite.proofs.All.{all}
+use Rattle.suite.proofs.Laws.{digits-four}
 use Prim.Native.Nat.{_≤_}
 use mathlib.Core.Path.{_≡_}
 use lib.ListN.{length, drop}
@@ -17,14 +18,29 @@ abbrev μ-loop : tie.MeasureT-loop
 loop-holds : tie.Need-loop-holds Inv-loop μ-loop
 loop-holds c = search (all, needs)
 
-sub-j : tie.Need-sub-j Inv-loop μ-loop
-sub-j c = search (all, needs)
+shared-slice-read-four : tie.Need-shared-slice-read-four Inv-loop μ-loop
+shared-slice-read-four c = search (all, needs)
 
-shared-slice-read-nibble : tie.Need-shared-slice-read-nibble Inv-loop μ-loop
-shared-slice-read-nibble c = search (all, needs)
+add-four : tie.Need-add-four Inv-loop μ-loop
+add-four c = search (all, needs)
 
-nibble-requires : tie.Need-nibble-requires Inv-loop μ-loop
-nibble-requires c κs = search (all, needs)
+shared-slice-read-four-2 : tie.Need-shared-slice-read-four-2 Inv-loop μ-loop
+shared-slice-read-four-2 c = search (all, needs)
+
+add-four-2 : tie.Need-add-four-2 Inv-loop μ-loop
+add-four-2 c = search (all, needs)
+
+shared-slice-read-four-3 : tie.Need-shared-slice-read-four-3 Inv-loop μ-loop
+shared-slice-read-four-3 c = search (all, needs)
+
+add-four-3 : tie.Need-add-four-3 Inv-loop μ-loop
+add-four-3 c = search (all, needs)
+
+shared-slice-read-four-4 : tie.Need-shared-slice-read-four-4 Inv-loop μ-loop
+shared-slice-read-four-4 c = search (all, needs)
+
+four-requires : tie.Need-four-requires Inv-loop μ-loop
+four-requires c κs = digits-four (c .before .before .before .before .before .before .before .args .s .now) (c .before .before .before .before .before .loop .i) (search needs) (search needs) (search needs)
 
 mul-w : tie.Need-mul-w Inv-loop μ-loop
 mul-w c = search (all, needs)
@@ -38,6 +54,9 @@ loop-less c = search (all, needs)
 loop-again : tie.Need-loop-again Inv-loop μ-loop
 loop-again c = search (all, needs)
 
+pack-front-requires : tie.Need-pack-front-requires Inv-loop μ-loop
+pack-front-requires c κs = search (all, needs)
+
 returns : tie.Need-returns Inv-loop μ-loop
 returns c = search (all, needs)
 
@@ -48,11 +67,17 @@ pack-spec =
     Inv-loop
     μ-loop
     loop-holds
-    sub-j
-    shared-slice-read-nibble
-    nibble-requires
+    shared-slice-read-four
+    add-four
+    shared-slice-read-four-2
+    add-four-2
+    shared-slice-read-four-3
+    add-four-3
+    shared-slice-read-four-4
+    four-requires
     mul-w
     add-w
     loop-less
     loop-again
+    pack-front-requires
     returns)

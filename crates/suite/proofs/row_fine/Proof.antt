@@ -16,7 +16,7 @@ all-in-requires : tie.Need-all-in-requires
 all-in-requires c κs = search needs
 
 spare-clear-requires : tie.Need-spare-clear-requires
-spare-clear-requires c κs = search needs
+spare-clear-requires c κs = search (all, needs)
 
 returns-3 : tie.Need-returns-3
 returns-3 c = search (all, needs)

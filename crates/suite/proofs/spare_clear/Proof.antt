@@ -10,7 +10,7 @@ shared-slice-read-nibble : tie.Need-shared-slice-read-nibble
 shared-slice-read-nibble c = search needs
 
 nibble-requires : tie.Need-nibble-requires
-nibble-requires c κs = search needs
+nibble-requires c κs = search (all, needs)
 
 shr-result : tie.Need-shr-result
 shr-result c = search needs

@@ -17,23 +17,29 @@ abbrev μ-loop : tie.MeasureT-loop
 loop-holds : tie.Need-loop-holds Inv-loop μ-loop
 loop-holds c = search (all, needs)
 
-shared-slice-read-in-class : tie.Need-shared-slice-read-in-class Inv-loop μ-loop
-shared-slice-read-in-class c = search needs
+sub-loop : tie.Need-sub-loop Inv-loop μ-loop
+sub-loop c = search (all, needs)
 
-in-class-requires : tie.Need-in-class-requires Inv-loop μ-loop
-in-class-requires c κs = search needs
+part-requires : tie.Need-part-requires Inv-loop μ-loop
+part-requires c κs = search (all, needs)
+
+block-in-requires : tie.Need-block-in-requires Inv-loop μ-loop
+block-in-requires c κs = search (all, needs)
 
 add-i : tie.Need-add-i Inv-loop μ-loop
-add-i c = search needs
+add-i c = search (all, needs)
 
 loop-less : tie.Need-loop-less Inv-loop μ-loop
-loop-less c = search needs
+loop-less c = search (all, needs)
 
 loop-again : tie.Need-loop-again Inv-loop μ-loop
 loop-again c = search (all, needs)
 
 returns : tie.Need-returns Inv-loop μ-loop
 returns c = search (all, needs)
+
+all-from-requires : tie.Need-all-from-requires Inv-loop μ-loop
+all-from-requires c κs = search (all, needs)
 
 returns-2 : tie.Need-returns-2 Inv-loop μ-loop
 returns-2 c = search (all, needs)
@@ -45,10 +51,12 @@ all-in-spec =
     Inv-loop
     μ-loop
     loop-holds
-    shared-slice-read-in-class
-    in-class-requires
+    sub-loop
+    part-requires
+    block-in-requires
     add-i
     loop-less
     loop-again
     returns
+    all-from-requires
     returns-2)

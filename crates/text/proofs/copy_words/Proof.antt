@@ -1,5 +1,5 @@
 use borrow.Author.Needs.{needs}
-use Rattle.text.proofs.Laws.{all}
+use Rattle.text.proofs.Laws.{all, stores}
 use Prim.Native.Nat.{_≤_, _-_}
 use mathlib.Core.Path.{_≡_}
 use lib.ListN.{length, drop}
@@ -44,7 +44,7 @@ loop-less : tie.Need-loop-less Inv-loop μ-loop
 loop-less c = search (all, needs)
 
 loop-again : tie.Need-loop-again Inv-loop μ-loop
-loop-again c = search (all, needs)
+loop-again c = search (stores, needs)
 
 same-length-2 : tie.Need-same-length-2 Inv-loop μ-loop
 same-length-2 c = search (all, needs)

@@ -1,6 +1,6 @@
 use borrow.Author.Needs.{needs}
 use Rattle.text.proofs.Laws.{all}
-use Prim.Native.Nat.{_≤_, _+_, _-_}
+use Prim.Native.Nat.{_+_, _≤_, _-_}
 use mathlib.Core.Path.{_≡_}
 use lib.ListN.{length, drop}
 use Rattle.text.specs.Scans.{span}
@@ -16,20 +16,32 @@ abbrev μ-loop : tie.MeasureT-loop
 loop-holds : tie.Need-loop-holds Inv-loop μ-loop
 loop-holds c = search (all, needs)
 
-shared-slice-read-if1 : tie.Need-shared-slice-read-if1 Inv-loop μ-loop
-shared-slice-read-if1 c = search needs
+sub-loop : tie.Need-sub-loop Inv-loop μ-loop
+sub-loop c = search (all, needs)
+
+part-requires : tie.Need-part-requires Inv-loop μ-loop
+part-requires c κs = search (all, needs)
+
+block-has-requires : tie.Need-block-has-requires Inv-loop μ-loop
+block-has-requires c κs = search (all, needs)
+
+find-from-requires : tie.Need-find-from-requires Inv-loop μ-loop
+find-from-requires c κs = search (all, needs)
 
 returns : tie.Need-returns Inv-loop μ-loop
 returns c = search (all, needs)
 
 add-i : tie.Need-add-i Inv-loop μ-loop
-add-i c = search needs
+add-i c = search (all, needs)
 
 loop-less : tie.Need-loop-less Inv-loop μ-loop
-loop-less c = search needs
+loop-less c = search (all, needs)
 
 loop-again : tie.Need-loop-again Inv-loop μ-loop
 loop-again c = search (all, needs)
+
+find-from-requires-2 : tie.Need-find-from-requires-2 Inv-loop μ-loop
+find-from-requires-2 c κs = search (all, needs)
 
 returns-2 : tie.Need-returns-2 Inv-loop μ-loop
 returns-2 c = search (all, needs)
@@ -41,9 +53,13 @@ find-spec =
     Inv-loop
     μ-loop
     loop-holds
-    shared-slice-read-if1
+    sub-loop
+    part-requires
+    block-has-requires
+    find-from-requires
     returns
     add-i
     loop-less
     loop-again
+    find-from-requires-2
     returns-2)

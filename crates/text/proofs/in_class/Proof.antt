@@ -27,17 +27,11 @@ between-requires c κs = search needs
 returns-4 : tie.Need-returns-4
 returns-4 c = search (all, needs)
 
-between-requires-2 : tie.Need-between-requires-2
-between-requires-2 c κs = search needs
+hex-byte-requires : tie.Need-hex-byte-requires
+hex-byte-requires c κs = search needs
 
 returns-5 : tie.Need-returns-5
 returns-5 c = search (all, needs)
-
-between-requires-3 : tie.Need-between-requires-3
-between-requires-3 c κs = search needs
-
-returns-6 : tie.Need-returns-6
-returns-6 c = search (all, needs)
 
 pub in-class-spec : {M : Type 1} → statement M
 in-class-spec =
@@ -51,7 +45,5 @@ in-class-spec =
     returns-3
     between-requires
     returns-4
-    between-requires-2
-    returns-5
-    between-requires-3
-    returns-6)
+    hex-byte-requires
+    returns-5)

@@ -6,8 +6,8 @@ use Rattle.text.proofs.is_number.Tie as tie
 returns : tie.Need-returns
 returns c = search (all, needs)
 
-all-in-requires : tie.Need-all-in-requires
-all-in-requires c κs = search needs
+all-from-requires : tie.Need-all-from-requires
+all-from-requires c κs = search needs
 
 returns-2 : tie.Need-returns-2
 returns-2 c = search (all, needs)
@@ -18,8 +18,8 @@ shared-slice-read-if3 c = search needs
 returns-3 : tie.Need-returns-3
 returns-3 c = search (all, needs)
 
-all-in-requires-2 : tie.Need-all-in-requires-2
-all-in-requires-2 c κs = search needs
+all-from-requires-2 : tie.Need-all-from-requires-2
+all-from-requires-2 c κs = search needs
 
 returns-4 : tie.Need-returns-4
 returns-4 c = search (all, needs)
@@ -29,9 +29,9 @@ is-number-spec =
     tie.close
     (tie.spec
     returns
-    all-in-requires
+    all-from-requires
     returns-2
     shared-slice-read-if3
     returns-3
-    all-in-requires-2
+    all-from-requires-2
     returns-4)
