@@ -7,6 +7,7 @@
 //     text,K,TEXT          the text K: 0 old, 1 new, 2 tests, 3 sheet; a `;` stands for the end of a line
 //     room,K,N             how much is lent: 0, 1 old and new records, 2, 3 old and new links, 4 tests, 5 rows, 6 scratch, 7 output
 //     put,TABLE,I,V        the number I of a table becomes V
+//     show,TABLE,I,J       writes the numbers of a table from I on, up to J
 //     keep  undo           job and tables are kept, and are again as they were kept
 //     reset  old  new  tests  sheet  record,TEST  check  label,SIDE,NODE  shown,SIDE,NODE      the calls
 use job::Moved;
