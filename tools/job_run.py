@@ -121,7 +121,7 @@ def tables(words):
             heads.append(0)
         if f[0] == 'B':
             n = int(f[1])
-            edges.append([n, at + len('B,%d,' % n), len(f[2]), int(f[3]), heads[n]])
+            edges.append([n, at + len('B,%d,' % n), int.from_bytes(f[2].encode(), 'little'), int(f[3]), heads[n]])
             heads[n] = len(edges)
         at += len(r) + 1
     return nodes, procs, edges, heads

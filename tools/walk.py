@@ -3,7 +3,7 @@
 # branch, no loop) over `&mut S`, `&[T]`, `&mut [T]`, records by value and numbers, which copies a record out, calls functions, stores a record, makes a struct, returns; and over locals
 # that are lent: a record as `&mut S`, the first elements of an array `[S; N]` of records as `&mut [S]` or `&[S]`. Run `rt fmt` after it.
 # tools/walks/CRATE-FN.py is a Python file with:  COMMENT (lines for the top), FINAL (a term for what the `ensures` says), USES (lines `use ..` that FINAL and the callees' clauses need),
-# and optionally STRUCTS = { 'Answer': 'job' } (the crate of a struct whose name several have), RENAME = { 'parameter': 'variable' } (a parameter `tt` is called `tt-text`, since `tt` is taken), BIG, REQUIRES = { 'callee': 'a term of ent (emp) (requires)' }, and NEEDS = { 'parameter': N }, where the function requires `parameter ≤ N` of these, in order.
+# and optionally RENAME = { 'parameter': 'variable' } (a parameter `tt` is called `tt-text`, since `tt` is taken), BIG, REQUIRES = { 'callee': 'a term of ent (emp) (requires)' }, and NEEDS = { 'parameter': N }, where the function requires `parameter ≤ N` of these, in order.
 # With no FINAL the function has no `ensures`, and what the callees ensure is let go.
 # Names in FINAL: a parameter's name (`_` becomes `-`) is its list, number or record at entry; of call K (from 1): rK its result, eK what it ensures,
 # NAMEK the list that it left of the `&mut` slice NAME, sameK-NAME that this is as long as before, fieldsK the bounds of a struct result.
@@ -46,8 +46,7 @@ def func(c, f):
 structs = {}
 for c, s in src.items():
     for m in re.finditer(r'pub struct (\w+)(?:<[^>]*>)? \{(.*?)\n\}', s, re.S):
-        owner = C.get('STRUCTS', {}).get(m[1])
-        if owner == c if owner else m[1] not in structs or c == crate: structs[m[1]] = (c, [(a, b.strip()) for a, b in re.findall(r'pub (\w+): ([^,\n]+),', m[2])])
+        structs[m[1]] = (c, [(a, b.strip()) for a, b in re.findall(r'pub (\w+): ([^,\n]+),', m[2])])
 fld = lambda f: '«%s»' % f if '_' in f else f
 row = lambda t: t if t in ('usize', 'u8', 'u64') else t + '-type.the-row'
 den = lambda t: 'ℕ' if t in ('usize', 'u8', 'u64') else t

@@ -7,7 +7,7 @@ use native.Mathlib.Omega.{arith}
 use borrow.Author.Tests.{eq-eqb, ne-eqb}
 use Rattle.laws.specs.Tests.{choose, firstFailed}
 use Rattle.laws.specs.Lists.{choose-no, choose-yes}
-use Rattle.rules.specs.Text.{Answer, Bytes, accepted, refused}
+use Rattle.rules.specs.Text.{Answer as Reading, Bytes, accepted, refused}
 use Rattle.rules.specs.Graph.{edgeCount, nodeCount}
 use Rattle.rules.specs.ProgramFile.{Listing}
 use Rattle.rules.specs.SuiteFile.{TestListing, readTests}
@@ -15,12 +15,12 @@ use Rattle.rules.specs.Sheet.{Sheet, readSheet}
 use Rattle.rules.specs.Check.{broken, rule2, rule3, rule4}
 use Rattle.rules.specs.Job.{judged, outcome, passed, refusal}
 use Rattle.rules.specs.Proofs.SheetLayout.{accepted-orderly}
+use Rattle.answer.specs.declared.Answer.{Answer}
 use Rattle.suite.specs.Rows.{Holds}
 use Rattle.suite.specs.RowLaws.{name-read, suite-read}
 use Rattle.versions.specs.Memory.{InMemory, Memory, memory}
 use Rattle.sheet_reader.specs.declared.SheetRead.{SheetRead}
 use Rattle.sheet_reader.specs.Claims.{ClaimsHeld, Reads, SheetTold, Told}
-use Rattle.checker.specs.declared.Answer.{Answer as Verdict}
 use Rattle.checker.specs.Checking.{Checks}
 use Rattle.checker.specs.Rules.{AllKeep, Claimed, Covered, Judges, Rule1, Rule5, pairRule}
 
@@ -100,11 +100,11 @@ pub ruleset judges = (judge-one, judge-two, judge-three, judge-four, judge-five,
 -- ---- `check_sheet`
 
 -- What the definition answers, by the number.
-refused-of : (x : Answer Sheet) (r : SheetRead) (w sets : List ℕ) → Told x r w sets → (r .number ≡ 0 → ⊥) → x ≡ refused (r .number) (r .place)
+refused-of : (x : Reading Sheet) (r : SheetRead) (w sets : List ℕ) → Told x r w sets → (r .number ≡ 0 → ⊥) → x ≡ refused (r .number) (r .place)
 refused-of (refused k p) r w sets h z = ap₂ refused (sym (h .0)) (sym (h .1))
 refused-of (accepted s) r w sets h z = absurd (z (h .0))
 
-accepted-of : (x : Answer Sheet) (r : SheetRead) (w sets : List ℕ) → Told x r w sets → r .number ≡ 0 → (s : Sheet) × (x ≡ accepted s) × ClaimsHeld w sets (r .pairs) s
+accepted-of : (x : Reading Sheet) (r : SheetRead) (w sets : List ℕ) → Told x r w sets → r .number ≡ 0 → (s : Sheet) × (x ≡ accepted s) × ClaimsHeld w sets (r .pairs) s
 accepted-of (refused k p) r w sets h z = absurd (let b : ⊥ = omega arith in b)
 accepted-of (accepted s) r w sets h z = (s, refl, h .2)
 
@@ -116,7 +116,14 @@ module _ (v v′ : Memory) (olds news edges : ℕ) (tt : Bytes) (tests rows : Li
     unfolding Reads
     told-is =
         told .reads (o .program) (p .program) (l .suite)
-        (record { old-nodes = eo; new-nodes = en; old-edges = ee; counted = hold .counted; names = λ i h. name-read (edgeCount (o .program)) tt l tests rows count i et hold h })
+        (record {
+          old-nodes = eo;
+          new-nodes = en;
+          old-edges = ee;
+          counted = hold .counted;
+          names = λ i h. name-read (edgeCount (o .program)) tt l tests rows count i et hold h;
+          differ = suite-read (edgeCount (o .program)) tt l et .names;
+        })
 
     -- An accepted sheet: its claims are held, and of the job's files.
     claimed : read .number ≡ 0 → (s : Sheet) × (readSheet (o .program) (p .program) (l .suite) sheet ≡ accepted s) × Claimed v v′ w sets (read .pairs) o p s
@@ -128,7 +135,7 @@ module _ (v v′ : Memory) (olds news edges : ℕ) (tt : Bytes) (tests rows : Li
     covered : Covered rows (edgeCount (o .program)) count (l .suite .coverages)
     covered = record { counted = hold .counted ∙ sym (suite-read (edgeCount (o .program)) tt l et .paired); row = λ i h. hold .row i (omega (arith, hold .counted)) }
 
-  pub check-refused : (r : Verdict) → (read .number ≡ 0 → ⊥) → r .number ≡ read .number → r .place ≡ read .place → Checks v v′ olds news edges tt tests rows count sheet r
+  pub check-refused : (r : Answer) → (read .number ≡ 0 → ⊥) → r .number ≡ read .number → r .place ≡ read .place → Checks v v′ olds news edges tt tests rows count sheet r
   unfolding Checks outcome
   check-refused r z kn kp o p l old-in new-in et hold eo en ee =
       let q = refused-of (readSheet (o .program) (p .program) (l .suite) sheet) read w sets (told-is o p l old-in new-in et hold eo en ee) z in
@@ -144,7 +151,7 @@ module _ (v v′ : Memory) (olds news edges : ℕ) (tt : Bytes) (tests rows : Li
         (rw (choose-yes passed (refusal 12 (broken (o .program) (p .program) (l .suite .coverages) (a .0))) (eq-eqb (broken (o .program) (p .program) (l .suite .coverages) (a .0)) 0 (sym b ∙ e)))
         (record { number-is = refl; place-is = refl }))
 
-    pub check-broken : (r : Verdict) → (q ≡ 0 → ⊥) → r .number ≡ 12 → r .place ≡ q → Checks v v′ olds news edges tt tests rows count sheet r
+    pub check-broken : (r : Answer) → (q ≡ 0 → ⊥) → r .number ≡ 12 → r .place ≡ q → Checks v v′ olds news edges tt tests rows count sheet r
     unfolding Checks outcome Judges judged
     check-broken r n kn kp o p l old-in new-in et hold eo en ee =
         let a = claimed o p l old-in new-in et hold eo en ee z in

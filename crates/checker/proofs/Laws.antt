@@ -55,37 +55,37 @@ pub ruleset leaves = (bit-is, rule1-is)
 
 -- ---- `edge_kept`
 
-module _ (ot ol nt nl w sets : List ℕ) (e k : ℕ) (t : Bool) (et : t ≡ bitIn sets e) where
+module _ (ol nl w sets : List ℕ) (e k : ℕ) (t : Bool) (et : t ≡ bitIn sets e) where
   -- The bit of the edge says whether it is listed under D.
-  bit-listed : (on nn : List ℕ) (m : ℕ) (o p : Listing) (s : Sheet) → Claimed (memory ot on ol) (memory nt nn nl) w sets m o p s → e < edgeCount (o .program) → has (s .D) e ≡ t
-  bit-listed on nn m o p s c i = sym (et ∙ c .held .edges-are e (omega (arith, sound (memory ot on ol) o (c .old-in) .fewEdges)))
+  bit-listed : (ot on nt nn : List ℕ) (m : ℕ) (o p : Listing) (s : Sheet) → Claimed (memory ot on ol) (memory nt nn nl) w sets m o p s → e < edgeCount (o .program) → has (s .D) e ≡ t
+  bit-listed ot on nt nn m o p s c i = sym (et ∙ c .held .edges-are e (omega (arith, sound (memory ot on ol) o (c .old-in) .fewEdges)))
 
-  pub kept-listed : t ≡ true → EdgeKept ot ol nt nl w sets e k true
+  pub kept-listed : t ≡ true → EdgeKept ol nl w sets e k true
   unfolding EdgeKept edgeAllowed
-  kept-listed y on nn m o p s c i j = sym (or-left _ (bit-listed on nn m o p s c i ∙ y))
+  kept-listed y ot on nt nn m o p s c i j = sym (or-left _ (bit-listed ot on nt nn m o p s c i ∙ y))
 
-  module _ (n : t ≡ false) (x : ℕ) (ex : Taken ot ol nt nl e k x) where
-    allowed-is : (on nn : List ℕ) (m : ℕ) (o p : Listing) (s : Sheet) → Claimed (memory ot on ol) (memory nt nn nl) w sets m o p s → e < edgeCount (o .program)
+  module _ (n : t ≡ false) (x : ℕ) (ex : Taken ol nl e k x) where
+    allowed-is : (ot on nt nn : List ℕ) (m : ℕ) (o p : Listing) (s : Sheet) → Claimed (memory ot on ol) (memory nt nn nl) w sets m o p s → e < edgeCount (o .program)
         → edgeAllowed (o .program) (p .program) s k e ≡ any (edgeCount (p .program)) (keeps (o .program) (p .program) s k e)
     unfolding edgeAllowed _or_
-    allowed-is on nn m o p s c i = ap (λ (b : Bool). b or any (edgeCount (p .program)) (keeps (o .program) (p .program) s k e)) (bit-listed on nn m o p s c i ∙ n)
+    allowed-is ot on nt nn m o p s c i = ap (λ (b : Bool). b or any (edgeCount (p .program)) (keeps (o .program) (p .program) s k e)) (bit-listed ot on nt nn m o p s c i ∙ n)
 
     -- The new node has no such word.
-    pub kept-none : x < 1 → EdgeKept ot ol nt nl w sets e k false
+    pub kept-none : x < 1 → EdgeKept ol nl w sets e k false
     unfolding EdgeKept Taken keeps
-    kept-none z on nn m o p s c i j =
-        sym (allowed-is on nn m o p s c i
+    kept-none z ot on nt nn m o p s c i j =
+        sym (allowed-is ot on nt nn m o p s c i
         ∙ fails _ (λ a.
         let r = any-at (keeps (o .program) (p .program) s k e) (edgeCount (p .program)) a in
         let q : found (first (edgeCount (p .program)) (λ f. eqb (sourceAt (p .program) f) k and sameWord (o .program) (p .program) e f)) ≡ 0
-        = omega (arith, ex on nn o p (c .old-in) (c .new-in) i j) in
+        = omega (arith, ex ot on nt nn o p (c .old-in) (c .new-in) i j) in
         found-none (λ f. eqb (sourceAt (p .program) f) k and sameWord (o .program) (p .program) e f) (edgeCount (p .program)) q (r .0) (r .1)
         (and-both (and-left _ _ (r .2)) (and-left _ _ (and-right _ _ (r .2))))))
 
     -- It has one edge with the word: the ends of that one are listed, or none are.
-    pub kept-ends : (a b y : ℕ) (r : Bool) → 1 ≤ x → a ≡ getD ol (edgeBase e + 3) 0 → y ≡ x - 1 → b ≡ getD nl (edgeBase y + 3) 0 → Has w a b r → EdgeKept ot ol nt nl w sets e k r
+    pub kept-ends : (a b y : ℕ) (r : Bool) → 1 ≤ x → a ≡ getD ol (edgeBase e + 3) 0 → y ≡ x - 1 → b ≡ getD nl (edgeBase y + 3) 0 → Has w a b r → EdgeKept ol nl w sets e k r
     unfolding EdgeKept keeps
-    kept-ends a b y r l ea ey eb h on nn m o p s c i j =
+    kept-ends a b y r l ea ey eb h ot on nt nn m o p s c i j =
         let q = one-taken ot on ol nt nn nl e k x ex (λ z. let b : ⊥ = omega arith in b) o p (c .old-in) (c .new-in) i j in
         let is : r ≡ listed (s .M) (targetAt (o .program) e) (targetAt (p .program) (x - 1)) =
         listed-is _ _ w sets m o p s c a b r h
@@ -99,79 +99,79 @@ module _ (ot ol nt nl w sets : List ℕ) (e k : ℕ) (t : Bool) (et : t ≡ bitI
         let f = any-at (keeps (o .program) (p .program) s k e) (edgeCount (p .program)) u in
         let only : f .0 ≡ x - 1 = q .3 (f .0) (f .1) (eqb-true _ _ (and-left _ _ (f .2))) (and-left _ _ (and-right _ _ (f .2))) in
         is ∙ ap (λ (g : ℕ). listed (s .M) (targetAt (o .program) e) (targetAt (p .program) g)) (sym only) ∙ and-right _ _ (and-right _ _ (f .2)) in
-        same-test r _ there back ∙ sym (allowed-is on nn m o p s c i)
+        same-test r _ there back ∙ sym (allowed-is ot on nt nn m o p s c i)
 
 pub ruleset kept = (kept-listed, kept-none, kept-ends)
 
 -- ---- `all_kept`
 
 -- The edges of the old node n from the place on are kept at the new node k.
-unfoldable pub KeptFrom : List ℕ → List ℕ → List ℕ → List ℕ → List ℕ → List ℕ → ℕ → ℕ → ℕ → Type 0
-KeptFrom ot ol nt nl w sets n k place =
-    (on nn : List ℕ) (m : ℕ) (o p : Listing) (s : Sheet) → Claimed (memory ot on ol) (memory nt nn nl) w sets m o p s → n < nodeCount (o .program) → k < nodeCount (p .program)
+unfoldable pub KeptFrom : List ℕ → List ℕ → List ℕ → List ℕ → ℕ → ℕ → ℕ → Type 0
+KeptFrom ol nl w sets n k place =
+    (ot on nt nn : List ℕ) (m : ℕ) (o p : Listing) (s : Sheet) → Claimed (memory ot on ol) (memory nt nn nl) w sets m o p s → n < nodeCount (o .program) → k < nodeCount (p .program)
     → Walk (λ e. edgeAllowed (o .program) (p .program) s k e ≡ true) (sourceAt (o .program)) n (edgeCount (o .program)) place
 
-module _ (ot ol nt nl w sets : List ℕ) (n k : ℕ) where
-  pub walk-first : (place : ℕ) → place ≡ getD ol (headBase n) 0 → KeptFrom ot ol nt nl w sets n k place
+module _ (ol nl w sets : List ℕ) (n k : ℕ) where
+  pub walk-first : (place : ℕ) → place ≡ getD ol (headBase n) 0 → KeptFrom ol nl w sets n k place
   unfolding KeptFrom
-  walk-first place h on nn m o p s c i j =
+  walk-first place h ot on nt nn m o p s c i j =
       subst (λ (x : ℕ). Walk (λ e. edgeAllowed (o .program) (p .program) s k e ≡ true) (sourceAt (o .program)) n (edgeCount (o .program)) x) (sym h)
       (walk-start (edges-chained (memory ot on ol) o (c .old-in)) n i)
 
-  module _ (place : ℕ) (inv : KeptFrom ot ol nt nl w sets n k place) where
-    pub walk-last : place ≤ 0 → AllKept ot ol nt nl w sets n k true
+  module _ (place : ℕ) (inv : KeptFrom ol nl w sets n k place) where
+    pub walk-last : place ≤ 0 → AllKept ol nl w sets n k true
     unfolding AllKept KeptFrom edgeKept edgeAllowed
-    walk-last z on nn m o p s c i j =
+    walk-last z ot on nt nn m o p s c i j =
         sym (every-of (edgeKept (o .program) (p .program) s n k) (edgeCount (o .program))
-        (λ e l. implies _ _ (λ q. walk-end (inv on nn m o p s c i j) z e l (eqb-true _ _ q))))
+        (λ e l. implies _ _ (λ q. walk-end (inv ot on nt nn m o p s c i j) z e l (eqb-true _ _ q))))
 
-    module _ (e : ℕ) (t : Bool) (pos : 0 < place) (ee : e ≡ place - 1) (et : EdgeKept ot ol nt nl w sets e k t) where
+    module _ (e : ℕ) (t : Bool) (pos : 0 < place) (ee : e ≡ place - 1) (et : EdgeKept ol nl w sets e k t) where
       -- The edge at the place is one of the node, and the test says whether it is kept.
-      at-place : (on nn : List ℕ) (m : ℕ) (o p : Listing) (s : Sheet) → Claimed (memory ot on ol) (memory nt nn nl) w sets m o p s → n < nodeCount (o .program) → k < nodeCount (p .program)
+      at-place : (ot on nt nn : List ℕ) (m : ℕ) (o p : Listing) (s : Sheet) → Claimed (memory ot on ol) (memory nt nn nl) w sets m o p s → n < nodeCount (o .program) → k < nodeCount (p .program)
           → (e < edgeCount (o .program)) × (sourceAt (o .program) e ≡ n) × (t ≡ edgeAllowed (o .program) (p .program) s k e)
       unfolding KeptFrom EdgeKept
-      at-place on nn m o p s c i j =
-          let x = inv on nn m o p s c i j in
+      at-place ot on nt nn m o p s c i j =
+          let x = inv ot on nt nn m o p s c i j in
           let l : e < edgeCount (o .program) = omega (arith, x .within) in
-          (l, ap (sourceAt (o .program)) ee ∙ x .owner pos, et on nn m o p s c l j)
+          (l, ap (sourceAt (o .program)) ee ∙ x .owner pos, et ot on nt nn m o p s c l j)
 
-      pub walk-broken : t ≡ false → AllKept ot ol nt nl w sets n k false
+      pub walk-broken : t ≡ false → AllKept ol nl w sets n k false
       unfolding AllKept edgeKept edgeAllowed
-      walk-broken f on nn m o p s c i j =
-          let x = at-place on nn m o p s c i j in
+      walk-broken f ot on nt nn m o p s c i j =
+          let x = at-place ot on nt nn m o p s c i j in
           sym (fails _ (λ a.
           let y : edgeKept (o .program) (p .program) s n k e ≡ true = every-at (edgeKept (o .program) (p .program) s n k) (edgeCount (o .program)) a e (x .0) in
           both-ways (x .2 ∙ implied _ _ y (eq-eqb _ _ (x .1))) f))
 
-      pub walk-on : (next : ℕ) → t ≡ true → next ≡ upTo e (getD ol (edgeBase e + 4) 0) → KeptFrom ot ol nt nl w sets n k next
+      pub walk-on : (next : ℕ) → t ≡ true → next ≡ upTo e (getD ol (edgeBase e + 4) 0) → KeptFrom ol nl w sets n k next
       unfolding KeptFrom
-      walk-on next y en on nn m o p s c i j =
-          let x = at-place on nn m o p s c i j in
+      walk-on next y en ot on nt nn m o p s c i j =
+          let x = at-place ot on nt nn m o p s c i j in
           let P : ℕ → Type 0 = λ e. edgeAllowed (o .program) (p .program) s k e ≡ true in
           subst (λ (u : ℕ). Walk P (sourceAt (o .program)) n (edgeCount (o .program)) u)
           (sym (en ∙ ap (λ (u : ℕ). upTo u (getD ol (edgeBase u + 4) 0)) ee))
-          (walk-step (edges-chained (memory ot on ol) o (c .old-in)) {P = P} {Q = P} (inv on nn m o p s c i j) pos (λ u q. q) (subst P ee (sym (x .2) ∙ y)))
+          (walk-step (edges-chained (memory ot on ol) o (c .old-in)) {P = P} {Q = P} (inv ot on nt nn m o p s c i j) pos (λ u q. q) (subst P ee (sym (x .2) ∙ y)))
 
 pub ruleset walks = (walk-first, walk-last, walk-broken, walk-on, before-less)
 
 -- ---- `edges_kept`
 
-module _ (ot on ol nt nn nl w sets : List ℕ) (n k : ℕ) (t : Bool) (et : GoesOn on ol nn nl w n k t) where
-  goes-is : (m : ℕ) (o p : Listing) (s : Sheet) → Claimed (memory ot on ol) (memory nt nn nl) w sets m o p s → n < nodeCount (o .program) → k < nodeCount (p .program)
+module _ (on ol nn nl w sets : List ℕ) (n k : ℕ) (t : Bool) (et : GoesOn on ol nn nl w n k t) where
+  goes-is : (ot nt : List ℕ) (m : ℕ) (o p : Listing) (s : Sheet) → Claimed (memory ot on ol) (memory nt nn nl) w sets m o p s → n < nodeCount (o .program) → k < nodeCount (p .program)
       → goesOn (o .program) (p .program) (s .M) n k ≡ t
   unfolding GoesOn
-  goes-is m o p s c i j =
+  goes-is ot nt m o p s c i j =
       sym (et ot nt o p m (c .old-in) (c .new-in) (c .held .store) i j ∙ ap (λ (l : List (ℕ × ℕ)). goesOn (o .program) (p .program) l n k) (c .held .pairs-are))
 
-  pub edges-stop : t ≡ false → EdgesKept (memory ot on ol) (memory nt nn nl) w sets n k true
+  pub edges-stop : t ≡ false → EdgesKept on ol nn nl w sets n k true
   unfolding EdgesKept edgesKept _⇒_
-  edges-stop f m o p s c i j = sym (ap (λ (b : Bool). b ⇒ every (edgeCount (o .program)) (edgeKept (o .program) (p .program) s n k)) (goes-is m o p s c i j ∙ f))
+  edges-stop f ot nt m o p s c i j = sym (ap (λ (b : Bool). b ⇒ every (edgeCount (o .program)) (edgeKept (o .program) (p .program) s n k)) (goes-is ot nt m o p s c i j ∙ f))
 
-  pub edges-all : (r : Bool) → t ≡ true → AllKept ot ol nt nl w sets n k r → EdgesKept (memory ot on ol) (memory nt nn nl) w sets n k r
+  pub edges-all : (r : Bool) → t ≡ true → AllKept ol nl w sets n k r → EdgesKept on ol nn nl w sets n k r
   unfolding EdgesKept edgesKept AllKept _⇒_
-  edges-all r y h m o p s c i j =
-      h on nn m o p s c i j
-      ∙ sym (ap (λ (b : Bool). b ⇒ every (edgeCount (o .program)) (edgeKept (o .program) (p .program) s n k)) (goes-is m o p s c i j ∙ y))
+  edges-all r y h ot nt m o p s c i j =
+      h ot on nt nn m o p s c i j
+      ∙ sym (ap (λ (b : Bool). b ⇒ every (edgeCount (o .program)) (edgeKept (o .program) (p .program) s n k)) (goes-is ot nt m o p s c i j ∙ y))
 
 pub ruleset edges = (edges-stop, edges-all)
 
@@ -189,9 +189,9 @@ module _ (rule : ℕ) (ot on ol nt nn nl w sets : List ℕ) (n k : ℕ) (r : Boo
       (h ot nt o p m (c .old-in) (c .new-in) (c .held .store) i j
       ∙ ap (λ (l : List (ℕ × ℕ)). bothCall (o .program) (p .program) n k ⇒ listed l (entry (o .program) (called (o .program) n)) (entry (p .program) (called (p .program) k))) (c .held .pairs-are))
 
-  pub pair-edges : (rule ≡ 2 → ⊥) → (rule ≡ 3 → ⊥) → EdgesKept (memory ot on ol) (memory nt nn nl) w sets n k r → PairKeeps rule (memory ot on ol) (memory nt nn nl) w sets n k r
+  pub pair-edges : (rule ≡ 2 → ⊥) → (rule ≡ 3 → ⊥) → EdgesKept on ol nn nl w sets n k r → PairKeeps rule (memory ot on ol) (memory nt nn nl) w sets n k r
   unfolding PairKeeps pairRule EdgesKept choose
-  pair-edges d e h m o p s c i j = rw (ne-eqb rule 2 d, ne-eqb rule 3 e) (h m o p s c i j)
+  pair-edges d e h m o p s c i j = rw (ne-eqb rule 2 d, ne-eqb rule 3 e) (h ot nt m o p s c i j)
 
 pub ruleset pairs = (pair-alike, pair-entered, pair-edges)
 

@@ -7,15 +7,11 @@ use Rattle.rules.specs.Graph.{edgeCount, nodeCount}
 use Rattle.rules.specs.ProgramFile.{Listing}
 use Rattle.rules.specs.SuiteFile.{TestListing, readTests}
 use Rattle.rules.specs.Sheet.{readSheet}
-use Rattle.rules.specs.Job.{Given, Outcome, judged, numberOf, outcome, placeOf}
+use Rattle.rules.specs.Job.{Given, judged, outcome}
+use Rattle.answer.specs.declared.Answer.{Answer}
+use Rattle.answer.specs.Outcomes.{Answered}
 use Rattle.suite.specs.Rows.{Holds}
 use Rattle.versions.specs.Memory.{InMemory, Memory}
-use Rattle.checker.specs.declared.Answer.{Answer}
-
--- The answer is the outcome's number and place.
-pub record Answered (x : Outcome) (r : Answer) : Type 0 where
-  pub number-is : r .number ≡ numberOf x
-  pub place-is : r .place ≡ placeOf x
 
 -- What the old program, the new one and the tests of a job give.
 abbrev pub given : Listing → Listing → TestListing → Given

@@ -39,21 +39,21 @@ Rule1 ol nl w r =
 unfoldable pub edgeAllowed : Program → Program → Sheet → ℕ → ℕ → Bool
 edgeAllowed old new s k e = has (s .D) e or any (edgeCount new) (keeps old new s k e)
 
-unfoldable pub EdgeKept : Bytes → List ℕ → Bytes → List ℕ → List ℕ → List ℕ → ℕ → ℕ → Bool → Type 0
-EdgeKept ot ol nt nl w sets e k r =
-    (on nn : List ℕ) (m : ℕ) (o p : Listing) (s : Sheet) → Claimed (memory ot on ol) (memory nt nn nl) w sets m o p s → e < edgeCount (o .program) → k < nodeCount (p .program)
+unfoldable pub EdgeKept : List ℕ → List ℕ → List ℕ → List ℕ → ℕ → ℕ → Bool → Type 0
+EdgeKept ol nl w sets e k r =
+    (ot on nt nn : List ℕ) (m : ℕ) (o p : Listing) (s : Sheet) → Claimed (memory ot on ol) (memory nt nn nl) w sets m o p s → e < edgeCount (o .program) → k < nodeCount (p .program)
     → r ≡ edgeAllowed (o .program) (p .program) s k e
 
 -- `all_kept`: each edge of the old node n is.
-unfoldable pub AllKept : Bytes → List ℕ → Bytes → List ℕ → List ℕ → List ℕ → ℕ → ℕ → Bool → Type 0
-AllKept ot ol nt nl w sets n k r =
-    (on nn : List ℕ) (m : ℕ) (o p : Listing) (s : Sheet) → Claimed (memory ot on ol) (memory nt nn nl) w sets m o p s → n < nodeCount (o .program) → k < nodeCount (p .program)
+unfoldable pub AllKept : List ℕ → List ℕ → List ℕ → List ℕ → ℕ → ℕ → Bool → Type 0
+AllKept ol nl w sets n k r =
+    (ot on nt nn : List ℕ) (m : ℕ) (o p : Listing) (s : Sheet) → Claimed (memory ot on ol) (memory nt nn nl) w sets m o p s → n < nodeCount (o .program) → k < nodeCount (p .program)
     → r ≡ every (edgeCount (o .program)) (edgeKept (o .program) (p .program) s n k)
 
 -- `edges_kept`: rule 4 of the pair (n, k).
-unfoldable pub EdgesKept : Memory → Memory → List ℕ → List ℕ → ℕ → ℕ → Bool → Type 0
-EdgesKept v v′ w sets n k r =
-    (m : ℕ) (o p : Listing) (s : Sheet) → Claimed v v′ w sets m o p s → n < nodeCount (o .program) → k < nodeCount (p .program)
+unfoldable pub EdgesKept : List ℕ → List ℕ → List ℕ → List ℕ → List ℕ → List ℕ → ℕ → ℕ → Bool → Type 0
+EdgesKept on ol nn nl w sets n k r =
+    (ot nt : Bytes) (m : ℕ) (o p : Listing) (s : Sheet) → Claimed (memory ot on ol) (memory nt nn nl) w sets m o p s → n < nodeCount (o .program) → k < nodeCount (p .program)
     → r ≡ edgesKept (o .program) (p .program) s n k
 
 -- What the rule 2, 3 or 4 says of a listed pair.

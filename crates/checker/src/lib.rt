@@ -1,4 +1,5 @@
 // The check of a sheet: its claims are read, and judged by the five rules. No pair is computed: the rules are tested within the sheet's own list.
+use answer::Answer;
 ghost use mathlib.Core.Path.{_≡_};
 ghost use Prim.Native.Nat.{_≤_, _<_};
 ghost use lib.ListN.{length};
@@ -16,12 +17,6 @@ ghost use Rattle.checker.specs.Rules.{
   Rule5,
   TestKept,
 };
-
-// An answer, by number and place: 0 and 0 is to pass.
-pub struct Answer {
-    pub number: usize,
-    pub place: usize,
-}
 
 // Whether the bit i is set.
 fn has_bit(sets: &[u64], i: usize) -> bool
@@ -42,22 +37,13 @@ fn rule1(ol: &[usize], nl: &[usize], w: &[usize]) -> bool
 }
 
 // Whether the old edge e is listed under D, or the new node k has its word and the ends are listed.
-fn edge_kept(
-    ot: &[u8],
-    ol: &[usize],
-    nt: &[u8],
-    nl: &[usize],
-    w: &[usize],
-    sets: &[u64],
-    e: usize,
-    k: usize,
-) -> bool
-    ensures { λ r. ⌜ EdgeKept (now (ot .entry)) (now (ol .entry)) (now (nt .entry)) (now (nl .entry)) (now (w .entry)) (now (sets .entry)) e k r ⌝ }
+fn edge_kept(ol: &[usize], nl: &[usize], w: &[usize], sets: &[u64], e: usize, k: usize) -> bool
+    ensures { λ r. ⌜ EdgeKept (now (ol .entry)) (now (nl .entry)) (now (w .entry)) (now (sets .entry)) e k r ⌝ }
 {
     if has_bit(sets, e) {
         return true;
     }
-    let t = versions::taken(ot, ol, nt, nl, e, k);
+    let t = versions::taken(ol, nl, e, k);
     if t < 1 {
         return false;
     }
@@ -67,22 +53,13 @@ fn edge_kept(
 }
 
 // Whether each edge of the old node n is kept at the new node k.
-fn all_kept(
-    ot: &[u8],
-    ol: &[usize],
-    nt: &[u8],
-    nl: &[usize],
-    w: &[usize],
-    sets: &[u64],
-    n: usize,
-    k: usize,
-) -> bool
-    ensures { λ r. ⌜ AllKept (now (ot .entry)) (now (ol .entry)) (now (nt .entry)) (now (nl .entry)) (now (w .entry)) (now (sets .entry)) n k r ⌝ }
+fn all_kept(ol: &[usize], nl: &[usize], w: &[usize], sets: &[u64], n: usize, k: usize) -> bool
+    ensures { λ r. ⌜ AllKept (now (ol .entry)) (now (nl .entry)) (now (w .entry)) (now (sets .entry)) n k r ⌝ }
 {
     let mut place = versions::last_edge(ol, n);
     while 0 < place {
         let e = place - 1;
-        if edge_kept(ot, ol, nt, nl, w, sets, e, k) {
+        if edge_kept(ol, nl, w, sets, e, k) {
             place = versions::edge_before(ol, e);
         } else {
             return false;
@@ -93,10 +70,8 @@ fn all_kept(
 
 // Rule 4 of the pair (n, k): where it may go on, each edge of n is kept at k.
 fn edges_kept(
-    ot: &[u8],
     on: &[usize],
     ol: &[usize],
-    nt: &[u8],
     nn: &[usize],
     nl: &[usize],
     w: &[usize],
@@ -104,10 +79,10 @@ fn edges_kept(
     n: usize,
     k: usize,
 ) -> bool
-    ensures { λ r. ⌜ EdgesKept (memory (now (ot .entry)) (now (on .entry)) (now (ol .entry))) (memory (now (nt .entry)) (now (nn .entry)) (now (nl .entry))) (now (w .entry)) (now (sets .entry)) n k r ⌝ }
+    ensures { λ r. ⌜ EdgesKept (now (on .entry)) (now (ol .entry)) (now (nn .entry)) (now (nl .entry)) (now (w .entry)) (now (sets .entry)) n k r ⌝ }
 {
     if versions::goes_on(on, ol, nn, nl, w, n, k) {
-        return all_kept(ot, ol, nt, nl, w, sets, n, k);
+        return all_kept(ol, nl, w, sets, n, k);
     }
     true
 }
@@ -134,7 +109,7 @@ fn pair_keeps(
     if rule == 3 {
         return versions::entered(on, ol, nn, nl, w, n, k);
     }
-    edges_kept(ot, on, ol, nt, nn, nl, w, sets, n, k)
+    edges_kept(on, ol, nn, nl, w, sets, n, k)
 }
 
 // Whether each of the m pairs keeps the rule 2, 3 or 4.
@@ -228,7 +203,7 @@ pub fn judge(
     1
 }
 
-// Checks a sheet, for the programs and the tests of a job: its refusal, or 12 with the first broken rule, or 0.
+// Checks a sheet, for the programs and the tests of a job: its refusal, or 12 with the first broken rule, or 0, which is to pass.
 pub fn check_sheet(
     ot: &[u8],
     on: &[usize],
@@ -247,7 +222,7 @@ pub fn check_sheet(
     w: &mut [usize],
     sets: &mut [u64],
 ) -> Answer
-    requires { ⌜ (olds ≤ 512) × (news ≤ 512) × (edges ≤ 1024) × (count ≤ 200) × (16896 ≤ length (now w)) × (20 ≤ length (now sets)) ⌝ }
+    requires { ⌜ (olds ≤ 512) × (news ≤ 512) × (edges ≤ 1024) × (count ≤ 200) × (16912 ≤ length (now w)) × (20 ≤ length (now sets)) ⌝ }
     ensures { λ r. ⌜ Checks (memory (now (ot .entry)) (now (on .entry)) (now (ol .entry))) (memory (now (nt .entry)) (now (nn .entry)) (now (nl .entry))) olds news edges (now (tt .entry)) (now (tests .entry)) (now (rows .entry)) count (now (sheet .entry)) r ⌝ }
 {
     let read = sheet_reader::read_sheet(sheet, olds, news, edges, tt, tests, count, w, sets);

@@ -10,23 +10,24 @@ use lib.ListN.{getD}
 use Rattle.laws.specs.Tests.{_and_, listed}
 use Rattle.laws.specs.TestLaws.{and-left, and-right, and-both, both-ways}
 use Rattle.rules.specs.Graph.{C, Program, WellFormed, called, edgeCount, entry, kindAt, nodeCount, sourceAt, targetAt}
-use Rattle.rules.specs.Closing.{Pair, bothCall, callee-entries, edge-ends, fits, sameWord}
+use Rattle.rules.specs.Closing.{MayGoOn, Pair, bothCall, callee-entries, edge-ends, fits, sameWord}
 use Rattle.rules.specs.ProgramFile.{Listing}
 use Rattle.rules.specs.Proofs.GraphLaws.{called-is, sameKind-of, sameKind-true}
+use Rattle.rules.specs.Proofs.Closure.{pair-alike}
 use Rattle.rules.specs.Proofs.ClosingLaws.{fits-ends, fits-of, fits-word, same-word}
 use Rattle.graph.specs.Table.{edgeBase, nodeBase, procBase}
-use Rattle.pairset.specs.Store.{Appended, Has}
+use Rattle.pairset.specs.Store.{Appended, DangerMarked, Has, pairsIn}
 use Rattle.versions.specs.Memory.{InMemory, Memory, memory}
 use Rattle.versions.specs.MemoryLaws.{callee-is, entry-is, sound, target-is, well-formed}
 use Rattle.versions.specs.Found.{found-at, found-none}
 use Rattle.versions.specs.Claims.{Alike, BothCall, Taken}
-use Rattle.closure.specs.State.{CallDone, EdgeDone, EntriesDone, Formed}
-use Rattle.closure.specs.Step.{pair-inside, step-map, step-more, step-none, step-over}
+use Rattle.closure.specs.State.{CallDone, EdgeDone, EntriesDone, Formed, State, Step, Unfit}
+use Rattle.closure.specs.Step.{pair-inside, step-map, step-mark, step-more, step-none, step-over}
 use Rattle.closure.specs.Claims.{Adds, AddsEntries, Enters, Grows, Sized, TriesEdge}
 
--- Programs in memory are well-formed, and the old nodes have heads.
+-- Programs in memory are well-formed, and their nodes and edges have heads and bits.
 pub formed-in : (a b : Memory) (o p : Listing) → InMemory a o → InMemory b p → Formed (o .program) (p .program)
-formed-in a b o p h g = record { old-formed = well-formed a o h; new-formed = well-formed b p g; few = sound a o h .fewNodes; few-new = sound b p g .fewNodes }
+formed-in a b o p h g = record { old-formed = well-formed a o h; new-formed = well-formed b p g; few = sound a o h .fewNodes; few-new = sound b p g .fewNodes; few-edges = sound a o h .fewEdges }
 
 -- ---- `grow`, `add`
 
@@ -114,33 +115,45 @@ module _ {old new : Program} {e m : ℕ} where
       wf .words f g (x .below) (y .below) (y .source ∙ sym (x .source)) (sym (same-word old new e g (y .word)) ∙ same-word old new e f (x .word))
 
   -- What fits is taken, so that it is enough to look at the edge that is.
-  edge-done : WellFormed new → {f : ℕ} (M : List (ℕ × ℕ)) → Takes old new e m f → (fits old new e f ≡ true → listed M (targetAt old e) (targetAt new f) ≡ true) → EdgeDone old new e m M
-  unfolding EdgeDone
-  edge-done wf {f} M x k g l s t =
-      let q : g ≡ f = takes-once wf x (record { below = l; source = s; word = fits-word old new e g t }) in
-      rw q (k (subst (λ (j : ℕ). fits old new e j ≡ true) q t))
+  edge-done : WellFormed new → {f : ℕ} (M : List (ℕ × ℕ)) (S : ℕ → Bool) → Takes old new e m f → fits old new e f ≡ true → listed M (targetAt old e) (targetAt new f) ≡ true
+      → EdgeDone old new e m M S
+  edge-done wf {f} M S x fit t =
+      record {
+        ends = λ g l s u.
+            let q : g ≡ f = takes-once wf x (record { below = l; source = s; word = fits-word old new e g u }) in
+            rw q t;
+        danger = λ none. absurd (none f (x .below) (x .source) fit);
+      }
 
-module _ (ot on ol nt nn nl : List ℕ) (limit : ℕ) (w : List ℕ) (c e m place : ℕ) (is : Taken ot ol nt nl e m place) where
+  -- Where no edge fits, the old edge is dangerous, and marked.
+  edge-danger : {limit : ℕ} {w v : List ℕ} {c : ℕ} → Formed old new → State old new limit w c → e < edgeCount old → Pair old new (sourceAt old e) m → MayGoOn old new (sourceAt old e) m
+      → Unfit old new e m → DangerMarked w e v → Step old new limit w c (EdgeDone old new e m) v c
+  edge-danger f s i y x none k =
+      step-mark f s (record { isOld = i; partner = m; pair = y; mayGoOn = x; unfit = none }) k
+      (λ _ t. record { ends = λ g l a b. absurd (none g l a b); danger = λ _. t })
+
+module _ (ot on ol nt nn nl : List ℕ) (limit : ℕ) (w : List ℕ) (c e m place : ℕ) (is : Taken ol nl e m place) where
   -- The edge that is found.
   takes : (o p : Listing) → InMemory (memory ot on ol) o → InMemory (memory nt nn nl) p → e < edgeCount (o .program) → m < nodeCount (p .program) → 0 < place
       → Takes (o .program) (p .program) e m (place - 1)
   unfolding Taken
   takes o p h g i j pos =
-      let q = is on nn o p h g i j in
+      let q = is ot on nt nn o p h g i j in
       let r = found-at (λ f. eqb (sourceAt (p .program) f) m and sameWord (o .program) (p .program) e f) (edgeCount (p .program)) (omega arith) in
       let s = rw (← q) at r in
       record { below = s .0; source = eqb-true _ _ (and-left _ _ (s .1)); word = and-right _ _ (s .1) }
 
-  pub edge-none : place ≡ 0 → Sized w w (TriesEdge (memory ot on ol) (memory nt nn nl) limit w c e m w c)
-  unfolding TriesEdge EdgeDone Taken
-  edge-none z =
+  pub edge-none : (v : List ℕ) → place ≡ 0 → DangerMarked w e v → Sized w v (TriesEdge (memory ot on ol) (memory nt nn nl) limit w c e m v c)
+  unfolding TriesEdge Taken
+  edge-none v z k =
       record {
-        size = refl;
+        size = k .size;
         claim = λ o p h g s i y x.
-            let j = pair-inside (formed-in _ _ o p h g) y in
-            step-none s
-            (λ _ f l t u. absurd (found-none (λ f. eqb (sourceAt (p .program) f) m and sameWord (o .program) (p .program) e f) (edgeCount (p .program))
-            (sym (is on nn o p h g i (j .1)) ∙ z) f l (and-both (eq-eqb _ _ t) (fits-word (o .program) (p .program) e f u))));
+            let fm = formed-in _ _ o p h g in
+            edge-danger fm s i y x
+            (λ f l t u. found-none (λ f. eqb (sourceAt (p .program) f) m and sameWord (o .program) (p .program) e f) (edgeCount (p .program))
+            (sym (is ot on nt nn o p h g i (pair-inside fm y .1)) ∙ z) f l (and-both (eq-eqb _ _ t) (fits-word (o .program) (p .program) e f u)))
+            k;
       }
 
   module _ (a b : ℕ) (t : Bool) (pos : place ≡ 0 → ⊥) (d : a ≡ getD ol (edgeBase e + 3) 0) (d′ : b ≡ getD nl (edgeBase (place - 1) + 3) 0) (has : Has w a b t) where
@@ -160,22 +173,29 @@ module _ (ot on ol nt nn nl : List ℕ) (limit : ℕ) (w : List ℕ) (c e m plac
               let k = takes o p h g i (pair-inside f z .1) (omega arith) in
               let m = old-end o h i in
               let n = new-end p g (k .below) in
-              step-none s (λ l. edge-done (f .new-formed) _ k (λ _. rw (← m, ← n) (sym (has c (s .kept l .store)) ∙ y)));
+              step-none s (λ l.
+              let there : listed (pairsIn w c) (targetAt (o .program) e) (targetAt (p .program) (place - 1)) ≡ true = rw (← m, ← n) (sym (has c (s .kept l .store)) ∙ y) in
+              let like = pair-alike (o .program) (p .program) (f .old-formed) (f .new-formed) (s .kept l .sound _ _ there) in
+              edge-done (f .new-formed) _ _ k (fits-of (o .program) (p .program) e (place - 1) (k .word) like) there);
         }
 
     module _ (u : Bool) (like : Alike (memory ot on ol) (memory nt nn nl) a b u) where
-      pub edge-unlike : u ≡ false → Sized w w (TriesEdge (memory ot on ol) (memory nt nn nl) limit w c e m w c)
+      pub edge-unlike : (v : List ℕ) → u ≡ false → DangerMarked w e v → Sized w v (TriesEdge (memory ot on ol) (memory nt nn nl) limit w c e m v c)
       unfolding TriesEdge Alike
-      edge-unlike y =
+      edge-unlike v y q =
           record {
-            size = refl;
+            size = q .size;
             claim = λ o p h g s i z x.
                 let f = formed-in _ _ o p h g in
                 let k = takes o p h g i (pair-inside f z .1) (omega arith) in
                 let m = old-end o h i in
                 let n = new-end p g (k .below) in
                 let l = like o p h g (rw m (f .old-formed .targets e i)) (rw n (f .new-formed .targets (place - 1) (k .below))) in
-                step-none s (λ _. edge-done (f .new-formed) _ k (λ q. absurd (both-ways (l ∙ rw (m, n) (fits-ends (o .program) (p .program) e (place - 1) q)) y)));
+                edge-danger f s i z x
+                (λ d b r t.
+                let e′ : d ≡ place - 1 = takes-once (f .new-formed) k (record { below = b; source = r; word = fits-word (o .program) (p .program) e d t }) in
+                both-ways (l ∙ rw (m, n) (fits-ends (o .program) (p .program) e (place - 1) (subst (λ (j : ℕ). fits (o .program) (p .program) e j ≡ true) e′ t))) y)
+                q;
           }
 
       pub edge-new : (v : List ℕ) (r : ℕ) → t ≡ false → u ≡ true → Sized w v (Grows limit w c a b v r) → Sized w v (TriesEdge (memory ot on ol) (memory nt nn nl) limit w c e m v r)
@@ -192,7 +212,7 @@ module _ (ot on ol nt nn nl : List ℕ) (limit : ℕ) (w : List ℕ) (c e m plac
                 let fit = fits-of (o .program) (p .program) e (place - 1) (k .word) (rw (← m, ← n) (sym l ∙ y′)) in
                 let ends : Pair (o .program) (p .program) (targetAt (o .program) e) (targetAt (p .program) (place - 1))
                 = edge-ends {e = e} {e′ = place - 1} (rw (k .source) z) (rw (k .source) x) i (k .below) fit in
-                step-map (λ j. edge-done (f .new-formed) _ k (λ _. rw (← m, ← n) j))
+                step-map (λ j. edge-done (f .new-formed) _ _ k fit (rw (← m, ← n) j))
                 (q .claim (o .program) (p .program) f s (rw (m, n) ends) (λ j. sym (has c (s .kept j .store)) ∙ y));
           }
 

@@ -17,14 +17,14 @@ use Rattle.rules.specs.ProgramFile.{Listing}
 use Rattle.rules.specs.Proofs.Closure.{goesOn-at}
 use Rattle.graph.specs.Table.{edgeBase, headBase}
 use Rattle.graph.specs.Reads.{upTo}
-use Rattle.pairset.specs.Store.{newAt, oldAt, pairsIn}
+use Rattle.pairset.specs.Store.{dangerIn, newAt, oldAt, pairsIn}
 use Rattle.pairset.specs.StoreLaws.{listed-at, listed-of}
 use Rattle.versions.specs.Memory.{InMemory, Memory, memory}
 use Rattle.versions.specs.MemoryLaws.{edges-chained}
 use Rattle.versions.specs.Claims.{GoesOn}
-use Rattle.closure.specs.State.{AllDone, EachDone, EdgeDone, EdgesDone, Lasts, OnDone, PairDone, PairFollowed, State, Step, Turn}
-use Rattle.closure.specs.Step.{call-lasts, edge-lasts, entries-lasts, followed-lasts, pair-inside, state-none, step-lasts, step-map, step-none, step-same, step-shows, step-then}
-use Rattle.closure.specs.Full.{all-counted, all-same}
+use Rattle.closure.specs.State.{AllDone, Claim, EachDone, EdgeDone, EdgesDone, Lasts, OnDone, PairDone, PairFollowed, State, Step, Turn}
+use Rattle.closure.specs.Step.{call-lasts, done-lasts, edge-lasts, entries-lasts, followed-lasts, pair-inside, state-none, step-lasts, step-map, step-none, step-same, step-shows, step-then}
+use Rattle.closure.specs.Full.{all-counted, all-dangers, all-same}
 use Rattle.closure.specs.Claims.{AddsEntries, Closes, Enters, Finds, Follows, GoesOnWith, Passes, Sized, TriesEdge, Visits, VisitsAll}
 use Rattle.closure.proofs.Laws.{formed-in}
 
@@ -32,8 +32,8 @@ use Rattle.closure.proofs.Laws.{formed-in}
 
 -- At the place: the edges of n from it on were tried.
 pub record FollowedTo (old new : Program) (limit : ℕ) (w₀ : List ℕ) (c₀ n m : ℕ) (w : List ℕ) (c place : ℕ) : Type 0 where
-  pub step : Step old new limit w₀ c₀ (λ M. M ≡ M) w c
-  pub walk : Walk (λ e. c ≤ limit → EdgeDone old new e m (pairsIn w c)) (sourceAt old) n (edgeCount old) place
+  pub step : Step old new limit w₀ c₀ (λ M _. M ≡ M) w c
+  pub walk : Walk (λ e. c ≤ limit → EdgeDone old new e m (pairsIn w c) (dangerIn w)) (sourceAt old) n (edgeCount old) place
 
 unfoldable pub Following : Memory → Memory → ℕ → List ℕ → ℕ → ℕ → ℕ → List ℕ → ℕ → ℕ → Type 0
 Following a b limit w₀ c₀ n m w c place =
@@ -73,9 +73,9 @@ module _ (ot on ol nt nn nl : List ℕ) (limit : ℕ) (w₀ : List ℕ) (c₀ n 
               let own : sourceAt (o .program) e ≡ n = ap (sourceAt (o .program)) d ∙ i .walk .owner pos in
               let j = t .claim o p h g (i .step .state) k (rw own y) (rw own z) in
               record {
-                step = step-then (λ M N _ _. refl) (i .step) j (λ _ _. refl);
+                step = step-then (λ M S N T _ _. refl) (i .step) j (λ _ _. refl);
                 walk = rw (q, d)
-                    (walk-step (edges-chained (memory ot on ol) o h) {Q = λ f. r ≤ limit → EdgeDone (o .program) (p .program) f m (pairsIn v r)} (i .walk) pos
+                    (walk-step (edges-chained (memory ot on ol) o h) {Q = λ f. r ≤ limit → EdgeDone (o .program) (p .program) f m (pairsIn v r) (dangerIn v)} (i .walk) pos
                     (λ f u b. step-lasts j _ (edge-lasts (o .program) (p .program) f m) b (u (omega (arith, j .more))))
                     (rw (← d) (j .done)));
               };
@@ -165,12 +165,12 @@ pub ruleset visits = (go-over, go-wait, go-follow, visit-done)
 -- ---- `visit_all`, `pass`
 
 -- The pairs before x have P.
-unfoldable pub Seen : (ℕ → ℕ → List (ℕ × ℕ) → Type 0) → List ℕ → ℕ → ℕ → Type 0
-Seen P w c x = (k : ℕ) → k < x → k < c → P (oldAt w k) (newAt w k) (pairsIn w c)
+unfoldable pub Seen : (ℕ → ℕ → Claim) → List ℕ → ℕ → ℕ → Type 0
+Seen P w c x = (k : ℕ) → k < x → k < c → P (oldAt w k) (newAt w k) (pairsIn w c) (dangerIn w)
 
 -- The pairs before x were visited.
 pub record VisitedTo (old new : Program) (limit : ℕ) (w₀ : List ℕ) (c₀ : ℕ) (w : List ℕ) (c : ℕ) (z : Bool) (x : ℕ) : Type 0 where
-  pub step : Step old new limit w₀ c₀ (λ M. M ≡ M) w c
+  pub step : Step old new limit w₀ c₀ (λ M _. M ≡ M) w c
   pub followed : z ≡ true → c ≤ limit → Seen (PairFollowed old new) w c x
   pub still : c ≡ c₀ → c ≤ limit → Seen (PairDone old new) w c x
 
@@ -178,23 +178,23 @@ unfoldable pub Visiting : Memory → Memory → ℕ → List ℕ → ℕ → Lis
 Visiting a b limit w₀ c₀ w c z x =
     (o p : Listing) → InMemory a o → InMemory b p → State (o .program) (p .program) limit w₀ c₀ → VisitedTo (o .program) (p .program) limit w₀ c₀ w c z x
 
--- One pair more, where P of a pair passes on to the list then.
-seen-more : (P : ℕ → ℕ → List (ℕ × ℕ) → Type 0) (w v : List ℕ) (c r x : ℕ) → x < c → ((k : ℕ) → k < c → (oldAt v k ≡ oldAt w k) × (newAt v k ≡ newAt w k))
-    → ((a b : ℕ) → P a b (pairsIn w c) → P a b (pairsIn v r)) → Seen P w c x → P (oldAt w x) (newAt w x) (pairsIn v r) → Seen P v r (x + 1)
+-- One pair more, where P of a pair passes on to list and set then.
+seen-more : (P : ℕ → ℕ → Claim) (w v : List ℕ) (c r x : ℕ) → x < c → ((k : ℕ) → k < c → (oldAt v k ≡ oldAt w k) × (newAt v k ≡ newAt w k))
+    → ((a b : ℕ) → P a b (pairsIn w c) (dangerIn w) → P a b (pairsIn v r) (dangerIn v)) → Seen P w c x → P (oldAt w x) (newAt w x) (pairsIn v r) (dangerIn v) → Seen P v r (x + 1)
 unfolding Seen
 seen-more P w v c r x l keeps f d t k kx kr =
     let q = keeps k (omega arith) in
     let i = keeps x l in
     same-or k x
-    (λ e. subst (λ (j : ℕ). P (oldAt v j) (newAt v j) (pairsIn v r)) (sym e) (rw (i .0, i .1) t))
+    (λ e. subst (λ (j : ℕ). P (oldAt v j) (newAt v j) (pairsIn v r) (dangerIn v)) (sym e) (rw (i .0, i .1) t))
     (λ e. rw (q .0, q .1) (f _ _ (d k (omega arith) (omega arith))))
 
 -- All pairs.
-seen-all : (old new : Program) (w : List ℕ) (c x : ℕ) → c ≤ x → Seen (PairDone old new) w c x → EachDone old new (pairsIn w c)
+seen-all : (old new : Program) (w : List ℕ) (c x : ℕ) → c ≤ x → Seen (PairDone old new) w c x → EachDone old new (pairsIn w c) (dangerIn w)
 unfolding Seen EachDone
 seen-all old new w c x l d n m t =
     let k = listed-at w n m c t in
-    subst₂ (λ (a b : ℕ). PairDone old new a b (pairsIn w c)) (k .2) (k .3) (d (k .0) (omega (arith, k .1)) (k .1))
+    subst₂ (λ (a b : ℕ). PairDone old new a b (pairsIn w c) (dangerIn w)) (k .2) (k .3) (d (k .0) (omega (arith, k .1)) (k .1))
 
 followed-done : (old new : Program) (w : List ℕ) (c x : ℕ) → Seen (PairFollowed old new) w c x → Seen (PairDone old new) w c x
 unfolding Seen OnDone
@@ -224,7 +224,7 @@ module _ (a b : Memory) (limit : ℕ) (w₀ : List ℕ) (c₀ : ℕ) where
               let i = inv .claim o p h g s in
               let j = y .claim o p h g (i .step .state) few l in
               record {
-                step = step-then (λ M N _ _. refl) (i .step) (j .step) (λ _ _. refl);
+                step = step-then (λ M S N T _ _. refl) (i .step) (j .step) (λ _ _. refl);
                 followed = λ e k.
                     seen-more (PairFollowed (o .program) (p .program)) w v c r x l (j .step .keeps k)
                     (λ n m. step-lasts (j .step) _ (followed-lasts (o .program) (p .program) n m) k)
@@ -232,7 +232,9 @@ module _ (a b : Memory) (limit : ℕ) (w₀ : List ℕ) (c₀ : ℕ) where
                 still = λ e k.
                     let rc : r ≡ c = omega (arith, i .step .more, j .step .more) in
                     seen-more (PairDone (o .program) (p .program)) w v c r x l (j .step .keeps k)
-                    (λ n m. subst (PairDone (o .program) (p .program) n m) (step-same (j .step) k rc))
+                    (λ n m d.
+                    subst (λ (M : List (ℕ × ℕ)). PairDone (o .program) (p .program) n m M (dangerIn v)) (step-same (j .step) k rc)
+                    (done-lasts (o .program) (p .program) n m (pairsIn w c) (dangerIn w) (dangerIn v) (j .step .stays k) d))
                     (i .still (omega arith) few) (j .still rc k);
               };
         }
@@ -314,13 +316,14 @@ module _ (a b : Memory) (limit : ℕ) (w₀ w : List ℕ) (c : ℕ) (v : List �
             record {
               answer = add-one limit ∙ sym (choose-no _ _ (lt-leb (length (pairs (o .program) (p .program))) limit (i .step .state .over l)));
               held = λ k. absurd (let z : ⊥ = omega arith in z);
+              marked = λ k. absurd (let z : ⊥ = omega arith in z);
             };
       }
 
   -- Where the list has the three rules, the search is at its end.
   ended : r ≤ limit
       → ((o p : Listing) → Turn (o .program) (p .program) limit w c true (AllDone (o .program) (p .program)) (AllDone (o .program) (p .program)) v r z
-      → AllDone (o .program) (p .program) (pairsIn v r))
+      → AllDone (o .program) (p .program) (pairsIn v r) (dangerIn v))
       → Sized w₀ v (Finds a b limit w₀ v r)
   unfolding Repeating Passes Finds
   ended l all =
@@ -335,6 +338,7 @@ module _ (a b : Memory) (limit : ℕ) (w₀ w : List ℕ) (c : ℕ) (v : List �
             record {
               answer = n ∙ sym (choose-yes _ _ (le-leb (length (pairs (o .program) (p .program))) limit (omega arith)));
               held = λ _. record { store = k .store; counted = n; same = all-same f k d };
+              marked = λ _. all-dangers f k d;
             };
       }
 

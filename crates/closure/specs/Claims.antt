@@ -6,11 +6,11 @@ use mathlib.Core.List.{List}
 use Prim.Native.Nat.{ℕ, suc, _+_, _*_, _≤_, _<_}
 use lib.Dec.{leb}
 use lib.ListN.{length}
-use Rattle.laws.specs.Tests.{choose, listed}
+use Rattle.laws.specs.Tests.{choose, has, listed}
 use Rattle.rules.specs.Graph.{Program, edgeCount, entry, procCount, sourceAt}
-use Rattle.rules.specs.Closing.{MayGoOn, Pair, pairs}
+use Rattle.rules.specs.Closing.{MayGoOn, Pair, dangers, pairs}
 use Rattle.rules.specs.ProgramFile.{Listing}
-use Rattle.pairset.specs.Store.{newAt, oldAt, pairBase, pairsIn}
+use Rattle.pairset.specs.Store.{dangerIn, newAt, oldAt, pairBase, pairsIn}
 use Rattle.versions.specs.Memory.{InMemory, Memory, memory}
 use Rattle.versions.specs.Held.{PairsHeld}
 use Rattle.closure.specs.State.{AllDone, CallDone, EachDone, EdgeDone, EdgesDone, EntriesDone, Formed, OnDone, PairDone, PairFollowed, State, Step, Turn}
@@ -24,11 +24,11 @@ pub record Sized (w v : List ℕ) (X : Type 0) : Type 0 where
 unfoldable pub Grows : ℕ → List ℕ → ℕ → ℕ → ℕ → List ℕ → ℕ → Type 0
 Grows limit w c a b v r =
     (old new : Program) → Formed old new → State old new limit w c → Pair old new a b → (c ≤ limit → listed (pairsIn w c) a b ≡ false)
-    → Step old new limit w c (λ M. listed M a b ≡ true) v r
+    → Step old new limit w c (λ M _. listed M a b ≡ true) v r
 
 unfoldable pub Adds : ℕ → List ℕ → ℕ → ℕ → ℕ → List ℕ → ℕ → Type 0
 Adds limit w c a b v r =
-    (old new : Program) → Formed old new → State old new limit w c → Pair old new a b → Step old new limit w c (λ M. listed M a b ≡ true) v r
+    (old new : Program) → Formed old new → State old new limit w c → Pair old new a b → Step old new limit w c (λ M _. listed M a b ≡ true) v r
 
 -- `add_entries`: the entries of the old procedure q and the new procedure k.
 unfoldable pub AddsEntries : List ℕ → List ℕ → ℕ → List ℕ → ℕ → ℕ → ℕ → List ℕ → ℕ → Type 0
@@ -79,10 +79,11 @@ module _ (a b : Memory) (limit : ℕ) (w : List ℕ) where
       (o p : Listing) → InMemory a o → InMemory b p → State (o .program) (p .program) limit w c
       → Turn (o .program) (p .program) limit w c true (AllDone (o .program) (p .program)) (AllDone (o .program) (p .program)) v r settled
 
--- The number of pairs, or one more than the limit where there are more; within the limit, the table holds them.
+-- The number of pairs, or one more than the limit where there are more; within the limit, the table holds them and the dangerous edges.
 pub record Found (old new : Program) (limit : ℕ) (w : List ℕ) (r : ℕ) : Type 0 where
   pub answer : r ≡ choose (leb (length (pairs old new)) limit) (length (pairs old new)) (suc limit)
   pub held : r ≤ limit → PairsHeld old new w r
+  pub marked : r ≤ limit → (e : ℕ) → dangerIn w e ≡ has (dangers old new) e
 
 -- `repeat`: from a state of the search.
 unfoldable pub Finds : Memory → Memory → ℕ → List ℕ → List ℕ → ℕ → Type 0

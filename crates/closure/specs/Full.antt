@@ -1,29 +1,34 @@
--- A list of pairs that has the three rules lists all pairs.
+-- A list of pairs that has the three rules lists all pairs; its set of edges then has all dangerous edges.
 use mathlib.Core.Path.{_≡_, refl, subst}
-use mathlib.Core.Bool.{true}
+use mathlib.Core.Bool.{Bool, true}
 use mathlib.Core.List.{List}
 use Prim.Native.Nat.{ℕ, _≤_}
 use native.Mathlib.Nat.{le-antisymm}
 use lib.ListN.{length}
-use Rattle.laws.specs.Tests.{listed}
+use Rattle.laws.specs.Tests.{has, listed}
 use Rattle.laws.specs.TestLaws.{same-test}
 use Rattle.rules.specs.Graph.{Program, sourceAt}
-use Rattle.rules.specs.Closing.{Pair, pairs}
-use Rattle.rules.specs.Proofs.Closure.{goesOn-of, least, pairs-ascend, pairs-complete, pairs-sound}
-use Rattle.pairset.specs.Store.{pairsIn}
+use Rattle.rules.specs.Closing.{Dangerous, Pair, dangers, pairs}
+use Rattle.rules.specs.Proofs.Closure.{dangers-iff, goesOn-of, least, pairs-ascend, pairs-complete, pairs-sound}
+use Rattle.pairset.specs.Store.{dangerIn, pairsIn}
 use Rattle.pairset.specs.StoreLaws.{pairs-count}
 use Rattle.closure.specs.Once.{once-ascending, pigeonhole}
-use Rattle.closure.specs.State.{AllDone, CallDone, EachDone, EdgeDone, EdgesDone, EntriesDone, Formed, Kept, OnDone}
+use Rattle.closure.specs.State.{AllDone, CallDone, EachDone, EdgesDone, EntriesDone, Formed, Kept, OnDone}
 
 module _ {old new : Program} where
-  pub all-listed : {M : List (ℕ × ℕ)} → AllDone old new M → {a b : ℕ} → Pair old new a b → listed M a b ≡ true
-  unfolding EntriesDone EachDone CallDone OnDone EdgesDone EdgeDone
-  all-listed {M} d =
+  pub all-listed : {M : List (ℕ × ℕ)} {S : ℕ → Bool} → AllDone old new M S → {a b : ℕ} → Pair old new a b → listed M a b ≡ true
+  unfolding EntriesDone EachDone CallDone OnDone EdgesDone
+  all-listed {M} {S} d =
       least old new (λ a b. listed M a b ≡ true) (d .start)
       (λ n m l k k′. d .each n m l .call k k′)
-      (λ e f l x h h′ t. d .each (sourceAt old e) (sourceAt new f) l .on (goesOn-of old new M _ _ x) e h refl f h′ refl t)
+      (λ e f l x h h′ t. d .each (sourceAt old e) (sourceAt new f) l .on (goesOn-of old new M _ _ x) e h refl .ends f h′ refl t)
 
-  module _ {w : List ℕ} {c : ℕ} (fm : Formed old new) (k : Kept old new w c) (d : AllDone old new (pairsIn w c)) where
+  all-marked : {M : List (ℕ × ℕ)} {S : ℕ → Bool} → AllDone old new M S → {e : ℕ} → Dangerous old new e → S e ≡ true
+  unfolding EachDone OnDone EdgesDone
+  all-marked {M} {S} d {e} x =
+      d .each (sourceAt old e) (x .partner) (all-listed d (x .pair)) .on (goesOn-of old new M _ _ (λ k. all-listed d (x .mayGoOn k))) e (x .isOld) refl .danger (x .unfit)
+
+  module _ {w : List ℕ} {c : ℕ} (fm : Formed old new) (k : Kept old new w c) (d : AllDone old new (pairsIn w c) (dangerIn w)) where
     -- As many pairs, and the same.
     pub all-counted : c ≡ length (pairs old new)
     all-counted =
@@ -36,3 +41,8 @@ module _ {old new : Program} where
     pub all-same : (a b : ℕ) → listed (pairsIn w c) a b ≡ listed (pairs old new) a b
     all-same a b =
         same-test _ _ (λ t. pairs-complete old new (fm .old-formed) (fm .new-formed) (k .sound a b t)) (λ t. all-listed d (pairs-sound old new a b t))
+
+    pub all-dangers : (e : ℕ) → dangerIn w e ≡ has (dangers old new) e
+    all-dangers e =
+        let iff = dangers-iff old new (fm .old-formed) (fm .new-formed) e in
+        same-test _ _ (λ t. iff .1 (k .dangerous e t)) (λ t. all-marked d (iff .0 t))

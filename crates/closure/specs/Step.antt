@@ -1,24 +1,25 @@
--- Laws of steps: what lasts, none, one after another, a pair more, and one pair too many.
+-- Laws of steps: what lasts, none, one after another, a pair more, one pair too many, and a dangerous edge.
 use mathlib.Core.Path.{_≡_, refl, sym, ap, _∙_, subst, subst₂}
 use mathlib.Core.Logic.{⊎-elim}
-use mathlib.Core.Bool.{false, true}
+use mathlib.Core.Bool.{Bool, false, true}
 use mathlib.Core.List.{List, [], _∷_, _++_}
 use Prim.Native.Nat.{ℕ, zero, suc, _+_, _*_, _≤_, _<_}
 use native.Mathlib.Nat.{not-suc-le-zero}
 use native.Mathlib.Omega.{arith}
-use borrow.Author.Tests.{eq-eqb}
+use borrow.Author.Tests.{eq-eqb, eqb-true}
+use lib.Dec.{eqb}
 use lib.ListN.{length, getD, replicate, length-replicate}
-use Rattle.laws.specs.Tests.{listed}
-use Rattle.laws.specs.TestLaws.{and-both, listed-append, listed-one, or-right}
+use Rattle.laws.specs.Tests.{_or_, listed}
+use Rattle.laws.specs.TestLaws.{and-both, both-ways, eqb-self, listed-append, listed-one, or-cases, or-left, or-right}
 use Rattle.laws.specs.Lists.{none-listed, snoc-length, snoc-new, snoc-old}
 use Rattle.laws.specs.Slices.{below-or, same-or}
 use Rattle.rules.specs.Graph.{Program, nodeCount}
-use Rattle.rules.specs.Closing.{Pair, pairs}
+use Rattle.rules.specs.Closing.{Dangerous, Pair, pairs}
 use Rattle.rules.specs.Proofs.Closure.{pairs-complete, pairs-inside}
-use Rattle.pairset.specs.Store.{Appended, Appends, newAt, oldAt, pairBase, pairsIn}
-use Rattle.pairset.specs.StoreLaws.{listed-at, listed-of, listed-snoc, no-pairs, pairs-agree, pairs-count, store-clear}
+use Rattle.pairset.specs.Store.{Appended, Appends, DangerMarked, MarksDanger, Store, dangerIn, newAt, oldAt, pairBase, pairsIn}
+use Rattle.pairset.specs.StoreLaws.{listed-at, listed-of, listed-snoc, no-dangers, no-pairs, pairs-agree, pairs-count, store-clear}
 use Rattle.closure.specs.Once.{once-none, once-snoc, pigeonhole}
-use Rattle.closure.specs.State.{CallDone, EdgeDone, EdgesDone, EntriesDone, Formed, Lasts, PairFollowed, State, Step, Within}
+use Rattle.closure.specs.State.{CallDone, Claim, EdgeDone, EdgesDone, EntriesDone, Formed, Kept, Lasts, OnDone, PairDone, PairFollowed, State, Step, Within}
 
 -- ---- nothing found yet
 
@@ -31,6 +32,7 @@ state-none old new limit n h =
         store = store-clear n (omega arith);
         sound = λ a b t. absurd (none-listed a b (rw (no-pairs (replicate n 0)) at t));
         once = rw (no-pairs (replicate n 0)) once-none;
+        dangerous = λ e t. absurd (both-ways t (no-dangers n e));
       };
       over = λ l. absurd (let z : ⊥ = omega arith in z);
     }
@@ -40,28 +42,35 @@ state-none old new limit n h =
 pub pair-inside : {old new : Program} {a b : ℕ} → Formed old new → Pair old new a b → (a < nodeCount old) × (b < nodeCount new)
 pair-inside {old} {new} {a} {b} f p = pairs-inside old new a b (pairs-complete old new (f .old-formed) (f .new-formed) p)
 
--- ---- what lasts as a list grows
+-- ---- what lasts as list and set grow
 
 module _ (old new : Program) where
   pub edge-lasts : (e m : ℕ) → Lasts (EdgeDone old new e m)
-  unfolding Lasts Within EdgeDone
-  edge-lasts e m M N h d f l s t = h _ _ (d f l s t)
+  unfolding Lasts
+  edge-lasts e m M S N T h d = record { ends = λ f l s t. h .list _ _ (d .ends f l s t); danger = λ u. h .set e (d .danger u) }
 
   pub edges-lasts : (n m : ℕ) → Lasts (EdgesDone old new n m)
   unfolding Lasts EdgesDone
-  edges-lasts n m M N h d e l s = edge-lasts e m M N h (d e l s)
+  edges-lasts n m M S N T h d e l s = edge-lasts e m M S N T h (d e l s)
 
   pub call-lasts : (n m : ℕ) → Lasts (CallDone old new n m)
-  unfolding Lasts Within CallDone
-  call-lasts n m M N h d k k′ = h _ _ (d k k′)
+  unfolding Lasts CallDone
+  call-lasts n m M S N T h d k k′ = h .list _ _ (d k k′)
 
   pub entries-lasts : (q k : ℕ) → Lasts (EntriesDone old new q k)
-  unfolding Lasts Within EntriesDone
-  entries-lasts q k M N h d = h _ _ d
+  unfolding Lasts EntriesDone
+  entries-lasts q k M S N T h d = h .list _ _ d
 
   pub followed-lasts : (n m : ℕ) → Lasts (PairFollowed old new n m)
   unfolding Lasts
-  followed-lasts n m M N h d = record { call = call-lasts n m M N h (d .call); edges = edges-lasts n m M N h (d .edges) }
+  followed-lasts n m M S N T h d = record { call = call-lasts n m M S N T h (d .call); edges = edges-lasts n m M S N T h (d .edges) }
+
+  -- What asks whether a pair goes on lasts as long as the list stays.
+  pub done-lasts : (n m : ℕ) (M : List (ℕ × ℕ)) (S T : ℕ → Bool) → ((e : ℕ) → S e ≡ true → T e ≡ true) → PairDone old new n m M S → PairDone old new n m M T
+  unfolding Lasts OnDone
+  done-lasts n m M S T h d =
+      let i : Within M S M T = record { list = λ a b t. t; set = h } in
+      record { call = call-lasts n m M S M T i (d .call); on = λ g. edges-lasts n m M S M T i (d .on g) }
 
 -- ---- the pairs of a list by index
 
@@ -87,33 +96,36 @@ module _ {old new : Program} {limit : ℕ} where
   -- ---- steps
 
   -- None added.
-  pub step-none : {w : List ℕ} {c : ℕ} {D : List (ℕ × ℕ) → Type 0} → State old new limit w c → (c ≤ limit → D (pairsIn w c)) → Step old new limit w c D w c
-  step-none s d = record { state = s; more = omega arith; keeps = λ _ k _. (refl, refl); done = d }
+  pub step-none : {w : List ℕ} {c : ℕ} {D : Claim} → State old new limit w c → (c ≤ limit → D (pairsIn w c) (dangerIn w)) → Step old new limit w c D w c
+  step-none s d = record { state = s; more = omega arith; keeps = λ _ k _. (refl, refl); stays = λ _ e t. t; done = d }
 
-  module _ {w v : List ℕ} {c r : ℕ} {D : List (ℕ × ℕ) → Type 0} (x : Step old new limit w c D v r) where
+  module _ {w v : List ℕ} {c r : ℕ} {D : Claim} (x : Step old new limit w c D v r) where
     -- Where none was added, the list is the same.
     pub step-same : r ≤ limit → r ≡ c → pairsIn w c ≡ pairsIn v r
     step-same h e = pairs-agree w v c (λ k l. sym (x .keeps h k l .0)) (λ k l. sym (x .keeps h k l .1)) ∙ ap (pairsIn v) (sym e)
 
-    -- What was listed is listed, and what lasts lasts.
-    step-within : r ≤ limit → Within (pairsIn w c) (pairsIn v r)
-    unfolding Within
-    step-within h a b t =
-        let k = listed-at w a b c t in
-        let e = x .keeps h (k .0) (k .1) in
-        listed-of v a b r (k .0) (omega (arith, k .1, x .more)) (e .0 ∙ k .2) (e .1 ∙ k .3)
+    -- What was there is there, and what lasts lasts.
+    step-within : r ≤ limit → Within (pairsIn w c) (dangerIn w) (pairsIn v r) (dangerIn v)
+    step-within h =
+        record {
+          list = λ a b t.
+              let k = listed-at w a b c t in
+              let e = x .keeps h (k .0) (k .1) in
+              listed-of v a b r (k .0) (omega (arith, k .1, x .more)) (e .0 ∙ k .2) (e .1 ∙ k .3);
+          set = x .stays h;
+        }
 
-    pub step-lasts : (E : List (ℕ × ℕ) → Type 0) → Lasts E → r ≤ limit → E (pairsIn w c) → E (pairsIn v r)
+    pub step-lasts : (E : Claim) → Lasts E → r ≤ limit → E (pairsIn w c) (dangerIn w) → E (pairsIn v r) (dangerIn v)
     unfolding Lasts
-    step-lasts E l h d = l _ _ (step-within h) d
+    step-lasts E l h d = l _ _ _ _ (step-within h) d
 
     -- The same step, with another claim.
-    pub step-shows : {E : List (ℕ × ℕ) → Type 0} → (r ≤ limit → E (pairsIn v r)) → Step old new limit w c E v r
-    step-shows f = record { state = x .state; more = x .more; keeps = x .keeps; done = f }
+    pub step-shows : {E : Claim} → (r ≤ limit → E (pairsIn v r) (dangerIn v)) → Step old new limit w c E v r
+    step-shows f = record { state = x .state; more = x .more; keeps = x .keeps; stays = x .stays; done = f }
 
   -- One step after another.
-  pub step-then : {w v u : List ℕ} {c r q : ℕ} {D E F : List (ℕ × ℕ) → Type 0} → Lasts D → Step old new limit w c D v r → Step old new limit v r E u q
-      → (D (pairsIn u q) → E (pairsIn u q) → F (pairsIn u q)) → Step old new limit w c F u q
+  pub step-then : {w v u : List ℕ} {c r q : ℕ} {D E F : Claim} → Lasts D → Step old new limit w c D v r → Step old new limit v r E u q
+      → (D (pairsIn u q) (dangerIn u) → E (pairsIn u q) (dangerIn u) → F (pairsIn u q) (dangerIn u)) → Step old new limit w c F u q
   step-then {w} {v} {u} {c} {r} {q} {D} {E} {F} last x y f =
       record {
         state = y .state;
@@ -122,10 +134,12 @@ module _ {old new : Program} {limit : ℕ} where
             let i = x .keeps (omega (arith, y .more)) k l in
             let j = y .keeps h k (omega (arith, x .more)) in
             (j .0 ∙ i .0, j .1 ∙ i .1);
+        stays = λ h e t. y .stays h e (x .stays (omega (arith, y .more)) e t);
         done = λ h. f (step-lasts y D last h (x .done (omega (arith, y .more)))) (y .done h);
       }
 
-  pub step-map : {w v : List ℕ} {c r : ℕ} {D E : List (ℕ × ℕ) → Type 0} → (D (pairsIn v r) → E (pairsIn v r)) → Step old new limit w c D v r → Step old new limit w c E v r
+  pub step-map : {w v : List ℕ} {c r : ℕ} {D E : Claim} → (D (pairsIn v r) (dangerIn v) → E (pairsIn v r) (dangerIn v)) → Step old new limit w c D v r
+      → Step old new limit w c E v r
   step-map f x = step-shows x (λ h. f (x .done h))
 
   -- ---- a pair that is not there
@@ -133,12 +147,13 @@ module _ {old new : Program} {limit : ℕ} where
   module _ {w : List ℕ} {c a b : ℕ} (fm : Formed old new) (s : State old new limit w c) (p : Pair old new a b)
       (new-one : c ≤ limit → listed (pairsIn w c) a b ≡ false) where
     -- One more than the limit is found, or was found before.
-    pub step-over : limit ≤ c → Step old new limit w c (λ M. listed M a b ≡ true) w (limit + 1)
+    pub step-over : limit ≤ c → Step old new limit w c (λ M _. listed M a b ≡ true) w (limit + 1)
     step-over h =
         record {
           state = record { wide = s .wide; few = omega arith; kept = λ l. absurd (let z : ⊥ = omega arith in z); over = λ _. over };
           more = s .few;
           keeps = λ _ k _. (refl, refl);
+          stays = λ _ e t. t;
           done = λ l. absurd (let z : ⊥ = omega arith in z);
         }
       where
@@ -154,7 +169,7 @@ module _ {old new : Program} {limit : ℕ} where
             omega (arith, snoc-length (0, 0) (pairsIn w c) (a, b), pairs-count w c))
 
     -- There is room for it.
-    pub step-more : {v : List ℕ} → c < limit → Appended w c a b v → Step old new limit w c (λ M. listed M a b ≡ true) v (c + 1)
+    pub step-more : {v : List ℕ} → c < limit → Appended w c a b v → Step old new limit w c (λ M _. listed M a b ≡ true) v (c + 1)
     unfolding Appends
     step-more {v} h ap =
         let k = s .kept (omega arith) in
@@ -168,10 +183,41 @@ module _ {old new : Program} {limit : ℕ} where
               sound = λ y z t.
                   ⊎-elim (k .sound y z) (λ u. let e = listed-one a b y z u in subst₂ (Pair old new) (e .0) (e .1) p) (listed-append (pairsIn w c) _ y z (rw (x .1) at t));
               once = rw (x .1) (once-snoc a b (k .once) (new-one (omega arith)));
+              dangerous = λ e t. k .dangerous e (sym (x .2 e) ∙ t);
             };
             over = λ l. absurd (let z : ⊥ = omega arith in z);
           };
           more = omega arith;
           keeps = λ _ k l. same-before w v c k (a, b) (x .1) l;
+          stays = λ _ e t. x .2 e ∙ t;
           done = λ _. rw (x .1) (listed-snoc (a, b) (pairsIn w c) a b ∙ or-right _ (and-both (eq-eqb a a refl) (eq-eqb b b refl)));
         }
+
+  -- ---- a dangerous edge
+
+  pub step-mark : {w v : List ℕ} {c e : ℕ} {D : Claim} → Formed old new → State old new limit w c → Dangerous old new e → DangerMarked w e v
+      → (c ≤ limit → dangerIn v e ≡ true → D (pairsIn v c) (dangerIn v)) → Step old new limit w c D v c
+  unfolding MarksDanger
+  step-mark {w} {v} {c} {e} fm s d x f =
+      record {
+        state = record { wide = omega (arith, s .wide, x .size); few = s .few; kept = kept; over = s .over };
+        more = omega arith;
+        keeps = λ l k _. marks l .1 k;
+        stays = λ l i t. marks l .2 i ∙ or-right _ t;
+        done = λ l. f l (marks l .2 e ∙ or-left _ (eqb-self e));
+      }
+    where
+      marks : c ≤ limit → Store v c × ((k : ℕ) → (oldAt v k ≡ oldAt w k) × (newAt v k ≡ newAt w k)) × ((i : ℕ) → dangerIn v i ≡ (eqb e i or dangerIn w i))
+      marks l = x .marks c (s .kept l .store) (omega (arith, d .isOld, fm .few-edges))
+
+      kept : c ≤ limit → Kept old new v c
+      kept l =
+          let k = s .kept l in
+          let m = marks l in
+          let same : pairsIn v c ≡ pairsIn w c = pairs-agree v w c (λ i _. m .1 i .0) (λ i _. m .1 i .1) in
+          record {
+            store = m .0;
+            sound = λ a b t. k .sound a b (rw same at t);
+            once = rw same (k .once);
+            dangerous = λ i t. ⊎-elim (λ u. subst (Dangerous old new) (eqb-true _ _ u) d) (k .dangerous i) (or-cases _ _ (sym (m .2 i) ∙ t));
+          }

@@ -1,5 +1,5 @@
 // The pairs of two versions in memory: the smallest set with the closing rules, found by passes over the pairs found so far, until one adds nothing or
-// no pair has to wait in it.
+// no pair has to wait in it. A visit of a pair that may go on also finds the old edges that are dangerous for it.
 // A count above the limit says that there are more pairs than the limit; every function passes such a count on.
 ghost use Prim.Native.Nat.{_≤_};
 ghost use Rattle.versions.specs.Memory.{memory};
@@ -93,7 +93,8 @@ fn enter(
     count
 }
 
-// Rule 3 for the old edge e and the new node m, whose pair may go on. Ends that are a pair already are alike, and are not compared again.
+// Rule 3 for the old edge e and the new node m, whose pair may go on: if m has no edge with the word of e, or the ends are not alike, e is
+// dangerous. Ends that are a pair already are alike, and are not compared again.
 fn try_edge(
     ot: &[u8],
     on: &[usize],
@@ -114,8 +115,9 @@ fn try_edge(
         (memory (now (nt .entry)) (now (nn .entry)) (now (nl .entry)))
         limit (now (w .entry)) count e m (now (w .exit)) r) ⌝ }
 {
-    let place = versions::taken(ot, ol, nt, nl, e, m);
+    let place = versions::taken(ol, nl, e, m);
     if place == 0 {
+        pairset::mark_danger(w, e);
         return count;
     }
     let a = versions::target(ol, e);
@@ -126,6 +128,7 @@ fn try_edge(
     if versions::alike(ot, on, ol, nt, nn, nl, a, b) {
         return grow(limit, w, count, a, b);
     }
+    pairset::mark_danger(w, e);
     count
 }
 
@@ -324,7 +327,8 @@ fn repeat(
     }
 }
 
-// Finds all pairs, and puts them into the table: how many there are, or limit + 1 where there are more than the limit.
+// Finds all pairs and all dangerous edges, and puts them into the table: how many pairs there are, or limit + 1 where there are more than the
+// limit.
 //
 // The worst case. A pass visits each pair once, and a visit tries the edges of the old node, at most 8. A try compares the edge's word with
 // those of the new node, at most 8, and looks the pair of ends up by its bit; labels are compared only for ends that are no pair yet. There

@@ -1,4 +1,8 @@
-// What the programs share: files that arguments name, cases in a file, and numbers in print.
+// What the programs share: files that arguments name, cases in a file, outputs, and numbers in print.
+ghost use mathlib.Core.Path.{_≡_};
+ghost use lib.ListN.{drop};
+ghost use Rattle.rules.specs.Text.{allBytes};
+ghost use Rattle.files.specs.Marks.{isMark};
 
 // What came of a file: whether it could be read, and how many bytes stand at the start of the buffer.
 pub struct Loaded {
@@ -73,6 +77,22 @@ pub fn fill(fd: i32, buffer: &mut [u8], n: usize) -> usize {
         return 0;
     }
     io::read_full(fd, &mut buffer[..n])
+}
+
+// ---- outputs that were filled with 170
+
+// Whether every byte from the place on is 170 still.
+pub fn untouched(out: &[u8], from: usize) -> bool
+    ensures { λ r. ⌜ r ≡ allBytes isMark (drop from (now (out .entry))) ⌝ }
+{
+    let mut i = from;
+    while i < out.len() {
+        if out[i] != 170 {
+            return false;
+        }
+        i += 1;
+    }
+    true
 }
 
 // ---- print

@@ -1,31 +1,32 @@
 -- The turns and the returns of this crate's functions, as `search` finds them: the premises are what the code holds there.
 use mathlib.Core.Path.{_≡_, refl, sym, ap, ap₂, _∙_}
 use mathlib.Core.Bool.{Bool, true, false}
-use mathlib.Core.List.{List}
+use mathlib.Core.List.{List, _∷_}
 use mathlib.Core.Option.{none}
-use Prim.Native.Nat.{ℕ, suc, _+_, _-_, _≤_, _<_}
-use native.Mathlib.Nat.{add-assoc, add-zero, zero-add}
+use Prim.Native.Nat.{ℕ, suc, _+_, _-_, _*_, _^_, _≤_, _<_}
+use native.Mathlib.Nat.{add-zero, pow-le-pow-right, pow-suc, zero-add}
 use native.Mathlib.Numerals.{add-one}
 use native.Mathlib.Omega.{arith}
 use lib.Dec.{eqb}
-use lib.ListN.{length, getD, take, drop}
+use lib.ListN.{length, getD, take, drop, length-take}
+use lib.Seq.{drop-length}
 use borrow.Author.Tests.{eqb-true, eq-eqb, ne-eqb, le-leb, lt-leb}
-use Rattle.laws.specs.Tests.{_⇒_, every, first, count, found}
-use Rattle.laws.specs.TestLaws.{first-least, first-only, first-skip, count-skip, count-more, every-skip, every-at, both-ways, fails, implied, implies}
+use Rattle.laws.specs.Tests.{_and_, _⇒_, isnt, every, first, count, found}
+use Rattle.laws.specs.TestLaws.{first-least, first-only, first-skip, count-skip, count-more, every-skip, every-at, fails, implied, implies}
 use Rattle.laws.specs.Lists.{choose-yes, choose-no}
-use Rattle.laws.specs.Slices.{below-or, getD-part}
+use Rattle.laws.specs.Slices.{below-or, drop-at, getD-part}
 use Rattle.laws.specs.Chain.{Chained, Blind, Left, left-start, left-step, link-le}
-use Rattle.rules.specs.Text.{Bytes, same}
+use Rattle.rules.specs.Text.{Bytes, same, between, allBytes, wordByte, isWord}
 use Rattle.rules.specs.Graph.{Program, nameAt, sourceAt, wordAt, procCount, nodeCount, edgeCount, dash, leaves, edgeTaken, degree}
 use Rattle.rules.specs.ProgramFile.{Listing}
 use Rattle.rules.specs.Proofs.Places.{part-is}
-use Rattle.rules.specs.Proofs.TextLaws.{same-true, same-of}
 use Rattle.rules.specs.Proofs.GraphLaws.{leaves-true, leaves-of}
 use Rattle.graph.specs.Table.{procBase, edgeBase, headBase}
+use Rattle.graph.specs.Keys.{wordKey, key-spells, same-keys}
 use Rattle.graph.specs.Lookups.{in-table, Procs, Edges, ProcNamed, EdgeTaken, Degree, Dashed}
 use Rattle.graph.specs.Reads.{partAt, upTo, past, part-past}
 
--- ---- `part_at`, `spells`, `name_is`, `word_is`
+-- ---- `part_at`, `spells`, `name_is`
 
 pub part-at-is : (text links place part : List ℕ) (i start len : ℕ) → place ≡ take 2 (drop i links) → start ≡ getD place 0 0 → len ≡ getD place 1 0 → part ≡ take len (drop start text)
     → part ≡ partAt text links i
@@ -39,20 +40,17 @@ module _ (text links bytes : List ℕ) (i : ℕ) (t : Bool) where
   pub spells-is : (part : List ℕ) → part ≡ partAt text links i → t ≡ same part bytes → t ≡ same (partAt text links i) bytes
   spells-is part q e = e ∙ ap (λ (w : List ℕ). same w bytes) q
 
-  spells-past : (k : ℕ) → length links ≤ i → i ≤ k → t ≡ same (partAt text links i) bytes → t ≡ same (partAt text links k) bytes
-  spells-past k h l e = e ∙ ap (λ (w : List ℕ). same w bytes) (part-past text links i k h l)
-
   pub name-past : length links ≤ i → t ≡ same (partAt text links i) bytes → t ≡ same (partAt text links (procBase i)) bytes
-  name-past h e = spells-past (procBase i) h (omega arith) e
+  name-past h e = e ∙ ap (λ (w : List ℕ). same w bytes) (part-past text links i (procBase i) h (omega arith))
 
-  pub word-past : length links ≤ i → t ≡ same (partAt text links i) bytes → t ≡ same (partAt text links (edgeBase i + 1)) bytes
-  word-past h e = spells-past (edgeBase i + 1) h (omega arith) e
-
--- ---- `head`, `before`
+-- ---- `head`, `before`, `word_key`
 
 module _ (links : List ℕ) (e : ℕ) where
   pub head-past : length links ≤ e → 0 ≡ getD links (headBase e) 0
   head-past h = sym (past links e (headBase e) h (omega arith))
+
+  pub key-past : length links ≤ e → 0 ≡ getD links (edgeBase e + 2) 0
+  key-past h = sym (past links e (edgeBase e + 2) h (omega arith))
 
   pub before-past : length links ≤ e → 0 ≡ upTo e (getD links (edgeBase e + 4) 0)
   unfolding upTo
@@ -67,7 +65,7 @@ module _ (links : List ℕ) (e : ℕ) where
     unfolding upTo
     before-out h = rw (← p) (sym (choose-no place 0 (lt-leb place e h)))
 
-pub ruleset reads = (part-at-is, spells-is, name-past, word-past, head-past, before-past, before-in, before-out)
+pub ruleset reads = (part-at-is, spells-is, name-past, head-past, key-past, before-past, before-in, before-out)
 
 -- ---- what the links of a program hold
 
@@ -77,12 +75,9 @@ proc-name text links s h q l =
     ap₂ (λ (n : ℕ) (m : ℕ). take n (drop m text)) (h .heads q l 1 (omega arith)) (ap (λ (k : ℕ). getD links k 0) (sym (add-zero (procBase q))) ∙ h .heads q l 0 (omega arith))
     ∙ part-is text _ _ (h .names q l)
 
-module _ (text : Bytes) (links : List ℕ) (s : Listing) (h : Edges text (in-table links) s) where
-  edge-word : (e : ℕ) → e < edgeCount (s .program) → partAt text links (edgeBase e + 1) ≡ wordAt (s .program) e
-  unfolding partAt
-  edge-word e l =
-      ap₂ (λ (n : ℕ) (m : ℕ). take n (drop m text)) (ap (λ (k : ℕ). getD links k 0) (add-assoc (edgeBase e) 1 1) ∙ h .rows e l 2 (omega arith)) (h .rows e l 1 (omega arith))
-      ∙ part-is text _ _ (h .words e l)
+module _ (links : List ℕ) (s : Listing) (h : Edges (in-table links) s) where
+  edge-key : (e : ℕ) → e < edgeCount (s .program) → getD links (edgeBase e + 2) 0 ≡ wordKey (wordAt (s .program) e)
+  edge-key e l = h .rows e l 2 (omega arith)
 
   chained : Chained (sourceAt (s .program)) (nodeCount (s .program)) (edgeCount (s .program)) (λ n. getD links (headBase n) 0) (λ e. getD links (edgeBase e + 4) 0)
   chained = record { top = h .heads; link = λ e l. h .rows e l 4 (omega arith) }
@@ -133,19 +128,19 @@ pub ruleset names = (named-start, named-none, named-hit, named-on)
 -- ---- the walk along the edges of the node n
 
 -- At the place: what all edges come to is what F makes of those below it.
-unfoldable pub Rest : {X : Type 0} → Bytes → List ℕ → ℕ → (Program → X) → (Program → ℕ → X) → ℕ → Type 0
-Rest text links n all F place =
-    (s : Listing) → Edges text (in-table links) s → n < nodeCount (s .program)
+unfoldable pub Rest : {X : Type 0} → List ℕ → ℕ → (Program → X) → (Program → ℕ → X) → ℕ → Type 0
+Rest links n all F place =
+    (s : Listing) → Edges (in-table links) s → n < nodeCount (s .program)
     → Left (sourceAt (s .program)) n (edgeCount (s .program)) (all (s .program)) (F (s .program)) place
 
-module _ {X : Type 0} (text : Bytes) (links : List ℕ) (n : ℕ) (all : Program → X) (F : Program → ℕ → X) (b : (p : Program) → Blind (sourceAt p) n (F p)) (r : ℕ) where
-  rest-start : ((p : Program) → all p ≡ F p (edgeCount p)) → r ≡ getD links (headBase n) 0 → Rest text links n all F r
+module _ {X : Type 0} (links : List ℕ) (n : ℕ) (all : Program → X) (F : Program → ℕ → X) (b : (p : Program) → Blind (sourceAt p) n (F p)) (r : ℕ) where
+  rest-start : ((p : Program) → all p ≡ F p (edgeCount p)) → r ≡ getD links (headBase n) 0 → Rest links n all F r
   unfolding Rest
-  rest-start w e s h l = rw (e, w (s .program)) (left-start (chained text links s h) n l (b (s .program)))
+  rest-start w e s h l = rw (e, w (s .program)) (left-start (chained links s h) n l (b (s .program)))
 
-  rest-on : (G : Program → ℕ → X) (place e : ℕ) → Rest text links n all G place → 0 < place → e ≡ place - 1 → r ≡ upTo e (getD links (edgeBase e + 4) 0)
-      → ((s : Listing) → Edges text (in-table links) s → e < edgeCount (s .program) → sourceAt (s .program) e ≡ n → G (s .program) (suc e) ≡ F (s .program) e)
-      → Rest text links n all F r
+  rest-on : (G : Program → ℕ → X) (place e : ℕ) → Rest links n all G place → 0 < place → e ≡ place - 1 → r ≡ upTo e (getD links (edgeBase e + 4) 0)
+      → ((s : Listing) → Edges (in-table links) s → e < edgeCount (s .program) → sourceAt (s .program) e ≡ n → G (s .program) (suc e) ≡ F (s .program) e)
+      → Rest links n all F r
   unfolding Rest
   rest-on G place e inv pos d q f s h l =
       let i = inv s h l in
@@ -153,7 +148,7 @@ module _ {X : Type 0} (text : Bytes) (links : List ℕ) (n : ℕ) (all : Program
       let j : suc e ≡ place = omega arith in
       let g : G (s .program) place ≡ F (s .program) (place - 1)
       = ap (G (s .program)) (sym j) ∙ f s h k (ap (sourceAt (s .program)) d ∙ i .owner pos) ∙ ap (F (s .program)) d in
-      rw (q, before-is text links s h e k, d) (left-step (chained text links s h) i pos (b (s .program)) g)
+      rw (q, before-is links s h e k, d) (left-step (chained links s h) i pos (b (s .program)) g)
 
 -- The walk goes down.
 pub before-less : (place e r x : ℕ) → 0 < place → e ≡ place - 1 → r ≡ upTo e x → r < place
@@ -162,45 +157,46 @@ before-less place e r x pos d q = below-or e x (λ l. omega (arith, q ∙ choose
 
 -- ---- `edge_taken`
 
--- The edge taken is the one taken among the edges below the place.
-unfoldable pub TakenBelow : Bytes → List ℕ → ℕ → Bytes → ℕ → Type 0
-TakenBelow text links n word place = Rest text links n (λ p. edgeTaken p n word) (λ p k. first k (leaves p n word)) place
+-- The edge taken for the word of the key is the one taken among the edges below the place.
+unfoldable pub TakenBelow : List ℕ → ℕ → ℕ → ℕ → Type 0
+TakenBelow links n key place =
+    (word : Bytes) → isWord word ≡ true → key ≡ wordKey word → Rest links n (λ p. edgeTaken p n word) (λ p k. first k (leaves p n word)) place
 
-module _ (text : Bytes) (links : List ℕ) (n : ℕ) (word : Bytes) where
-  taken-blind : (p : Program) → Blind (sourceAt p) n (λ k. first k (leaves p n word))
-  unfolding Blind
-  taken-blind p k e = first-skip (leaves p n word) k (fails _ (λ y. e (leaves-true p n word k y .0)))
+taken-blind : (n : ℕ) (word : Bytes) (p : Program) → Blind (sourceAt p) n (λ k. first k (leaves p n word))
+unfolding Blind
+taken-blind n word p k e = first-skip (leaves p n word) k (fails _ (λ y. e (leaves-true p n word k y .0)))
 
-  pub taken-start : (place : ℕ) → place ≡ getD links (headBase n) 0 → TakenBelow text links n word place
+module _ (links : List ℕ) (n key : ℕ) where
+  pub taken-start : (place : ℕ) → place ≡ getD links (headBase n) 0 → TakenBelow links n key place
   unfolding TakenBelow edgeTaken
-  taken-start place e = rest-start text links n _ _ taken-blind place (λ p. refl) e
+  taken-start place e word v ek = rest-start links n _ _ (taken-blind n word) place (λ p. refl) e
 
-  module _ (place : ℕ) (inv : TakenBelow text links n word place) where
-    pub taken-none : place ≤ 0 → EdgeTaken text links n word 0
+  module _ (place : ℕ) (inv : TakenBelow links n key place) where
+    pub taken-none : place ≤ 0 → EdgeTaken links n key 0
     unfolding TakenBelow Rest EdgeTaken first
-    taken-none z s h l =
+    taken-none z s word h l v ek =
         let q : place ≡ 0 = omega arith in
-        sym (ap found (inv s h l .rest ∙ ap (λ (k : ℕ). first k (leaves (s .program) n word)) q))
+        sym (ap found (inv word v ek s h l .rest ∙ ap (λ (k : ℕ). first k (leaves (s .program) n word)) q))
 
-    module _ (e : ℕ) (t : Bool) (pos : 0 < place) (d : e ≡ place - 1) (is : t ≡ same (partAt text links (edgeBase e + 1)) word) where
-      pub taken-hit : t ≡ true → EdgeTaken text links n word place
+    module _ (e x : ℕ) (pos : 0 < place) (d : e ≡ place - 1) (is : x ≡ getD links (edgeBase e + 2) 0) where
+      pub taken-hit : x ≡ key → EdgeTaken links n key place
       unfolding TakenBelow Rest EdgeTaken edgeTaken
-      taken-hit y s h l =
-          let i = inv s h l in
+      taken-hit y s word h l v ek =
+          let i = inv word v ek s h l in
           let k : e < edgeCount (s .program) = omega (arith, i .within) in
           let a : sourceAt (s .program) e ≡ n = ap (sourceAt (s .program)) d ∙ i .owner pos in
-          let w : wordAt (s .program) e ≡ word = sym (edge-word text links s h e k) ∙ same-true _ _ (sym is ∙ y) in
+          let w : wordAt (s .program) e ≡ word = key-spells _ _ (h .words e k) v (sym (edge-key links s h e k) ∙ sym is ∙ y ∙ ek) in
           let o = first-only (leaves (s .program) n word) (edgeCount (s .program)) e k (leaves-of (s .program) n word e a w)
-          (λ f m x. let g = leaves-true (s .program) n word f x in h .once e f k m (g .0 ∙ sym a) (g .1 ∙ sym w)) in
+          (λ f m t. let g = leaves-true (s .program) n word f t in h .once e f k m (g .0 ∙ sym a) (g .1 ∙ sym w)) in
           let q : place ≡ suc e = omega arith in
           q ∙ sym (ap found o)
 
-      pub taken-on : (r : ℕ) → t ≡ false → r ≡ upTo e (getD links (edgeBase e + 4) 0) → TakenBelow text links n word r
+      pub taken-on : (r : ℕ) → (x ≡ key → ⊥) → r ≡ upTo e (getD links (edgeBase e + 4) 0) → TakenBelow links n key r
       unfolding TakenBelow
-      taken-on r y q =
-          rest-on text links n _ _ taken-blind r _ place e inv pos d q
+      taken-on r y q word v ek =
+          rest-on links n _ _ (taken-blind n word) r _ place e (inv word v ek) pos d q
           (λ s h k a. first-skip (leaves (s .program) n word) e
-          (fails _ (λ x. both-ways (is ∙ same-of (edge-word text links s h e k ∙ leaves-true (s .program) n word e x .1)) y)))
+          (fails _ (λ t. y (is ∙ edge-key links s h e k ∙ ap wordKey (leaves-true (s .program) n word e t .1) ∙ sym ek))))
 
 pub ruleset takes = (taken-start, taken-none, taken-hit, taken-on)
 
@@ -212,7 +208,7 @@ from p n e = eqb (sourceAt p e) n
 
 -- The degree is r and the edges of the node below the place.
 unfoldable pub Counted : List ℕ → ℕ → ℕ → ℕ → Type 0
-Counted links n r place = (text : Bytes) → Rest text links n (λ p. degree p n) (λ p k. r + count k (from p n)) place
+Counted links n r place = Rest links n (λ p. degree p n) (λ p k. r + count k (from p n)) place
 
 counted-blind : (n r : ℕ) (p : Program) → Blind (sourceAt p) n (λ k. r + count k (from p n))
 unfolding Blind
@@ -220,20 +216,20 @@ counted-blind n r p k e = ap (λ (x : ℕ). r + x) (count-skip (from p n) k (ne-
 
 pub degree-start : (links : List ℕ) (n place : ℕ) → place ≡ getD links (headBase n) 0 → Counted links n 0 place
 unfolding Counted degree
-degree-start links n place e text = rest-start text links n _ _ (counted-blind n 0) place (λ p. sym (zero-add _)) e
+degree-start links n place e = rest-start links n _ _ (counted-blind n 0) place (λ p. sym (zero-add _)) e
 
 module _ (links : List ℕ) (n r place : ℕ) (inv : Counted links n r place) where
   pub degree-on : (e x : ℕ) → 0 < place → e ≡ place - 1 → x ≡ upTo e (getD links (edgeBase e + 4) 0) → Counted links n (r + 1) x
   unfolding Counted
-  degree-on e x pos d q text =
-      rest-on text links n _ _ (counted-blind n (r + 1)) x _ place e (inv text) pos d q
+  degree-on e x pos d q =
+      rest-on links n _ _ (counted-blind n (r + 1)) x _ place e inv pos d q
       (λ s h k a. omega (arith, count-more (from (s .program) n) e (eq-eqb _ _ a)))
 
   pub degree-end : place ≤ 0 → Degree links n r
   unfolding Counted Rest Degree count
-  degree-end z text s h l =
+  degree-end z s h l =
       let q : place ≡ 0 = omega arith in
-      sym (inv text s h l .rest ∙ ap (λ (k : ℕ). r + count k (from (s .program) n)) q ∙ add-zero r)
+      sym (inv s h l .rest ∙ ap (λ (k : ℕ). r + count k (from (s .program) n)) q ∙ add-zero r)
 
 -- The count and the place stay within the head.
 pub degree-room : (r place top e x y : ℕ) → r + place ≤ top → 0 < place → e ≡ place - 1 → x ≡ upTo e y → r + 1 + x ≤ top
@@ -248,42 +244,93 @@ abbrev dashOf : Program → ℕ → ℕ → Bool
 dashOf p n e = eqb (sourceAt p e) n ⇒ same (wordAt p e) dash
 
 -- All edges of the node have the word `-` just where those below the place have it.
-unfoldable pub DashedBelow : Bytes → List ℕ → ℕ → ℕ → Type 0
-DashedBelow text links n place = Rest text links n (λ p. every (edgeCount p) (dashOf p n)) (λ p k. every k (dashOf p n)) place
+unfoldable pub DashedBelow : List ℕ → ℕ → ℕ → Type 0
+DashedBelow links n place = Rest links n (λ p. every (edgeCount p) (dashOf p n)) (λ p k. every k (dashOf p n)) place
 
-module _ (text : Bytes) (links : List ℕ) (n : ℕ) where
+-- A word is `-` where its key is 45.
+dash-key : (w : Bytes) → isWord w ≡ true → same w dash ≡ eqb (wordKey w) 45
+unfolding wordKey isWord between allBytes wordByte isnt _and_
+dash-key w v = same-keys w dash v refl
+
+module _ (links : List ℕ) (n : ℕ) where
   dashed-blind : (p : Program) → Blind (sourceAt p) n (λ k. every k (dashOf p n))
   unfolding Blind
   dashed-blind p k e = every-skip (dashOf p n) k (implies _ _ (λ y. absurd (e (eqb-true _ _ y))))
 
-  pub dashed-start : (place : ℕ) → place ≡ getD links (headBase n) 0 → DashedBelow text links n place
+  pub dashed-start : (place : ℕ) → place ≡ getD links (headBase n) 0 → DashedBelow links n place
   unfolding DashedBelow
-  dashed-start place e = rest-start text links n _ _ dashed-blind place (λ p. refl) e
+  dashed-start place e = rest-start links n _ _ dashed-blind place (λ p. refl) e
 
-  module _ (place : ℕ) (inv : DashedBelow text links n place) where
-    pub dashed-all : place ≤ 0 → Dashed text links n true
+  module _ (place : ℕ) (inv : DashedBelow links n place) where
+    pub dashed-all : place ≤ 0 → Dashed links n true
     unfolding DashedBelow Rest Dashed every
     dashed-all z s h l =
         let q : place ≡ 0 = omega arith in
         sym (inv s h l .rest ∙ ap (λ (k : ℕ). every k (dashOf (s .program) n)) q)
 
-    module _ (e : ℕ) (t : Bool) (pos : 0 < place) (d : e ≡ place - 1) (is : t ≡ same (partAt text links (edgeBase e + 1)) dash) where
-      pub dashed-not : t ≡ false → Dashed text links n false
+    module _ (e x : ℕ) (pos : 0 < place) (d : e ≡ place - 1) (is : x ≡ getD links (edgeBase e + 2) 0) where
+      dash-is : (s : Listing) → Edges (in-table links) s → e < edgeCount (s .program) → same (wordAt (s .program) e) dash ≡ eqb x 45
+      dash-is s h k = dash-key _ (h .words e k) ∙ ap (λ (m : ℕ). eqb m 45) (sym (is ∙ edge-key links s h e k))
+
+      pub dashed-not : (x ≡ 45 → ⊥) → Dashed links n false
       unfolding DashedBelow Rest Dashed
       dashed-not y s h l =
           let i = inv s h l in
           let k : e < edgeCount (s .program) = omega (arith, i .within) in
           let a : sourceAt (s .program) e ≡ n = ap (sourceAt (s .program)) d ∙ i .owner pos in
-          sym (fails _ (λ x. both-ways (is ∙ ap (λ (w : Bytes). same w dash) (edge-word text links s h e k)
-          ∙ implied _ _ (every-at (dashOf (s .program) n) (edgeCount (s .program)) x e k) (eq-eqb _ _ a)) y))
+          sym (fails _ (λ t. y (eqb-true _ _ (sym (dash-is s h k) ∙ implied _ _ (every-at (dashOf (s .program) n) (edgeCount (s .program)) t e k) (eq-eqb _ _ a)))))
 
-      pub dashed-on : (r : ℕ) → t ≡ true → r ≡ upTo e (getD links (edgeBase e + 4) 0) → DashedBelow text links n r
+      pub dashed-on : (r : ℕ) → x ≡ 45 → r ≡ upTo e (getD links (edgeBase e + 4) 0) → DashedBelow links n r
       unfolding DashedBelow
       dashed-on r y q =
-          rest-on text links n _ _ dashed-blind r _ place e inv pos d q
-          (λ s h k a. every-skip (dashOf (s .program) n) e
-          (implies _ _ (λ x. ap (λ (w : Bytes). same w dash) (sym (edge-word text links s h e k)) ∙ sym is ∙ y)))
+          rest-on links n _ _ dashed-blind r _ place e inv pos d q
+          (λ s h k a. every-skip (dashOf (s .program) n) e (implies _ _ (λ t. dash-is s h k ∙ eq-eqb _ _ y)))
 
 pub ruleset dashes = (dashed-start, dashed-all, dashed-not, dashed-on)
 
-pub ruleset all = (reads, names, before-less, takes, degrees, dashes)
+-- ---- `key`
+
+-- Of at most 8 bytes, those from j on have the key k.
+pub record KeyFrom (s : Bytes) (j k : ℕ) : Type 0 where
+  pub few : length s ≤ 8
+  pub inside : j ≤ length s
+  pub is : k ≡ wordKey (drop j s)
+  pub small : k < 256 ^ (length s - j)
+
+pub key-start : (s word : Bytes) → s ≡ take 8 word → KeyFrom s (length s) 0
+unfolding wordKey
+key-start s word e =
+    let z : length s - length s ≡ 0 = omega arith in
+    record { few = omega (arith, ap length e, length-take 8 word); inside = omega arith; is = sym (ap wordKey (drop-length s)); small = rw z (omega arith) }
+
+module _ (s : Bytes) (j k : ℕ) (h : KeyFrom s j k) (pos : 0 < j) where
+  seven : k < 256 ^ 7
+  seven = omega (arith, h .small, pow-le-pow-right {n = 256} (omega arith) {i = length s - j} {j = 7} (omega (arith, h .few, h .inside)))
+
+  pub key-room : k * 256 < 2 ^ 64
+  key-room = omega (arith, seven)
+
+  pub key-fit : (d : ℕ) → d < 256 → k * 256 + d < 2 ^ 64
+  key-fit d l = omega (arith, seven)
+
+  pub key-on : (i d : ℕ) → i ≡ j - 1 → d ≡ getD s i 0 → d < 256 → KeyFrom s i (k * 256 + d)
+  unfolding wordKey
+  key-on i d ei ed l =
+      let m : length s - i ≡ suc (length s - j) = omega (arith, h .inside) in
+      let n : i + 1 ≡ j = omega arith in
+      let t : drop i s ≡ getD s i 0 ∷ drop j s = drop-at s i 0 (omega (arith, h .inside)) ∙ ap (λ (x : ℕ). getD s i 0 ∷ drop x s) n in
+      record {
+        few = h .few;
+        inside = omega (arith, h .inside);
+        is = (let z : k * 256 + d ≡ getD s i 0 + 256 * wordKey (drop j s) = omega (arith, h .is) in z) ∙ sym (ap wordKey t);
+        small = rw (m, pow-suc 256 (length s - j)) (omega (arith, h .small));
+      }
+
+pub key-end : (s word : Bytes) (j k : ℕ) → KeyFrom s j k → j ≤ 0 → s ≡ take 8 word → k ≡ wordKey (take 8 word)
+key-end s word j k h z e =
+    let q : j ≡ 0 = omega arith in
+    h .is ∙ ap (λ (x : ℕ). wordKey (drop x s)) q ∙ ap wordKey e
+
+pub ruleset keys = (key-start, key-room, key-fit, key-on, key-end)
+
+pub ruleset all = (reads, names, before-less, takes, degrees, dashes, keys)

@@ -1,3 +1,4 @@
 pub mod Table
+pub mod Keys
 pub mod Lookups
 pub mod Reads

@@ -10,6 +10,7 @@ use Rattle.laws.specs.Tables.{rows}
 use Rattle.laws.specs.Chain.{latest}
 use Rattle.rules.specs.Graph.{Program, nameAt, ownerAt, kindAt, labelAt, sourceAt, wordAt, targetAt, procCount, nodeCount, edgeCount, kindNumber, entry, exit, called}
 use Rattle.rules.specs.ProgramFile.{Listing}
+use Rattle.graph.specs.Keys.{wordKey}
 
 -- ---- the layout: where rows begin
 
@@ -47,10 +48,10 @@ procHead s q =
 abbrev pub procRow : Listing → ℕ → List ℕ
 procRow s q = procHead s q ++ (entry (s .program) q ∷ exit (s .program) q ∷ [])
 
--- An edge: the node that it leaves, where its word stands and how long it is, the node that it ends on, and 1 + the edge before it of the same node, or 0.
+-- An edge: the node that it leaves, where its word stands, the key of its word, the node that it ends on, and 1 + the edge before it of the same node, or 0.
 abbrev pub edgeRow : Listing → ℕ → List ℕ
 edgeRow s e =
-    sourceAt (s .program) e ∷ getD (s .places .wordStarts) e 0 ∷ length (wordAt (s .program) e) ∷ targetAt (s .program) e
+    sourceAt (s .program) e ∷ getD (s .places .wordStarts) e 0 ∷ wordKey (wordAt (s .program) e) ∷ targetAt (s .program) e
     ∷ latest (sourceAt (s .program)) (sourceAt (s .program) e) e ∷ []
 
 -- The head of the node n's chain: 1 + its last edge, or 0.

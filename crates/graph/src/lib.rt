@@ -1,10 +1,11 @@
-// Look-ups in the tables of a program. Every function takes any slice and any number: what stands past the end of the links is 0, and a walk
-// goes on only downwards.
+// Look-ups in the tables of a program, and the keys of words. Every function takes any slice and any number: what stands past the end of the
+// links is 0, and a walk goes on only downwards.
 ghost use mathlib.Core.Path.{_≡_};
-ghost use Prim.Native.Nat.{_+_};
-ghost use lib.ListN.{getD};
+ghost use Prim.Native.Nat.{_+_, _<_};
+ghost use lib.ListN.{getD, take};
 ghost use Rattle.rules.specs.Text.{same as sameBytes};
 ghost use Rattle.graph.specs.Table.{edgeBase, headBase, procBase};
+ghost use Rattle.graph.specs.Keys.{wordKey};
 ghost use Rattle.graph.specs.Reads.{partAt, upTo};
 ghost use Rattle.graph.specs.Lookups.{Dashed, Degree, EdgeTaken, ProcNamed};
 
@@ -74,24 +75,24 @@ pub fn before(links: &[usize], e: usize) -> usize
     0
 }
 
-// Whether the edge e has this word.
-fn word_is(text: &[u8], links: &[usize], e: usize, word: &[u8]) -> bool
-    ensures { λ r. ⌜ r ≡ sameBytes (partAt (now (text .entry)) (now (links .entry)) (edgeBase e + 1)) (now (word .entry)) ⌝ }
+// The key of the word of the edge e.
+pub fn word_key(links: &[usize], e: usize) -> usize
+    ensures { λ r. ⌜ r ≡ getD (now (links .entry)) (edgeBase e + 2) 0 ⌝ }
 {
     if links.len() <= e {
-        return spells(text, links, e, word);
+        return 0;
     }
-    spells(text, links, 448 + 5 * e + 1, word)
+    text::get(links, 448 + 5 * e + 2)
 }
 
-// 1 + the edge that the node n takes for the word, or 0.
-pub fn edge_taken(text: &[u8], links: &[usize], n: usize, word: &[u8]) -> usize
-    ensures { λ r. ⌜ EdgeTaken (now (text .entry)) (now (links .entry)) n (now (word .entry)) r ⌝ }
+// 1 + the edge that the node n takes for the word of this key, or 0.
+pub fn edge_taken(links: &[usize], n: usize, key: usize) -> usize
+    ensures { λ r. ⌜ EdgeTaken (now (links .entry)) n key r ⌝ }
 {
     let mut place = head(links, n);
     while 0 < place {
         let e = place - 1;
-        if word_is(text, links, e, word) {
+        if word_key(links, e) == key {
             return place;
         }
         place = before(links, e);
@@ -113,18 +114,41 @@ pub fn degree(links: &[usize], n: usize) -> usize
     r
 }
 
-// Whether every edge that leaves the node n has the word `-`.
-pub fn dashed(text: &[u8], links: &[usize], n: usize) -> bool
-    ensures { λ r. ⌜ Dashed (now (text .entry)) (now (links .entry)) n r ⌝ }
+// Whether every edge that leaves the node n has the word `-`, whose key is 45.
+pub fn dashed(links: &[usize], n: usize) -> bool
+    ensures { λ r. ⌜ Dashed (now (links .entry)) n r ⌝ }
 {
     let mut place = head(links, n);
     while 0 < place {
         let e = place - 1;
-        if word_is(text, links, e, b"-") {
+        if word_key(links, e) == 45 {
             place = before(links, e);
         } else {
             return false;
         }
     }
     true
+}
+
+// A byte as a digit of a key.
+fn digit(b: u8) -> usize
+    ensures { λ r. ⌜ (r ≡ b) × (r < 256) ⌝ }
+{
+    b as usize
+}
+
+// The key of a word: of its first 8 bytes, where it has more.
+pub fn key(word: &[u8]) -> usize
+    ensures { λ r. ⌜ r ≡ wordKey (take 8 (now (word .entry))) ⌝ }
+{
+    let s = text::front(word, 8);
+    let mut k: usize = 0;
+    let mut j = s.len();
+    while 0 < j {
+        let i = j - 1;
+        let d = digit(s[i]);
+        k = k * 256 + d;
+        j = i;
+    }
+    k
 }

@@ -63,44 +63,35 @@ suiteLeft m text tests rows = testsBy (readTests m text) tests rows
 
 -- ---- the jobs that reading leaves
 
-unfoldable pub jobOld : Listing → Job
-jobOld o =
+-- The counts of a program that was read, and those before it is read.
+abbrev pub counted : Listing → Count
+counted s = record { number = 0; place = 0; procs = procCount (s .program); nodes = nodeCount (s .program); edges = edgeCount (s .program) }
+
+abbrev pub uncounted : Count
+uncounted = record { number = 0; place = 0; procs = 0; nodes = 0; edges = 0 }
+
+-- The job at a stage, by the counts of the old program and of the new one and the number of tests.
+abbrev pub jobAt : ℕ → Count → Count → ℕ → Job
+jobAt stage o p n =
     record {
-      stage = stageAfter read-old;
-      «old_procs» = procCount (o .program);
-      «old_nodes» = nodeCount (o .program);
-      «old_edges» = edgeCount (o .program);
-      «new_procs» = 0;
-      «new_nodes» = 0;
-      «new_edges» = 0;
-      tests = 0;
+      stage = stage;
+      «old_procs» = o .procs;
+      «old_nodes» = o .nodes;
+      «old_edges» = o .edges;
+      «new_procs» = p .procs;
+      «new_nodes» = p .nodes;
+      «new_edges» = p .edges;
+      tests = n;
     }
+
+unfoldable pub jobOld : Listing → Job
+jobOld o = jobAt (stageAfter read-old) (counted o) uncounted 0
 
 unfoldable pub jobNew : Listing → Listing → Job
-jobNew o p =
-    record {
-      stage = stageAfter read-new;
-      «old_procs» = procCount (o .program);
-      «old_nodes» = nodeCount (o .program);
-      «old_edges» = edgeCount (o .program);
-      «new_procs» = procCount (p .program);
-      «new_nodes» = nodeCount (p .program);
-      «new_edges» = edgeCount (p .program);
-      tests = 0;
-    }
+jobNew o p = jobAt (stageAfter read-new) (counted o) (counted p) 0
 
 unfoldable pub jobTests : Listing → Listing → TestListing → Job
-jobTests o p l =
-    record {
-      stage = stageAfter read-tests;
-      «old_procs» = procCount (o .program);
-      «old_nodes» = nodeCount (o .program);
-      «old_edges» = edgeCount (o .program);
-      «new_procs» = procCount (p .program);
-      «new_nodes» = nodeCount (p .program);
-      «new_edges» = edgeCount (p .program);
-      tests = testCount (l .suite);
-    }
+jobTests o p l = jobAt (stageAfter read-tests) (counted o) (counted p) (testCount (l .suite))
 
 -- ---- what job and tables hold at each stage: none where they are not what reading these texts leaves
 
@@ -130,7 +121,7 @@ heldTests j v v′ text tests rows =
 -- `version_left`: 0 with the counts, or 14.
 unfoldable pub countLeft : Option Listing → Count
 countLeft none = record { number = 14; place = 0; procs = 0; nodes = 0; edges = 0 }
-countLeft (some s) = record { number = 0; place = 0; procs = procCount (s .program); nodes = nodeCount (s .program); edges = edgeCount (s .program) }
+countLeft (some s) = counted s
 
 -- `suite_left`: 0 with the count, or 14.
 unfoldable pub readLeft : Option TestListing → Read

@@ -117,6 +117,16 @@ module _ (t : Bytes) (n : List Node) (l w : List ℕ) (h : 512 ≤ length n → 
 
 -- ---- memory
 
+-- What the links of a version hold: a row for each procedure, for each edge, and the head of each node's edges.
+abbrev pub procsOf : Listing → List ℕ
+procsOf s = rows (procRow s) (procCount (s .program))
+
+abbrev pub edgesOf : Listing → List ℕ
+edgesOf s = rows (edgeRow s) (edgeCount (s .program))
+
+abbrev pub headsOf : Listing → List ℕ
+headsOf s = rows (λ n. headOf s n ∷ []) (nodeCount (s .program))
+
 module _ (v : Lent) (s : Listing) (e : versionLeft v ≡ some s) (wide : 2048 ≤ length (v .nodes)) where
   parts : (readListing (v .text) ≡ accepted s) × (longEnough v ≡ true) × (isLeft s (v .nodes) (v .links) ≡ true)
   unfolding versionLeft
@@ -140,46 +150,34 @@ module _ (v : Lent) (s : Listing) (e : versionLeft v ≡ some s) (wide : 2048 �
       ∙ ap (λ (x : List ℕ). getD x (0 + (4 * n + k)) 0) (sym nodes-kept)
       ∙ rows-stored 4 (nodeRow s) (λ i. refl) (v .nodes) 0 (nodeCount (s .program)) n k (omega (arith, sound-v .fewNodes)) h b
 
-  abbrev P : List ℕ
-  P = rows (procRow s) (procCount (s .program))
-
-  abbrev E : List ℕ
-  E = rows (edgeRow s) (edgeCount (s .program))
-
-  abbrev H : List ℕ
-  H = rows (λ n. headOf s n ∷ []) (nodeCount (s .program))
-
-  abbrev L : List ℕ
-  L = v .links
-
-  long-l : 6080 ≤ length L
+  long-l : 6080 ≤ length (v .links)
   long-l = version-long v s e .1
 
-  links-at : (i : ℕ) → getD L i 0 ≡ getD (sets (sets (sets L 0 P) 448 E) 5568 H) i 0
+  links-at : (i : ℕ) → getD (v .links) i 0 ≡ getD (sets (sets (sets (v .links) 0 (procsOf s)) 448 (edgesOf s)) 5568 (headsOf s)) i 0
   unfolding linksAfter
   links-at i = ap (λ (x : List ℕ). getD x i 0) (sym links-kept)
 
-  proc-in : (q : ℕ) → q < procCount (s .program) → At (in-table L) (procBase q) (procRow s q)
+  proc-in : (q : ℕ) → q < procCount (s .program) → At (in-table (v .links)) (procBase q) (procRow s q)
   proc-in q h k b =
       links-at (7 * q + k)
-      ∙ getD-sets-before H (sets (sets L 0 P) 448 E) 5568 (7 * q + k) 0 (omega (arith, sound-v .fewProcs))
-      ∙ getD-sets-before E (sets L 0 P) 448 (7 * q + k) 0 (omega (arith, sound-v .fewProcs))
-      ∙ ap (λ (i : ℕ). getD (sets L 0 P) i 0) (let z : 7 * q + k ≡ 0 + (7 * q + k) = omega arith in z)
-      ∙ rows-stored 7 (procRow s) (λ i. refl) L 0 (procCount (s .program)) q k (omega (arith, sound-v .fewProcs, long-l)) h b
+      ∙ getD-sets-before (headsOf s) (sets (sets (v .links) 0 (procsOf s)) 448 (edgesOf s)) 5568 (7 * q + k) 0 (omega (arith, sound-v .fewProcs))
+      ∙ getD-sets-before (edgesOf s) (sets (v .links) 0 (procsOf s)) 448 (7 * q + k) 0 (omega (arith, sound-v .fewProcs))
+      ∙ ap (λ (i : ℕ). getD (sets (v .links) 0 (procsOf s)) i 0) (let z : 7 * q + k ≡ 0 + (7 * q + k) = omega arith in z)
+      ∙ rows-stored 7 (procRow s) (λ i. refl) (v .links) 0 (procCount (s .program)) q k (omega (arith, sound-v .fewProcs, long-l)) h b
 
-  edge-in : (i : ℕ) → i < edgeCount (s .program) → At (in-table L) (edgeBase i) (edgeRow s i)
+  edge-in : (i : ℕ) → i < edgeCount (s .program) → At (in-table (v .links)) (edgeBase i) (edgeRow s i)
   edge-in i h k b =
       links-at (448 + 5 * i + k)
-      ∙ getD-sets-before H (sets (sets L 0 P) 448 E) 5568 (448 + 5 * i + k) 0 (omega (arith, sound-v .fewEdges))
-      ∙ ap (λ (j : ℕ). getD (sets (sets L 0 P) 448 E) j 0) (let z : 448 + 5 * i + k ≡ 448 + (5 * i + k) = omega arith in z)
-      ∙ rows-stored 5 (edgeRow s) (λ j. refl) (sets L 0 P) 448 (edgeCount (s .program)) i k (omega (arith, sound-v .fewEdges, long-l, length-sets L 0 P)) h b
+      ∙ getD-sets-before (headsOf s) (sets (sets (v .links) 0 (procsOf s)) 448 (edgesOf s)) 5568 (448 + 5 * i + k) 0 (omega (arith, sound-v .fewEdges))
+      ∙ ap (λ (j : ℕ). getD (sets (sets (v .links) 0 (procsOf s)) 448 (edgesOf s)) j 0) (let z : 448 + 5 * i + k ≡ 448 + (5 * i + k) = omega arith in z)
+      ∙ rows-stored 5 (edgeRow s) (λ j. refl) (sets (v .links) 0 (procsOf s)) 448 (edgeCount (s .program)) i k (omega (arith, sound-v .fewEdges, long-l, length-sets (v .links) 0 (procsOf s))) h b
 
-  head-in : (n : ℕ) → n < nodeCount (s .program) → in-table L (headBase n) ≡ headOf s n
+  head-in : (n : ℕ) → n < nodeCount (s .program) → in-table (v .links) (headBase n) ≡ headOf s n
   head-in n h =
       links-at (5568 + n)
-      ∙ ap (λ (j : ℕ). getD (sets (sets (sets L 0 P) 448 E) 5568 H) j 0) (let z : 5568 + n ≡ 5568 + (1 * n + 0) = omega arith in z)
-      ∙ rows-stored 1 (λ m. headOf s m ∷ []) (λ j. refl) (sets (sets L 0 P) 448 E) 5568 (nodeCount (s .program)) n 0
-      (omega (arith, sound-v .fewNodes, long-l, length-sets L 0 P, length-sets (sets L 0 P) 448 E)) h (omega arith)
+      ∙ ap (λ (j : ℕ). getD (sets (sets (sets (v .links) 0 (procsOf s)) 448 (edgesOf s)) 5568 (headsOf s)) j 0) (let z : 5568 + n ≡ 5568 + (1 * n + 0) = omega arith in z)
+      ∙ rows-stored 1 (λ m. headOf s m ∷ []) (λ j. refl) (sets (sets (v .links) 0 (procsOf s)) 448 (edgesOf s)) 5568 (nodeCount (s .program)) n 0
+      (omega (arith, sound-v .fewNodes, long-l, length-sets (v .links) 0 (procsOf s), length-sets (sets (v .links) 0 (procsOf s)) 448 (edgesOf s))) h (omega arith)
 
   -- The memory of a version that is left holds its listing.
   pub version-memory : InMemory (memory (v .text) (v .nodes) (v .links)) s

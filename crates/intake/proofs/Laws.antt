@@ -40,7 +40,7 @@ pub program-refused : (text : Bytes) (k q : ℕ) → readListing text ≡ refuse
 unfolding readProgram
 program-refused text k q e = then-stops (λ (x : Listing). accepted (x .program)) e
 
-few-none : (k q : ℕ) → Few (refusedTexts k q)
+pub few-none : (k q : ℕ) → Few (refusedTexts k q)
 few-none k q = record { few-old-nodes = omega arith; few-old-edges = omega arith; few-new-nodes = omega arith; few-new-edges = omega arith; few-tests = omega arith }
 
 module _ (old ow new nw tt tests rows : List ℕ) where

@@ -52,7 +52,7 @@ pub fn read_job(
 }
 
 // A refusal, by number and place.
-fn refused(number: usize, place: usize) -> Texts
+pub fn refused(number: usize, place: usize) -> Texts
     ensures { λ r. ⌜ r ≡ refusedTexts number place ⌝ }
 {
     Texts {

@@ -2,13 +2,13 @@
 use mathlib.Core.Path.{_≡_, refl, sym, ap, ap₂, _∙_, subst}
 use mathlib.Core.Bool.{Bool, true, false}
 use mathlib.Core.List.{List}
+use mathlib.Core.Option.{none, some}
 use Prim.Native.Nat.{ℕ, _≤_, _<_}
 use native.Mathlib.Omega.{arith}
 use lib.ListN.{length, replicate}
 use lib.Seq.{sets}
-use borrow.Author.Tests.{eq-eqb, ne-eqb, le-leb, lt-leb, leb-true}
-use Rattle.laws.specs.Tests.{_and_, choose}
-use Rattle.laws.specs.TestLaws.{and-right}
+use borrow.Author.Tests.{eq-eqb, ne-eqb, le-leb, lt-leb}
+use Rattle.laws.specs.Tests.{_and_, after, choose}
 use Rattle.rules.specs.Text.{Bytes, Answer as Reading, refused, accepted}
 use Rattle.rules.specs.Graph.{procCount, nodeCount, edgeCount}
 use Rattle.rules.specs.ProgramFile.{Listing, readListing}
@@ -21,43 +21,37 @@ use Rattle.records.specs.declared.Job.{Job}
 use Rattle.records.specs.declared.Node.{Node}
 use Rattle.records.specs.Jobs.{fresh, sameJob}
 use Rattle.records.specs.Nodes.{nodesOf}
+use Rattle.held.specs.Held.{jobOld}
 use Rattle.job.specs.declared.Taken.{Taken}
-use Rattle.job.specs.ReadOldLaws.{records-are}
-use Rattle.job.specs.ReadOld.{roomy, freshDue, oldDue, programRead, answered, recordsRead, countRead, linksRead, jobWithOld, oldJob, refusedTaken, withOld, takenOf, TakenBy, LeftBy, OldTaken, ReadOld}
+use Rattle.job.specs.ReadOldLaws.{none-due, records-are, roomy-parts}
+use Rattle.job.specs.ReadOld.{roomy, freshDue, oldDue, programRead, answered, recordsRead, countRead, linksRead, oldJob, refusedTaken, withOld, takenOf, TakenBy, LeftBy, OldTaken, ReadOld}
 
 -- ---- `long_enough`
 
-module _ (n l w : ℕ) where
-  pub room-nodes : n < 512 → false ≡ roomy n l w
+module _ (a b n l w : ℕ) where
+  pub room-first : n < a → false ≡ roomy a b n l w
   unfolding roomy _and_
-  room-nodes h = simp (lt-leb 512 n h)
+  room-first h = simp (lt-leb a n h)
 
-  module _ (hn : 512 ≤ n) where
-    pub room-links : l < 6080 → false ≡ roomy n l w
+  module _ (hn : a ≤ n) where
+    pub room-second : l < b → false ≡ roomy a b n l w
     unfolding roomy _and_
-    room-links h = simp (le-leb 512 n hn, lt-leb 6080 l h)
+    room-second h = simp (le-leb a n hn, lt-leb b l h)
 
-    module _ (hl : 6080 ≤ l) where
-      pub room-work : w < 8128 → false ≡ roomy n l w
+    module _ (hl : b ≤ l) where
+      pub room-work : w < 8128 → false ≡ roomy a b n l w
       unfolding roomy _and_
-      room-work h = simp (le-leb 512 n hn, le-leb 6080 l hl, lt-leb 8128 w h)
+      room-work h = simp (le-leb a n hn, le-leb b l hl, lt-leb 8128 w h)
 
-      pub room-all : 8128 ≤ w → true ≡ roomy n l w
+      pub room-all : 8128 ≤ w → true ≡ roomy a b n l w
       unfolding roomy _and_
-      room-all h = simp (le-leb 512 n hn, le-leb 6080 l hl, le-leb 8128 w h)
+      room-all h = simp (le-leb a n hn, le-leb b l hl, le-leb 8128 w h)
 
-  pub roomy-work : roomy n l w ≡ true → 8128 ≤ w
-  unfolding roomy
-  roomy-work h = leb-true 8128 w (and-right _ _ (and-right _ _ h))
-
--- ---- what is due before a call: 13 by the stage, 14 by the lengths, then d
-
--- Where nothing is due the stage is right, the lengths are enough, and d is 0.
-pub none-due : (t u : Bool) (d : ℕ) → choose t (choose u d 14) 13 ≡ 0 → (t ≡ true) × (u ≡ true) × (d ≡ 0)
+-- What is due by what is held: 14 where nothing is.
+pub due-chosen : {A : Type 0} (a : A) (u : Bool) → _≡_ {A = ℕ} (choose u 0 14) (after (choose u (some a) none) 14 (λ (x : A). 0))
 unfolding choose
-none-due true true d h = (refl, refl, h)
-none-due true false d h = absurd (let z : ⊥ = omega (arith, h) in z)
-none-due false u d h = absurd (let z : ⊥ = omega (arith, h) in z)
+due-chosen a true = refl
+due-chosen a false = refl
 
 -- ---- `fresh_due` and `old_due`
 
@@ -75,7 +69,7 @@ module _ (j : Job) (n l w : ℕ) where
   unfolding oldDue ofStage choose
   due-stage h = simp (ne-eqb _ _ h)
 
-  module _ (st : j .stage ≡ 0) (u : Bool) (e : u ≡ roomy n l w) where
+  module _ (st : j .stage ≡ 0) (u : Bool) (e : u ≡ roomy 512 6080 n l w) where
     pub due-fresh : (d : ℕ) → u ≡ true → d ≡ freshDue j → d ≡ oldDue j n l w
     unfolding oldDue ofStage choose
     due-fresh d t q = simp (eq-eqb _ _ st, ← e, t, q)
@@ -87,17 +81,17 @@ module _ (j : Job) (n l w : ℕ) where
   -- Where nothing is due the scratch is long enough.
   pub due-room : (due : ℕ) → due ≡ oldDue j n l w → due ≡ 0 → 8128 ≤ w
   unfolding oldDue
-  due-room due e z = roomy-work n l w (none-due (ofStage read-old (j .stage)) (roomy n l w) (freshDue j) (sym e ∙ z) .1)
+  due-room due e z = roomy-parts 512 6080 n l w (none-due (ofStage read-old (j .stage)) (roomy 512 6080 n l w) (freshDue j) (sym e ∙ z) .1) .2
 
 -- ---- `with_old`
 
 pub with-old : (c : Count) (st p n e a b d t : ℕ) → st ≡ 1 → p ≡ c .procs → n ≡ c .nodes → e ≡ c .edges → a ≡ 0 → b ≡ 0 → d ≡ 0 → t ≡ 0
     → record { stage = st; «old_procs» = p; «old_nodes» = n; «old_edges» = e; «new_procs» = a; «new_nodes» = b; «new_edges» = d; tests = t } ≡ withOld c
-unfolding withOld jobWithOld stageAfter
+unfolding withOld stageAfter
 with-old c st p n e a b d t h₀ h₁ h₂ h₃ h₄ h₅ h₆ h₇ = rw (h₀, h₁, h₂, h₃, h₄, h₅, h₆, h₇)
 
 job-counted : (j : Job) (s : Listing) (c : Count) → c .procs ≡ procCount (s .program) → c .nodes ≡ nodeCount (s .program) → c .edges ≡ edgeCount (s .program) → oldJob j (accepted s) ≡ withOld c
-unfolding oldJob withOld jobWithOld
+unfolding oldJob withOld jobOld
 job-counted j s c p q r = rw (p, q, r)
 
 -- ---- reading a program on values, where `due` is due before it
@@ -169,7 +163,7 @@ module _ (j : Job) (room : ℕ) (text : Bytes) (l : List ℕ) (work due : ℕ) (
         moved : (s : Listing) → had .procs ≡ procCount (s .program) → had .nodes ≡ nodeCount (s .program) → had .edges ≡ edgeCount (s .program) → oldJob j (accepted s) ≡ withOld had
         moved s p q r = job-counted j s had p q r
 
-pub ruleset all = (room-nodes, room-links, room-work, room-all, fresh-yes, fresh-no, due-stage, due-fresh, due-short, due-room, with-old, taken-due, taken-refused, taken-done)
+pub ruleset all = (room-first, room-second, room-work, room-all, fresh-yes, fresh-no, due-stage, due-fresh, due-short, due-room, with-old, taken-due, taken-refused, taken-done)
 
 -- ---- reading a program over lent memory
 

@@ -10,7 +10,7 @@ use lib.Seq.{sets, length-take-le}
 use borrow.Author.Tests.{eq-eqb, ne-eqb}
 use Rattle.laws.specs.Tests.{after, choose}
 use Rattle.laws.specs.Slices.{part-sets}
-use Rattle.rules.specs.Text.{Bytes, Answer as Reading, refused, accepted}
+use Rattle.rules.specs.Text.{Bytes, refused, accepted}
 use Rattle.rules.specs.Graph.{procCount, nodeCount, edgeCount}
 use Rattle.rules.specs.ProgramFile.{Listing}
 use Rattle.rules.specs.Job.{ofStage, read-new, stageAfter}
@@ -25,15 +25,16 @@ use Rattle.records.specs.NodeLaws.{flat-length}
 use Rattle.held.specs.Held.{Lent, numbers, lent, versionLeft, countLeft, jobOld, heldOld}
 use Rattle.held.specs.HeldLaws.{front-left}
 use Rattle.job.specs.declared.Taken.{Taken}
-use Rattle.job.specs.ReadOld.{roomy, programRead, jobWithOld, refusedTaken, withOld, TakenBy}
-use Rattle.job.specs.ReadNew.{oldPart, oldHeldDue, newDue, jobWithNew, newJob, withNew, NewTaken, ReadNew}
-use Rattle.job.proofs.Laws.{roomy-work, none-due, due-taken, text-refused, text-taken, left-is}
+use Rattle.job.specs.ReadOld.{roomy, programRead, refusedTaken, withOld, TakenBy}
+use Rattle.job.specs.ReadOldLaws.{none-due, roomy-parts}
+use Rattle.job.specs.ReadNew.{oldPart, oldHeldDue, newDue, newJob, withNew, NewTaken, ReadNew}
+use Rattle.job.proofs.Laws.{due-chosen, due-taken, text-refused, text-taken, left-is}
 
 -- ---- `with_new`
 
 pub with-new : (j : Job) (c : Count) (st p n e a b d t : ℕ) → st ≡ 2 → p ≡ j .«old_procs» → n ≡ j .«old_nodes» → e ≡ j .«old_edges» → a ≡ c .procs → b ≡ c .nodes → d ≡ c .edges → t ≡ 0
     → record { stage = st; «old_procs» = p; «old_nodes» = n; «old_edges» = e; «new_procs» = a; «new_nodes» = b; «new_edges» = d; tests = t } ≡ withNew j c
-unfolding withNew jobWithNew stageAfter
+unfolding withNew stageAfter
 with-new j c st p n e a b d t h₀ h₁ h₂ h₃ h₄ h₅ h₆ h₇ = rw (h₀, h₁, h₂, h₃, h₄, h₅, h₆, h₇)
 
 -- ---- `new_due`
@@ -52,18 +53,13 @@ module _ (j : Job) where
   gone none c e n = refl
   gone (some o) c e n = absurd (n (ap (λ (y : Count). y .number) e))
 
-  chosen : (o : Listing) (u : Bool) → _≡_ {A = ℕ} (choose u 0 14) (after (choose u (some o) none) 14 (λ (o : Listing). 0))
-  unfolding choose
-  chosen o true = refl
-  chosen o false = refl
-
   counts-old : (o : Listing) (c : Count) → c ≡ countLeft (some o) → withOld c ≡ jobOld o
-  unfolding withOld jobWithOld jobOld countLeft
+  unfolding withOld jobOld countLeft
   counts-old o c e = rw e
 
   there : (x : Option Listing) (c : Count) → c ≡ countLeft x → c .number ≡ 0 → choose (sameJob j (withOld c)) 0 14 ≡ dueOf x
   there none c e n = absurd (let z : ⊥ = omega (arith, number-none c e, n) in z)
-  there (some o) c e n = ap (λ (k : Job). choose (sameJob j k) 0 14) (counts-old o c e) ∙ chosen o (sameJob j (jobOld o))
+  there (some o) c e n = ap (λ (k : Job). choose (sameJob j k) 0 14) (counts-old o c e) ∙ due-chosen o (sameJob j (jobOld o))
 
 module _ (j : Job) (m : ℕ) (old : Bytes) (y joins : List ℕ) (n l k : ℕ) where
   abbrev Old′ : Lent
@@ -73,7 +69,7 @@ module _ (j : Job) (m : ℕ) (old : Bytes) (y joins : List ℕ) (n l k : ℕ) wh
   unfolding newDue ofStage choose
   new-stage h = simp (ne-eqb _ _ h)
 
-  module _ (st : j .stage ≡ 1) (u : Bool) (e : u ≡ roomy n l k) where
+  module _ (st : j .stage ≡ 1) (u : Bool) (e : u ≡ roomy 512 6080 n l k) where
     pub new-short : u ≡ false → 14 ≡ newDue j Old′ n l k
     unfolding newDue ofStage choose
     new-short t = simp (eq-eqb _ _ st, ← e, t)
@@ -106,12 +102,12 @@ module _ (j : Job) (m : ℕ) (old : Bytes) (y joins : List ℕ) (n l k : ℕ) wh
 -- Where nothing is due the scratch is long enough.
 pub new-room : (j : Job) (v : Lent) (n l w due : ℕ) → due ≡ newDue j v n l w → due ≡ 0 → 8128 ≤ w
 unfolding newDue
-new-room j v n l w due e z = roomy-work n l w (none-due (ofStage read-new (j .stage)) (roomy n l w) (oldHeldDue j v) (sym e ∙ z) .1)
+new-room j v n l w due e z = roomy-parts 512 6080 n l w (none-due (ofStage read-new (j .stage)) (roomy 512 6080 n l w) (oldHeldDue j v) (sym e ∙ z) .1) .2
 
 -- ---- `take_new`
 
 new-counted : (j : Job) (s : Listing) (c : Count) → c .procs ≡ procCount (s .program) → c .nodes ≡ nodeCount (s .program) → c .edges ≡ edgeCount (s .program) → newJob j (accepted s) ≡ withNew j c
-unfolding newJob withNew jobWithNew
+unfolding newJob withNew
 new-counted j s c p q r = rw (p, q, r)
 
 module _ (j : Job) (v : Lent) (room : ℕ) (text : Bytes) (l : List ℕ) (work due : ℕ) (ed : due ≡ newDue j v room (length l) work) where
@@ -150,13 +146,13 @@ module _ (j : Job) (old : Bytes) (ns : List Node) (ol w : List ℕ) (a b : ℕ) 
 
   same-due : newDue j front a b (length w) ≡ newDue j (lent old ns ol) a b (length w)
   unfolding newDue oldHeldDue heldOld choose
-  same-due = go (roomy a b (length w)) refl
+  same-due = go (roomy 512 6080 a b (length w)) refl
     where
-      go : (u : Bool) → roomy a b (length w) ≡ u
+      go : (u : Bool) → roomy 512 6080 a b (length w) ≡ u
           → choose (ofStage read-new (j .stage)) (choose u (dueOf j (versionLeft front)) 14) 13 ≡ choose (ofStage read-new (j .stage)) (choose u (dueOf j (versionLeft (lent old ns ol))) 14) 13
       go true e =
           ap (λ (x : Option Listing). choose (ofStage read-new (j .stage)) (dueOf j x) 13)
-          (front-left old ns ol (oldPart (sets w 0 (flat (take 512 ns)))) (λ k. front-flat ns w (omega (arith, roomy-work a b (length w) e)) k))
+          (front-left old ns ol (oldPart (sets w 0 (flat (take 512 ns)))) (λ k. front-flat ns w (omega (arith, roomy-parts 512 6080 a b (length w) e .2)) k))
       go false e = refl
 
 pub read-new-is : (j : Job) (old : Bytes) (ns : List Node) (ol : List ℕ) (text : Bytes) (n n′ : List Node) (l l′ w w₁ v w′ : List ℕ) (r : Taken) → w₁ ≡ sets w 0 (flat (take 512 ns)) → length w₁ ≡ length w

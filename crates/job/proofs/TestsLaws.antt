@@ -3,13 +3,12 @@ use mathlib.Core.Path.{_≡_, refl, sym, ap, ap₂, _∙_, subst}
 use mathlib.Core.Bool.{Bool, true, false}
 use mathlib.Core.List.{List}
 use mathlib.Core.Option.{Option, none, some}
-use Prim.Native.Nat.{ℕ, _*_, _≤_, _<_}
+use Prim.Native.Nat.{ℕ, _*_, _≤_}
 use native.Mathlib.Omega.{arith}
 use lib.ListN.{length, replicate, take, drop}
 use lib.Seq.{sets, length-sets, length-take-le}
-use borrow.Author.Tests.{eq-eqb, ne-eqb, le-leb, lt-leb, leb-true}
-use Rattle.laws.specs.Tests.{_and_, after, choose}
-use Rattle.laws.specs.TestLaws.{and-right}
+use borrow.Author.Tests.{eq-eqb, ne-eqb}
+use Rattle.laws.specs.Tests.{after, choose}
 use Rattle.laws.specs.Slices.{part-sets, part-sets-before}
 use Rattle.rules.specs.Text.{Bytes, Answer as Reading, refused, accepted}
 use Rattle.rules.specs.Graph.{edgeCount}
@@ -27,10 +26,11 @@ use Rattle.records.specs.NodeLaws.{flat-length}
 use Rattle.held.specs.Held.{Lent, Versions, numbers, lent, versionLeft, countLeft, jobNew, heldNew}
 use Rattle.held.specs.HeldLaws.{front-left, version-sound}
 use Rattle.job.specs.declared.Moved.{Moved}
-use Rattle.job.specs.ReadOld.{answered, jobWithOld, withOld}
-use Rattle.job.specs.ReadNew.{oldPart, newPart, jobWithNew, withNew}
-use Rattle.job.specs.ReadTests.{testsRoomy, bothDue, testsDue, testsBy, withTests, testsJob, namesLeft, rowsLeft, movedBy, MovedBy, TestsTaken, ReadTests}
-use Rattle.job.proofs.Laws.{none-due}
+use Rattle.job.specs.ReadOld.{answered, roomy, withOld}
+use Rattle.job.specs.ReadOldLaws.{none-due, roomy-parts}
+use Rattle.job.specs.ReadNew.{oldPart, newPart, withNew}
+use Rattle.job.specs.ReadTests.{bothDue, testsDue, testsBy, withTests, testsJob, namesLeft, rowsLeft, movedBy, MovedBy, TestsTaken, ReadTests}
+use Rattle.job.proofs.Laws.{due-chosen}
 use Rattle.job.proofs.NewLaws.{number-none, front-flat}
 
 -- ---- `with_tests`
@@ -39,31 +39,6 @@ pub with-tests : (j : Job) (count st p n e a b d t : ℕ) → st ≡ 3 → p ≡
     → record { stage = st; «old_procs» = p; «old_nodes» = n; «old_edges» = e; «new_procs» = a; «new_nodes» = b; «new_edges» = d; tests = t } ≡ withTests j count
 unfolding withTests stageAfter
 with-tests j count st p n e a b d t h₀ h₁ h₂ h₃ h₄ h₅ h₆ h₇ = rw (h₀, h₁, h₂, h₃, h₄, h₅, h₆, h₇)
-
--- ---- `wide_enough`
-
-module _ (n l w : ℕ) where
-  pub wide-tests : n < 400 → false ≡ testsRoomy n l w
-  unfolding testsRoomy _and_
-  wide-tests h = simp (lt-leb 400 n h)
-
-  module _ (hn : 400 ≤ n) where
-    pub wide-rows : l < 3200 → false ≡ testsRoomy n l w
-    unfolding testsRoomy _and_
-    wide-rows h = simp (le-leb 400 n hn, lt-leb 3200 l h)
-
-    module _ (hl : 3200 ≤ l) where
-      pub wide-work : w < 8128 → false ≡ testsRoomy n l w
-      unfolding testsRoomy _and_
-      wide-work h = simp (le-leb 400 n hn, le-leb 3200 l hl, lt-leb 8128 w h)
-
-      pub wide-all : 8128 ≤ w → true ≡ testsRoomy n l w
-      unfolding testsRoomy _and_
-      wide-all h = simp (le-leb 400 n hn, le-leb 3200 l hl, le-leb 8128 w h)
-
-  wide-scratch : testsRoomy n l w ≡ true → 8128 ≤ w
-  unfolding testsRoomy
-  wide-scratch h = leb-true 8128 w (and-right _ _ (and-right _ _ h))
 
 -- ---- `both_due`
 
@@ -95,26 +70,21 @@ module _ (j : Job) where
   gone-new (some o) none c e n = refl
   gone-new (some o) (some p) c e n = absurd (n (ap (λ (z : Count). z .number) e))
 
-  chosen : (h : Versions) (u : Bool) → _≡_ {A = ℕ} (choose u 0 14) (after (choose u (some h) none) 14 (λ (h : Versions). 0))
-  unfolding choose
-  chosen h true = refl
-  chosen h false = refl
-
   counts-both : (o p : Listing) (c d : Count) → c ≡ countLeft (some o) → d ≡ countLeft (some p) → withNew (withOld c) d ≡ jobNew o p
-  unfolding withNew jobWithNew withOld jobWithOld jobNew countLeft
+  unfolding withNew withOld jobNew countLeft
   counts-both o p c d e q = rw (e, q)
 
   there : (x y : Option Listing) (c d : Count) → c ≡ countLeft x → d ≡ countLeft y → c .number ≡ 0 → d .number ≡ 0 → choose (sameJob j (withNew (withOld c) d)) 0 14 ≡ dueOf x y
   there none y c d e q n m = absurd (let z : ⊥ = omega (arith, number-none c e, n) in z)
   there (some o) none c d e q n m = absurd (let z : ⊥ = omega (arith, number-none d q, m) in z)
   there (some o) (some p) c d e q n m =
-      ap (λ (k : Job). choose (sameJob j k) 0 14) (counts-both o p c d e q) ∙ chosen (record { old = o; new = p }) (sameJob j (jobNew o p))
+      ap (λ (k : Job). choose (sameJob j k) 0 14) (counts-both o p c d e q) ∙ due-chosen (record { old = o; new = p }) (sameJob j (jobNew o p))
 
   -- Where nothing is due the old program has as many edges as the job says.
   edges-of : (v : Lent) (x y : Option Listing) → versionLeft v ≡ x → dueOf x y ≡ 0 → j .«old_edges» ≤ 1024
   edges-of v none y e h = absurd (let z : ⊥ = omega (arith, h) in z)
   edges-of v (some o) none e h = absurd (let z : ⊥ = omega (arith, h) in z)
-  edges-of v (some o) (some p) e h = go (sameJob j (jobNew o p)) refl (chosen (record { old = o; new = p }) (sameJob j (jobNew o p)) ∙ h)
+  edges-of v (some o) (some p) e h = go (sameJob j (jobNew o p)) refl (due-chosen (record { old = o; new = p }) (sameJob j (jobNew o p)) ∙ h)
     where
       go : (u : Bool) → sameJob j (jobNew o p) ≡ u → _≡_ {A = ℕ} (choose u 0 14) 0 → j .«old_edges» ≤ 1024
       go true q z = subst (λ (k : Job). k .«old_edges» ≤ 1024) (sym (job-same j (jobNew o p) q)) (few-edges o p (version-sound v o e .fewEdges))
@@ -165,7 +135,7 @@ module _ (j : Job) (v v′ : Lent) (n l w : ℕ) where
   unfolding testsDue ofStage choose
   tests-stage h = simp (ne-eqb _ _ h)
 
-  module _ (st : j .stage ≡ 2) (u : Bool) (e : u ≡ testsRoomy n l w) where
+  module _ (st : j .stage ≡ 2) (u : Bool) (e : u ≡ roomy 400 3200 n l w) where
     pub tests-long : (d : ℕ) → u ≡ true → d ≡ bothDue j v v′ → d ≡ testsDue j v v′ n l w
     unfolding testsDue ofStage choose
     tests-long d t q = simp (eq-eqb _ _ st, ← e, t, q)
@@ -177,7 +147,7 @@ module _ (j : Job) (v v′ : Lent) (n l w : ℕ) where
   pub tests-edges : (due : ℕ) → due ≡ testsDue j v v′ n l w → due ≡ 0 → j .«old_edges» ≤ 1024
   unfolding testsDue bothDue heldNew
   tests-edges due e z =
-      edges-of j v (versionLeft v) (versionLeft v′) refl (none-due (ofStage read-tests (j .stage)) (testsRoomy n l w) (bothDue j v v′) (sym e ∙ z) .2)
+      edges-of j v (versionLeft v) (versionLeft v′) refl (none-due (ofStage read-tests (j .stage)) (roomy 400 3200 n l w) (bothDue j v v′) (sym e ∙ z) .2)
 
 -- ---- `moved_by`
 
@@ -218,7 +188,7 @@ module _ (j : Job) (v v′ : Lent) (text : Bytes) (t w : List ℕ) (work due : �
       by-due r t′ w′ (readTests (j .«old_edges») text) (simp (eq-eqb _ _ z))
       (subst (λ (x : Moved). MovedBy j (readTests (j .«old_edges») text) x t t′ w w′) (sym e) (read-by j t w (readTests (j .«old_edges») text) c t′ w′ (h .leaves)))
 
-pub ruleset tests-all = (with-tests, wide-tests, wide-rows, wide-work, wide-all, old-gone, new-version-gone, both-none, both-job, tests-stage, tests-long, tests-short, tests-edges, moved-refused, moved-done, tests-refused, tests-taken)
+pub ruleset tests-all = (with-tests, old-gone, new-version-gone, both-none, both-job, tests-stage, tests-long, tests-short, tests-edges, moved-refused, moved-done, tests-refused, tests-taken)
 
 -- ---- `read_tests`
 
@@ -243,13 +213,13 @@ module _ (j : Job) (old : Bytes) (ns : List Node) (ol : List ℕ) (new : Bytes) 
 
   same-due : testsDue j front front′ a b (length w) ≡ testsDue j (lent old ns ol) (lent new ms nl) a b (length w)
   unfolding testsDue bothDue heldNew choose
-  same-due = go (testsRoomy a b (length w)) refl
+  same-due = go (roomy 400 3200 a b (length w)) refl
     where
-      go : (u : Bool) → testsRoomy a b (length w) ≡ u
+      go : (u : Bool) → roomy 400 3200 a b (length w) ≡ u
           → choose (ofStage read-tests (j .stage)) (choose u (dueOf j (versionLeft front) (versionLeft front′)) 14) 13
           ≡ choose (ofStage read-tests (j .stage)) (choose u (dueOf j (versionLeft (lent old ns ol)) (versionLeft (lent new ms nl))) 14) 13
       go true e =
-          let h : 8128 ≤ length w = wide-scratch a b (length w) e in
+          let h : 8128 ≤ length w = roomy-parts 400 3200 a b (length w) e .2 in
           ap₂ (λ (x y : Option Listing). choose (ofStage read-tests (j .stage)) (dueOf j x y) 13)
           (front-left old ns ol (oldPart both) (first-flat h)) (front-left new ms nl (newPart both) (second-flat h))
       go false e = refl

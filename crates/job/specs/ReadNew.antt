@@ -4,14 +4,13 @@ use Prim.Native.Nat.{ℕ}
 use lib.ListN.{length, take, drop}
 use Rattle.laws.specs.Tests.{after, choose}
 use Rattle.rules.specs.Text.{Bytes, Answer as Reading, refused, accepted}
-use Rattle.rules.specs.Graph.{procCount, nodeCount, edgeCount}
 use Rattle.rules.specs.ProgramFile.{Listing}
 use Rattle.rules.specs.Job.{ofStage, read-new, stageAfter}
+use Rattle.answer.specs.declared.Answer.{Answer}
 use Rattle.reader.specs.declared.Count.{Count}
 use Rattle.records.specs.declared.Job.{Job}
 use Rattle.records.specs.declared.Node.{Node}
-use Rattle.held.specs.Held.{Lent, heldOld}
-use Rattle.job.specs.declared.Answer.{Answer}
+use Rattle.held.specs.Held.{Lent, counted, heldOld, jobAt}
 use Rattle.job.specs.declared.Taken.{Taken}
 use Rattle.job.specs.ReadOld.{roomy, programRead, TakenBy, LeftBy}
 
@@ -28,35 +27,24 @@ oldHeldDue j v = after (heldOld j v) 14 (λ o. 0)
 
 -- 13, 14, or 0 where neither is due; so many records of nodes, links and numbers of scratch are lent for the new program.
 unfoldable pub newDue : Job → Lent → ℕ → ℕ → ℕ → ℕ
-newDue j v nodes links work = choose (ofStage read-new (j .stage)) (choose (roomy nodes links work) (oldHeldDue j v) 14) 13
+newDue j v nodes links work = choose (ofStage read-new (j .stage)) (choose (roomy 512 6080 nodes links work) (oldHeldDue j v) 14) 13
 
 -- What the call has to go by.
 abbrev pub newRead : Job → Lent → ℕ → ℕ → ℕ → Bytes → Reading Listing
 newRead j v nodes links work text = programRead (newDue j v nodes links work) text
 
 -- The job afterwards: what it said of the old program, with the counts of the new one.
-unfoldable pub jobWithNew : Job → ℕ → ℕ → ℕ → Job
-jobWithNew j procs nodes edges =
-    record {
-      stage = stageAfter read-new;
-      «old_procs» = j .«old_procs»;
-      «old_nodes» = j .«old_nodes»;
-      «old_edges» = j .«old_edges»;
-      «new_procs» = procs;
-      «new_nodes» = nodes;
-      «new_edges» = edges;
-      tests = 0;
-    }
+abbrev pub oldCounts : Job → Count
+oldCounts j = record { number = 0; place = 0; procs = j .«old_procs»; nodes = j .«old_nodes»; edges = j .«old_edges» }
+
+unfoldable pub withNew : Job → Count → Job
+withNew j c = jobAt (stageAfter read-new) (oldCounts j) c 0
 
 unfoldable pub newJob : Job → Reading Listing → Job
 newJob j (refused k p) = j
-newJob j (accepted s) = jobWithNew j (procCount (s .program)) (nodeCount (s .program)) (edgeCount (s .program))
+newJob j (accepted s) = withNew j (counted s)
 
 -- ---- the contracts
-
--- `with_new`
-unfoldable pub withNew : Job → Count → Job
-withNew j c = jobWithNew j (c .procs) (c .nodes) (c .edges)
 
 -- `take_new`
 pub record NewTaken (j : Job) (v : Lent) (room : ℕ) (text : Bytes) (r : Taken) (l l′ : List ℕ) (work : ℕ) (w : List ℕ) : Type 0 where

@@ -8,31 +8,32 @@ use lib.ListN.{length, getD, replicate}
 use lib.Seq.{sets}
 use Rattle.laws.specs.Tests.{_and_, choose}
 use Rattle.rules.specs.Text.{Bytes, Answer as Reading, refused, accepted}
-use Rattle.rules.specs.Graph.{kindAt, kindNumber, labelAt, called, procCount, nodeCount, edgeCount}
+use Rattle.rules.specs.Graph.{kindAt, kindNumber, labelAt, called, nodeCount}
 use Rattle.rules.specs.ProgramFile.{Listing, readListing}
 use Rattle.rules.specs.Job.{ofStage, read-old, stageAfter}
+use Rattle.answer.specs.declared.Answer.{Answer}
 use Rattle.graph.specs.Table.{linksAfter}
 use Rattle.reader.specs.declared.Count.{Count}
 use Rattle.records.specs.declared.Job.{Job}
 use Rattle.records.specs.declared.Node.{Node}
 use Rattle.records.specs.Jobs.{fresh, sameJob}
 use Rattle.records.specs.Nodes.{nodesOf}
-use Rattle.job.specs.declared.Answer.{Answer}
+use Rattle.held.specs.Held.{jobAt, jobOld, uncounted}
 use Rattle.job.specs.declared.Taken.{Taken}
 
 -- ---- what is due before reading
 
--- The lengths of what is lent are enough: records of nodes, links, scratch.
-unfoldable pub roomy : ℕ → ℕ → ℕ → Bool
-roomy nodes links work = leb 512 nodes and (leb 6080 links and leb 8128 work)
+-- Two lengths are at least a and b, and the scratch has the numbers that a reader asks for.
+unfoldable pub roomy : ℕ → ℕ → ℕ → ℕ → ℕ → Bool
+roomy a b x y work = leb a x and (leb b y and leb 8128 work)
 
 -- 14 where the job is not a fresh one, else 0.
 unfoldable pub freshDue : Job → ℕ
 freshDue j = choose (sameJob j fresh) 0 14
 
--- 13, 14, or 0 where neither is due.
+-- 13, 14, or 0 where neither is due; so many records of nodes, links and numbers of scratch are lent.
 unfoldable pub oldDue : Job → ℕ → ℕ → ℕ → ℕ
-oldDue j nodes links work = choose (ofStage read-old (j .stage)) (choose (roomy nodes links work) (freshDue j) 14) 13
+oldDue j nodes links work = choose (ofStage read-old (j .stage)) (choose (roomy 512 6080 nodes links work) (freshDue j) 14) 13
 
 -- What a call that reads a program has to go by: the refusal that is due, or what reading the text gives.
 unfoldable pub programRead : ℕ → Bytes → Reading Listing
@@ -71,22 +72,9 @@ linksRead (refused k p) l = l
 linksRead (accepted s) l = linksAfter s l
 
 -- The job afterwards.
-unfoldable pub jobWithOld : ℕ → ℕ → ℕ → Job
-jobWithOld procs nodes edges =
-    record {
-      stage = stageAfter read-old;
-      «old_procs» = procs;
-      «old_nodes» = nodes;
-      «old_edges» = edges;
-      «new_procs» = 0;
-      «new_nodes» = 0;
-      «new_edges» = 0;
-      tests = 0;
-    }
-
 unfoldable pub oldJob : Job → Reading Listing → Job
 oldJob j (refused k p) = j
-oldJob j (accepted s) = jobWithOld (procCount (s .program)) (nodeCount (s .program)) (edgeCount (s .program))
+oldJob j (accepted s) = jobOld s
 
 -- ---- the contracts
 
@@ -96,7 +84,7 @@ refusedTaken j k p = record { job = j; number = k; place = p; nodes = 0 }
 
 -- `with_old`
 unfoldable pub withOld : Count → Job
-withOld c = jobWithOld (c .procs) (c .nodes) (c .edges)
+withOld c = jobAt (stageAfter read-old) c uncounted 0
 
 -- Reading a program on values, where `after` is the job afterwards by what the call goes by; the numbers of the nodes are in the work table.
 unfoldable pub takenOf : Job → Reading Listing → Taken

@@ -1,14 +1,16 @@
 -- Laws of reading the old program: its records are the rows of its nodes, and for a fresh job and long enough tables the answer is that of `readOldAnswer`.
 use mathlib.Core.Path.{_≡_, refl, sym, ap, ap₂, _∙_}
+use mathlib.Core.Bool.{Bool, true, false}
 use mathlib.Core.List.{List, [], _∷_, _++_}
 use Prim.Native.Nat.{ℕ, zero, suc, _+_, _*_, _≤_, _<_}
 use native.Mathlib.Nat.{add-zero}
 use native.Mathlib.Omega.{arith}
 use lib.ListN.{getD}
 use lib.Seq.{sets}
-use borrow.Author.Tests.{le-leb}
+use borrow.Author.Tests.{le-leb, leb-true}
 use Rattle.laws.specs.Tables.{rows}
 use Rattle.laws.specs.Tests.{_and_, choose}
+use Rattle.laws.specs.TestLaws.{and-left, and-right}
 use Rattle.rules.specs.Text.{Bytes, Answer as Reading, refused, accepted, then}
 use Rattle.rules.specs.Graph.{nodeCount}
 use Rattle.rules.specs.ProgramFile.{Listing, readListing, readProgram}
@@ -47,6 +49,20 @@ module _ (w : List ℕ) (c : Count) (s : Listing) (h : InTable w c s) where
   unfolding nodesOf recordsOf
   records-are zero l = refl
   records-are (suc k) l = ap₂ (λ (x : List Node) (y : Node). x ++ (y ∷ [])) (records-are k (omega arith)) (record-is k l)
+
+-- ---- what is due before a call: 13 by the stage, 14 by the lengths, then d
+
+-- Where nothing is due the stage is right, the lengths are enough, and d is 0.
+pub none-due : (t u : Bool) (d : ℕ) → choose t (choose u d 14) 13 ≡ 0 → (t ≡ true) × (u ≡ true) × (d ≡ 0)
+unfolding choose
+none-due true true d h = (refl, refl, h)
+none-due true false d h = absurd (let z : ⊥ = omega (arith, h) in z)
+none-due false u d h = absurd (let z : ⊥ = omega (arith, h) in z)
+
+pub roomy-parts : (a b n l w : ℕ) → roomy a b n l w ≡ true → (a ≤ n) × (b ≤ l) × (8128 ≤ w)
+unfolding roomy
+roomy-parts a b n l w h =
+    let r = and-right _ _ h in (leb-true a n (and-left _ _ h), leb-true b l (and-left _ _ r), leb-true 8128 w (and-right _ _ r))
 
 -- ---- the answer
 

@@ -1,35 +1,32 @@
 -- Reading the tests into lent memory: what is due before it, and what it leaves.
 use mathlib.Core.Path.{_≡_}
-use mathlib.Core.Bool.{Bool}
 use mathlib.Core.List.{List}
 use Prim.Native.Nat.{ℕ}
-use lib.Dec.{eqb, leb}
+use lib.Dec.{eqb}
 use lib.ListN.{length, replicate}
-use Rattle.laws.specs.Tests.{_and_, after, choose}
+use Rattle.laws.specs.Tests.{after, choose}
 use Rattle.rules.specs.Text.{Bytes, Answer as Reading, refused, accepted}
 use Rattle.rules.specs.SuiteFile.{TestListing, readTests, testCount}
 use Rattle.rules.specs.Job.{ofStage, read-tests, stageAfter}
+use Rattle.answer.specs.declared.Answer.{Answer}
+use Rattle.reader.specs.declared.Count.{Count}
 use Rattle.suite.specs.declared.Read.{Read}
 use Rattle.lent_tests.specs.Lent.{testsAfter, rowsAfter}
 use Rattle.records.specs.declared.Job.{Job}
-use Rattle.held.specs.Held.{Lent, heldNew}
-use Rattle.job.specs.declared.Answer.{Answer}
+use Rattle.held.specs.Held.{Lent, heldNew, jobAt}
 use Rattle.job.specs.declared.Moved.{Moved}
-use Rattle.job.specs.ReadOld.{answered}
+use Rattle.job.specs.ReadOld.{answered, roomy}
+use Rattle.job.specs.ReadNew.{oldCounts}
 
 -- ---- what is due before reading
-
--- The lengths of what is lent are enough: numbers and words of the tests, scratch.
-unfoldable pub testsRoomy : ℕ → ℕ → ℕ → Bool
-testsRoomy tests rows work = leb 400 tests and (leb 3200 rows and leb 8128 work)
 
 -- 14 where the old version v, the new one v′ and the job are not what reading the two texts leaves, else 0.
 unfoldable pub bothDue : Job → Lent → Lent → ℕ
 bothDue j v v′ = after (heldNew j v v′) 14 (λ h. 0)
 
--- 13, 14, or 0 where neither is due.
+-- 13, 14, or 0 where neither is due; so many numbers and words for the tests, and numbers of scratch are lent.
 unfoldable pub testsDue : Job → Lent → Lent → ℕ → ℕ → ℕ → ℕ
-testsDue j v v′ tests rows work = choose (ofStage read-tests (j .stage)) (choose (testsRoomy tests rows work) (bothDue j v v′) 14) 13
+testsDue j v v′ tests rows work = choose (ofStage read-tests (j .stage)) (choose (roomy 400 3200 tests rows work) (bothDue j v v′) 14) 13
 
 -- What the call has to go by: the refusal that is due, or what reading the tests gives, where the old program has as many edges as the job says.
 unfoldable pub testsBy : ℕ → ℕ → Bytes → Reading TestListing
@@ -41,18 +38,11 @@ testsRead j v v′ tests rows work text = testsBy (testsDue j v v′ tests rows 
 -- ---- what it leaves
 
 -- The job afterwards.
+abbrev pub newCounts : Job → Count
+newCounts j = record { number = 0; place = 0; procs = j .«new_procs»; nodes = j .«new_nodes»; edges = j .«new_edges» }
+
 unfoldable pub withTests : Job → ℕ → Job
-withTests j count =
-    record {
-      stage = stageAfter read-tests;
-      «old_procs» = j .«old_procs»;
-      «old_nodes» = j .«old_nodes»;
-      «old_edges» = j .«old_edges»;
-      «new_procs» = j .«new_procs»;
-      «new_nodes» = j .«new_nodes»;
-      «new_edges» = j .«new_edges»;
-      tests = count;
-    }
+withTests j count = jobAt (stageAfter read-tests) (oldCounts j) (newCounts j) count
 
 unfoldable pub testsJob : Job → Reading TestListing → Job
 testsJob j (refused k p) = j

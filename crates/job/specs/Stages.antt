@@ -9,9 +9,9 @@ use native.Mathlib.Omega.{arith}
 use lib.Dec.{eqb}
 use lib.ListN.{length, getD, set}
 use lib.Seq.{sets, length-sets, set-getD}
-use borrow.Author.Tests.{le-leb, leb-true, eqb-true}
+use borrow.Author.Tests.{le-leb, eqb-true}
 use Rattle.laws.specs.Tests.{after, choose}
-use Rattle.laws.specs.TestLaws.{and-both, and-left, and-right}
+use Rattle.laws.specs.TestLaws.{and-both}
 use Rattle.laws.specs.Slices.{sets-again, getD-sets-before, getD-sets-in}
 use Rattle.laws.specs.Tables.{rows, rows-length}
 use Rattle.rules.specs.Text.{Bytes, Answer as Reading, refused, accepted, then}
@@ -21,7 +21,8 @@ use Rattle.rules.specs.SuiteFile.{TestListing, readTests, readSuite, testCount}
 use Rattle.rules.specs.Job.{Given, Outcome, ofStage, read-old, read-new, read-tests, numberOf, placeOf, success, outcome, readJob, readNewAnswer, readTestsAnswer}
 use Rattle.rules.specs.Proofs.TextLaws.{same-of}
 use Rattle.rules.specs.Proofs.ProgramLaws.{Sound}
-use Rattle.graph.specs.Table.{nodeRow, procRow, edgeRow, headOf, nodesAfter, linksAfter}
+use Rattle.answer.specs.declared.Answer.{Answer}
+use Rattle.graph.specs.Table.{nodeRow, procRow, edgeRow, nodesAfter, linksAfter}
 use Rattle.program.specs.Lent.{isLeft}
 use Rattle.lent_tests.specs.Lent.{testRow, coverageRow, testsAfter, rowsAfter}
 use Rattle.lent_tests.specs.Held.{after-left}
@@ -30,12 +31,11 @@ use Rattle.records.specs.declared.Node.{Node}
 use Rattle.records.specs.Jobs.{sameJob, job-self}
 use Rattle.records.specs.Nodes.{flat}
 use Rattle.held.specs.Held.{Lent, Versions, lent, longEnough, leftBy, versionLeft, testsLong, testsBy as suiteBy, suiteLeft, jobOld, jobNew, jobTests, heldOld, heldNew, heldTests}
-use Rattle.held.specs.HeldLaws.{sound-of, held-old-parts, held-new-parts}
-use Rattle.job.specs.declared.Answer.{Answer}
-use Rattle.job.specs.ReadOld.{roomy, freshDue, oldDue, programRead, oldRead, answered, recordsOf, recordsRead, linksRead, jobWithOld, oldJob, LeftBy, ReadOld}
-use Rattle.job.specs.ReadOldLaws.{records-after}
-use Rattle.job.specs.ReadNew.{oldHeldDue, newDue, newRead, jobWithNew, newJob, ReadNew}
-use Rattle.job.specs.ReadTests.{testsRoomy, bothDue, testsDue, testsBy, testsRead, withTests, testsJob, namesLeft, rowsLeft, TestsLeftBy, ReadTests}
+use Rattle.held.specs.HeldLaws.{procsOf, edgesOf, headsOf, sound-of, held-old-parts, held-new-parts}
+use Rattle.job.specs.ReadOld.{roomy, freshDue, oldDue, programRead, oldRead, answered, recordsOf, recordsRead, linksRead, oldJob, LeftBy, ReadOld}
+use Rattle.job.specs.ReadOldLaws.{none-due, records-after, roomy-parts}
+use Rattle.job.specs.ReadNew.{oldHeldDue, newDue, newRead, newJob, withNew, ReadNew}
+use Rattle.job.specs.ReadTests.{bothDue, testsDue, testsBy, testsRead, withTests, testsJob, namesLeft, rowsLeft, TestsLeftBy, ReadTests}
 
 -- ---- stores that change nothing
 
@@ -48,48 +48,39 @@ sets-there {A = A} (v ∷ vs) l i d h =
     ∙ sets-there vs l (suc i) d (λ k b. let e : suc i + k ≡ i + suc k = omega arith in ap (λ (m : ℕ). getD l m d) e ∙ h (suc k) (omega arith))
 
 module _ (s : Listing) (t : List ℕ) (sound : Sound (s .program)) (long : 6080 ≤ length t) where
-  abbrev P : List ℕ
-  P = rows (procRow s) (procCount (s .program))
+  abbrev stored : List ℕ
+  stored = sets (sets (sets t 0 (procsOf s)) 448 (edgesOf s)) 5568 (headsOf s)
 
-  abbrev E : List ℕ
-  E = rows (edgeRow s) (edgeCount (s .program))
-
-  abbrev H : List ℕ
-  H = rows (λ n. headOf s n ∷ []) (nodeCount (s .program))
-
-  abbrev L : List ℕ
-  L = sets (sets (sets t 0 P) 448 E) 5568 H
-
-  length-p : length P ≡ 7 * procCount (s .program)
+  length-p : length (procsOf s) ≡ 7 * procCount (s .program)
   length-p = rows-length 7 (procRow s) (λ i. refl) (procCount (s .program))
 
-  length-e : length E ≡ 5 * edgeCount (s .program)
+  length-e : length (edgesOf s) ≡ 5 * edgeCount (s .program)
   length-e = rows-length 5 (edgeRow s) (λ i. refl) (edgeCount (s .program))
 
-  procs-there : sets L 0 P ≡ L
+  procs-there : sets stored 0 (procsOf s) ≡ stored
   procs-there =
-      sets-there P L 0 0 (λ k b.
-      getD-sets-before H (sets (sets t 0 P) 448 E) 5568 (0 + k) 0 (omega (arith, b, length-p, sound .fewProcs))
-      ∙ getD-sets-before E (sets t 0 P) 448 (0 + k) 0 (omega (arith, b, length-p, sound .fewProcs))
-      ∙ getD-sets-in P t 0 k 0 (omega (arith, length-p, sound .fewProcs, long)) b)
+      sets-there (procsOf s) stored 0 0 (λ k b.
+      getD-sets-before (headsOf s) (sets (sets t 0 (procsOf s)) 448 (edgesOf s)) 5568 (0 + k) 0 (omega (arith, b, length-p, sound .fewProcs))
+      ∙ getD-sets-before (edgesOf s) (sets t 0 (procsOf s)) 448 (0 + k) 0 (omega (arith, b, length-p, sound .fewProcs))
+      ∙ getD-sets-in (procsOf s) t 0 k 0 (omega (arith, length-p, sound .fewProcs, long)) b)
 
-  edges-there : sets L 448 E ≡ L
+  edges-there : sets stored 448 (edgesOf s) ≡ stored
   edges-there =
-      sets-there E L 448 0 (λ k b.
-      getD-sets-before H (sets (sets t 0 P) 448 E) 5568 (448 + k) 0 (omega (arith, b, length-e, sound .fewEdges))
-      ∙ getD-sets-in E (sets t 0 P) 448 k 0 (omega (arith, length-e, sound .fewEdges, long, length-sets t 0 P)) b)
+      sets-there (edgesOf s) stored 448 0 (λ k b.
+      getD-sets-before (headsOf s) (sets (sets t 0 (procsOf s)) 448 (edgesOf s)) 5568 (448 + k) 0 (omega (arith, b, length-e, sound .fewEdges))
+      ∙ getD-sets-in (edgesOf s) (sets t 0 (procsOf s)) 448 k 0 (omega (arith, length-e, sound .fewEdges, long, length-sets t 0 (procsOf s))) b)
 
   links-again : linksAfter s (linksAfter s t) ≡ linksAfter s t
   unfolding linksAfter
   links-again =
-      ap (λ (x : List ℕ). sets (sets x 448 E) 5568 H) procs-there ∙ ap (λ (x : List ℕ). sets x 5568 H) edges-there ∙ sets-again H (sets (sets t 0 P) 448 E) 5568
+      ap (λ (x : List ℕ). sets (sets x 448 (edgesOf s)) 5568 (headsOf s)) procs-there ∙ ap (λ (x : List ℕ). sets x 5568 (headsOf s)) edges-there ∙ sets-again (headsOf s) (sets (sets t 0 (procsOf s)) 448 (edgesOf s)) 5568
 
 links-long : (s : Listing) (t : List ℕ) → length (linksAfter s t) ≡ length t
 unfolding linksAfter
 links-long s t =
-    let a : List ℕ = sets t 0 (rows (procRow s) (procCount (s .program))) in
-    let b : List ℕ = sets a 448 (rows (edgeRow s) (edgeCount (s .program))) in
-    length-sets b 5568 (rows (λ n. headOf s n ∷ []) (nodeCount (s .program))) ∙ length-sets a 448 (rows (edgeRow s) (edgeCount (s .program))) ∙ length-sets t 0 (rows (procRow s) (procCount (s .program)))
+    let a : List ℕ = sets t 0 (procsOf s) in
+    let b : List ℕ = sets a 448 (edgesOf s) in
+    length-sets b 5568 (headsOf s) ∙ length-sets a 448 (edgesOf s) ∙ length-sets t 0 (procsOf s)
 
 -- ---- a version that was read
 
@@ -130,20 +121,10 @@ program-read due text s h = go (eqb due 0) refl h
     go true e q = (eqb-true due 0 e, q)
     go false e q = absurd (refused-accepted due 0 s q)
 
-none-due : (t u : Bool) (d : ℕ) → choose t (choose u d 14) 13 ≡ 0 → (u ≡ true) × (d ≡ 0)
-unfolding choose
-none-due true true d h = (refl, h)
-none-due true false d h = absurd (let z : ⊥ = omega (arith, h) in z)
-none-due false u d h = absurd (let z : ⊥ = omega (arith, h) in z)
-
-roomy-long : (n l w : ℕ) → roomy n l w ≡ true → (512 ≤ n) × (6080 ≤ l)
-unfolding roomy
-roomy-long n l w h = (leb-true 512 n (and-left _ _ h), leb-true 6080 l (and-left _ _ (and-right _ _ h)))
-
 -- ---- after `read_old`
 
 job-old : (j : Job) (s : Listing) → oldJob j (accepted s) ≡ jobOld s
-unfolding oldJob jobWithOld jobOld
+unfolding oldJob
 job-old j s = refl
 
 module _ (j : Job) (text : Bytes) (n : List Node) (l w : List ℕ) (r : Answer) (j′ : Job) (n′ : List Node) (l′ w′ : List ℕ) (h : ReadOld j text n l w r j′ n′ l′ w′)
@@ -151,7 +132,7 @@ module _ (j : Job) (text : Bytes) (n : List Node) (l w : List ℕ) (r : Answer) 
   read-old-due : (512 ≤ length n) × (6080 ≤ length l)
   unfolding oldDue
   read-old-due =
-      roomy-long _ _ (length w) (none-due (ofStage read-old (j .stage)) (roomy (length n) (length l) (length w)) (freshDue j) (program-read _ text s e .0) .0)
+      let r = roomy-parts 512 6080 _ _ (length w) (none-due (ofStage read-old (j .stage)) (roomy 512 6080 (length n) (length l) (length w)) (freshDue j) (program-read _ text s e .0) .1) in (r .0, r .1)
 
   held-by : (v : Lent) → versionLeft v ≡ some s → heldOld (jobOld s) v ≡ some s
   unfolding heldOld choose
@@ -170,7 +151,7 @@ module _ (j : Job) (text : Bytes) (n : List Node) (l w : List ℕ) (r : Answer) 
 -- ---- after `read_new`
 
 job-new : (j : Job) (o p : Listing) → j ≡ jobOld o → newJob j (accepted p) ≡ jobNew o p
-unfolding newJob jobWithNew jobNew jobOld
+unfolding newJob withNew jobNew jobOld
 job-new j o p e = ap (λ (k : Job). newJob k (accepted p)) e
 
 held-both : (v v′ : Lent) (o p : Listing) → versionLeft v ≡ some o → versionLeft v′ ≡ some p → heldNew (jobNew o p) v v′ ≡ some (record { old = o; new = p })
@@ -184,7 +165,7 @@ module _ (j : Job) (v : Lent) (text : Bytes) (n : List Node) (l w : List ℕ) (r
   read-new-due : (512 ≤ length n) × (6080 ≤ length l)
   unfolding newDue
   read-new-due =
-      roomy-long _ _ (length w) (none-due (ofStage read-new (j .stage)) (roomy (length n) (length l) (length w)) (oldHeldDue j v) (program-read _ text p e .0) .0)
+      let r = roomy-parts 512 6080 _ _ (length w) (none-due (ofStage read-new (j .stage)) (roomy 512 6080 (length n) (length l) (length w)) (oldHeldDue j v) (program-read _ text p e .0) .1) in (r .0, r .1)
 
   -- The job and the tables of both versions are held after `read_new`.
   pub new-held : heldNew j′ v (lent text n′ l′) ≡ some (record { old = o; new = p })
@@ -206,10 +187,6 @@ tests-read due m text l h = go (eqb due 0) refl h
     go : (u : Bool) → eqb due 0 ≡ u → choose u (readTests m text) (refused due 0) ≡ accepted l → (due ≡ 0) × (readTests m text ≡ accepted l)
     go true e q = (eqb-true due 0 e, q)
     go false e q = absurd (refused-accepted due 0 l q)
-
-wide-long : (n l w : ℕ) → testsRoomy n l w ≡ true → (400 ≤ n) × (3200 ≤ l)
-unfolding testsRoomy
-wide-long n l w h = (leb-true 400 n (and-left _ _ h), leb-true 3200 l (and-left _ _ (and-right _ _ h)))
 
 -- The tables that reading the tests leaves are found to be left.
 module _ (m : ℕ) (text : Bytes) (l : TestListing) (e : readTests m text ≡ accepted l) (t w : List ℕ) (ht : 400 ≤ length t) (hw : 3200 ≤ length w) where
@@ -244,7 +221,7 @@ module _ (j : Job) (v v′ : Lent) (text : Bytes) (t w s : List ℕ) (r : Answer
   read-tests-due : (400 ≤ length t) × (3200 ≤ length w)
   unfolding testsDue
   read-tests-due =
-      wide-long _ _ (length s) (none-due (ofStage read-tests (j .stage)) (testsRoomy (length t) (length w) (length s)) (bothDue j v v′) (tests-read _ _ text l e .0) .0)
+      let r = roomy-parts 400 3200 _ _ (length s) (none-due (ofStage read-tests (j .stage)) (roomy 400 3200 (length t) (length w) (length s)) (bothDue j v v′) (tests-read _ _ text l e .0) .1) in (r .0, r .1)
 
   -- The rows were read for as many edges as the old program has.
   pub edges-read : readTests (edgeCount (k .old .program)) text ≡ accepted l

@@ -1,24 +1,17 @@
 // The calls of a job, over lent memory. The work of each is done on values and tables of numbers; the call itself takes the job and the
 // nodes out of what is lent and puts them back.
+use answer::Answer;
 use reader::Count;
 use records::Job;
 use records::Node;
 use suite::Read;
 use text::run;
 ghost use mathlib.Core.Path.{_≡_};
-ghost use Prim.Native.Nat.{_≤_};
 ghost use lib.ListN.{length};
 ghost use Rattle.held.specs.Held.{lent, numbers};
 ghost use Rattle.job.specs.ReadOld.{OldTaken, ReadOld, freshDue, oldDue, refusedTaken, roomy, withOld};
 ghost use Rattle.job.specs.ReadNew.{NewTaken, ReadNew, newDue, newPart, oldPart, withNew};
-ghost use Rattle.job.specs.ReadTests.{ReadTests, TestsTaken, bothDue, movedBy, testsDue, testsRoomy, withTests};
-
-// What a call answers: a refusal by number and place, or 0 and how many bytes were written.
-#[repr(C)]
-pub struct Answer {
-    pub number: usize,
-    pub place: usize,
-}
+ghost use Rattle.job.specs.ReadTests.{ReadTests, TestsTaken, bothDue, movedBy, testsDue, withTests};
 
 // What reading a program leaves on values: the job, the answer, and how many nodes stand in the scratch.
 pub struct Taken {
@@ -40,14 +33,14 @@ fn refused(job: Job, number: usize, place: usize) -> Taken
     }
 }
 
-// Whether the lengths of what is lent are enough to read a program: records of nodes, links, scratch.
-fn long_enough(nodes: usize, links: usize, work: usize) -> bool
-    ensures { λ r. ⌜ r ≡ roomy nodes links work ⌝ }
+// Whether two lengths of what is lent are at least a and b, and the scratch has the numbers that a reader asks for.
+fn long_enough(a: usize, b: usize, x: usize, y: usize, work: usize) -> bool
+    ensures { λ r. ⌜ r ≡ roomy a b x y work ⌝ }
 {
-    if nodes < 512 {
+    if x < a {
         return false;
     }
-    if links < 6080 {
+    if y < b {
         return false;
     }
     if work < 8128 {
@@ -85,7 +78,7 @@ fn old_due(job: Job, nodes: usize, links: usize, work: usize) -> usize
     if job.stage != 0 {
         return 13;
     }
-    if long_enough(nodes, links, work) {
+    if long_enough(512, 6080, nodes, links, work) {
         return fresh_due(job);
     }
     14
@@ -182,7 +175,7 @@ fn new_due(
     if job.stage != 1 {
         return 13;
     }
-    if long_enough(nodes, links, scratch.len()) {
+    if long_enough(512, 6080, nodes, links, scratch.len()) {
         let mut work = [0usize; 8128];
         let had = held::version_left(room, old, run(scratch, 0, 2048), joins, &mut work);
         let number = had.number;
@@ -287,22 +280,6 @@ fn with_tests(job: Job, count: usize) -> Job
     }
 }
 
-// Whether the lengths of what is lent are enough to read the tests: numbers, words, scratch.
-fn wide_enough(tests: usize, rows: usize, work: usize) -> bool
-    ensures { λ r. ⌜ r ≡ testsRoomy tests rows work ⌝ }
-{
-    if tests < 400 {
-        return false;
-    }
-    if rows < 3200 {
-        return false;
-    }
-    if work < 8128 {
-        return false;
-    }
-    true
-}
-
 // 14 where the two versions and the job are not what reading the two texts leaves, else 0. The numbers of the old nodes stand at the front of
 // the scratch, those of the new ones from the place 2,048 on.
 fn both_due(
@@ -352,7 +329,7 @@ fn tests_due(
     if job.stage != 2 {
         return 13;
     }
-    if wide_enough(tests, rows, scratch.len()) {
+    if long_enough(400, 3200, tests, rows, scratch.len()) {
         return both_due(job, room, old, joins, space, new, links, scratch);
     }
     14

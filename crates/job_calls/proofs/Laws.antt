@@ -15,30 +15,29 @@ use Rattle.rules.specs.Text.{Bytes, Answer as Reading, refused, accepted}
 use Rattle.rules.specs.Graph.{nodeCount, edgeCount}
 use Rattle.rules.specs.ProgramFile.{Listing}
 use Rattle.rules.specs.SuiteFile.{TestListing, testCount}
-use Rattle.rules.specs.Job.{Call, Given, Outcome, Version, bySide, check-sheet, isNodeOfVersion, judged, labelAnswer, labelPart, labelShown, numberOf, ofStage, outcome, outputAfter, placeOf, recordBytes, refusal, sheetBytes, show-label, stageAfter, success, write-record, write-sheet, writing}
+use Rattle.rules.specs.Job.{Call, Given, Outcome, Version, bySide, check-sheet, isNodeOfVersion, judged, labelAnswer, labelPart, labelShown, numberOf, ofStage, outcome, placeOf, read-tests, recordBytes, refusal, sheetBytes, show-label, stageAfter, success, write-record, write-sheet, writing}
 use Rattle.rules.specs.Proofs.ProgramLaws.{Sound}
+use Rattle.answer.specs.declared.Answer.{Answer}
+use Rattle.answer.specs.Outcomes.{Answered, Told, answered-as, refusal-told, told-as}
 use Rattle.reader.specs.declared.Count.{Count}
 use Rattle.suite.specs.declared.Read.{Read}
 use Rattle.versions.specs.Memory.{InMemory, memory}
 use Rattle.intake.specs.declared.Texts.{Texts}
 use Rattle.intake.specs.Ready.{Few, Ready, refusedTexts}
-use Rattle.writer.specs.declared.Answer.{Answer as Written}
-use Rattle.writer.specs.Sheets.{Told}
+use Rattle.intake.proofs.Laws.{few-none}
 use Rattle.rules.specs.Sheet.{readSheet}
-use Rattle.checker.specs.declared.Answer.{Answer as Checked}
-use Rattle.checker.specs.Checking.{Answered, Checks}
+use Rattle.checker.specs.Checking.{Checks}
 use Rattle.work.specs.Work.{Done, RecordDone, SheetDone}
 use Rattle.records.specs.declared.Job.{Job}
 use Rattle.records.specs.declared.Node.{Node}
 use Rattle.records.specs.Jobs.{sameJob}
 use Rattle.records.specs.Nodes.{flat}
 use Rattle.records.specs.NodeLaws.{flat-length}
-use Rattle.held.specs.Held.{AllRead, Lent, countLeft, heldTests, jobTests, lent, numbers, readLeft, suiteLeft, versionLeft}
+use Rattle.held.specs.Held.{AllRead, Lent, countLeft, heldTests, jobAt, jobTests, lent, numbers, readLeft, suiteLeft, versionLeft}
 use Rattle.held.specs.HeldLaws.{count-small, front-left, held-tests-parts, suite-accepted, suite-few, suite-holds, version-memory, version-sound}
 use Rattle.records.specs.Shown.{partShown}
-use Rattle.job.specs.declared.Answer.{Answer}
 use Rattle.job_calls.specs.declared.Label.{Label}
-use Rattle.job_calls.specs.Calls.{Called, CalledOn, Labelled, LentJob, Shown, Wrote, WroteOn, checkCall, countsBy, dueTexts, givenBy, goesBy, jobBy, labelBySide, labelCall, labelOfNode, labelPartCall, lentJob, loadedJob, recordCall, noLabel, sheetCall, shownBy, textsDue, unloaded, versionOf}
+use Rattle.job_calls.specs.Calls.{Called, CalledOn, Labelled, LentJob, Shown, Wrote, WroteOn, checkCall, countsBy, dueTexts, givenBy, goesBy, labelBySide, labelCall, labelOfNode, labelPartCall, lentJob, loadedJob, recordCall, noLabel, sheetCall, shownBy, textsDue, unloaded, versionOf}
 use Rattle.job_calls.specs.DueLaws.{due-cases, holding}
 
 -- ---- `suite_due`
@@ -51,8 +50,8 @@ module _ (j : Job) (o p : Count) where
 
   module _ (t : Read) (z : t .number ≡ 0) (u : Bool)
       (d : u ≡ sameJob j (record { stage = 3; «old_procs» = o .procs; «old_nodes» = o .nodes; «old_edges» = o .edges; «new_procs» = p .procs; «new_nodes» = p .nodes; «new_edges» = p .edges; tests = t .count })) where
-    same-is : (l : TestListing) → t ≡ readLeft (some l) → u ≡ sameJob j (jobBy o p (testCount (l .suite)))
-    unfolding readLeft jobBy stageAfter
+    same-is : (l : TestListing) → t ≡ readLeft (some l) → u ≡ sameJob j (jobAt (stageAfter read-tests) o p (testCount (l .suite)))
+    unfolding readLeft stageAfter
     same-is l e =
         d ∙ ap (λ (y : Read). sameJob j (record { stage = 3; «old_procs» = o .procs; «old_nodes» = o .nodes; «old_edges» = o .edges; «new_procs» = p .procs; «new_nodes» = p .nodes; «new_edges» = p .edges; tests = y .count })) e
 
@@ -131,7 +130,7 @@ module _ (j : Job) (asked had olds : ℕ) (ot on ol : List ℕ) (news : ℕ) (nt
           module _ (s s′ : Listing) (es : versionLeft old-lent ≡ some s) (es′ : versionLeft new-lent ≡ some s′) where
             due-by : (x : Option TestListing) → textsDue j (countLeft (some s)) (countLeft (some s′)) x
                 ≡ dueTexts (after (after x none (λ l. choose (sameJob j (jobTests s s′ l)) (some (record { old = s; new = s′; tests = l })) none)) (refused 14 0) (λ h. accepted h))
-            unfolding textsDue dueTexts countLeft jobBy jobTests countsBy
+            unfolding textsDue dueTexts countLeft jobTests countsBy
             due-by none = refl
             due-by (some l) = due-last s s′ l (sameJob j (jobTests s s′ l))
 
@@ -194,9 +193,6 @@ module _ (k : LentJob) (h : AllRead) (held : holding k ≡ some h) where
         new-edges-n = refl;
       }
 
-none-few : (q : ℕ) → Few (refusedTexts q 0)
-none-few q = record { few-old-nodes = omega arith; few-old-edges = omega arith; few-new-nodes = omega arith; few-new-edges = omega arith; few-tests = omega arith }
-
 refused-texts : (q p : ℕ) → dueTexts (refused q p) ≡ refusedTexts q p
 unfolding dueTexts
 refused-texts q p = refl
@@ -208,7 +204,7 @@ accepted-number h = refl
 module _ (asked : ℕ) (k : LentJob) (had : Texts) (eh : had ≡ dueTexts (goesBy write-sheet asked k)) where
   pub due-few : Few had
   due-few =
-      due-cases asked k (λ q b c e. subst Few (sym (eh ∙ ap dueTexts e ∙ refused-texts q 0)) (none-few q)) (λ h e room held. subst Few (sym (eh ∙ ap dueTexts e)) (held-few k h held))
+      due-cases asked k (λ q b c e. subst Few (sym (eh ∙ ap dueTexts e ∙ refused-texts q 0)) (few-none q 0)) (λ h e room held. subst Few (sym (eh ∙ ap dueTexts e)) (held-few k h held))
 
   due-room : had .number ≡ 0 → asked ≤ k .scratch
   due-room z =
@@ -268,22 +264,20 @@ module _ (j : Job) (olds : ℕ) (ot on ol : List ℕ) (news : ℕ) (nt nn nl tt 
 
   -- ---- `sheet_in`
 
-  module _ (had : Texts) (eh : had ≡ dueTexts (goesBy write-sheet 16896 the-job)) where
-    told-stop : (f : AllRead → Outcome) (out : Bytes) → (had .number ≡ 0 → ⊥) → Told (outcome (goesBy write-sheet 16896 the-job) f) (record { number = had .number; place = had .place }) out out
-    unfolding outputAfter
-    told-stop f out z =
-        subst (λ (x : Outcome). Told x (record { number = had .number; place = had .place }) out out) (sym (due-stops 16896 the-job had eh f z)) (record { numbered = refl; placed = refl; output = refl })
+  module _ (had : Texts) (eh : had ≡ dueTexts (goesBy write-sheet 16912 the-job)) where
+    told-stop : (f : AllRead → Outcome) (out : Bytes) → (had .number ≡ 0 → ⊥) → Told (outcome (goesBy write-sheet 16912 the-job) f) (record { number = had .number; place = had .place }) out out
+    told-stop f out z = told-as (due-stops 16912 the-job had eh f z) (refusal-told (had .number) (had .place) out)
 
     pub sheet-stop : (out : Bytes) → (had .number ≡ 0 → ⊥) → Told (sheetCall (loadedJob j olds ot ol news nt nl tt tests rows w) (length out)) (record { number = had .number; place = had .place }) out out
     unfolding sheetCall
     sheet-stop out z = subst (λ (k : LentJob). Told (sheetCall k (length out)) (record { number = had .number; place = had .place }) out out) is-loaded (told-stop _ out z)
 
-    pub sheet-goes : (w₁ w′ out out′ : List ℕ) (r : Written) → had .number ≡ 0 → length w₁ ≡ length w → Done w₁ w′ out out′ (SheetDone (memory ot on ol) (memory nt nn nl) tt tests rows had w₁ out r out′)
+    pub sheet-goes : (w₁ w′ out out′ : List ℕ) (r : Answer) → had .number ≡ 0 → length w₁ ≡ length w → Done w₁ w′ out out′ (SheetDone (memory ot on ol) (memory nt nn nl) tt tests rows had w₁ out r out′)
         → Told (sheetCall (loadedJob j olds ot ol news nt nl tt tests rows w) (length out)) r out out′
     unfolding sheetCall SheetDone
     sheet-goes w₁ w′ out out′ r z q d =
         subst (λ (k : LentJob). Told (sheetCall k (length out)) r out out′) is-loaded
-        (due-goes 16896 the-job had eh _ (λ x. Told x r out out′) z wide-old wide-new (λ h room y. d .claim (givenBy h) y (omega arith)))
+        (due-goes 16912 the-job had eh _ (λ x. Told x r out out′) z wide-old wide-new (λ h room y. d .claim (givenBy h) y (omega arith)))
 
     -- ---- `record_in`
 
@@ -291,28 +285,27 @@ module _ (j : Job) (olds : ℕ) (ot on ol : List ℕ) (news : ℕ) (nt nn nl tt 
     unfolding recordCall goesBy ofStage
     record-stop i out z = subst (λ (k : LentJob). Told (recordCall k i (length out)) (record { number = had .number; place = had .place }) out out) is-loaded (told-stop _ out z)
 
-    pub record-goes : (i : ℕ) (w₁ w′ out out′ : List ℕ) (r : Written) → had .number ≡ 0 → length w₁ ≡ length w → Done w₁ w′ out out′ (RecordDone (memory ot on ol) (memory nt nn nl) tt tests rows had i w₁ out r out′)
+    pub record-goes : (i : ℕ) (w₁ w′ out out′ : List ℕ) (r : Answer) → had .number ≡ 0 → length w₁ ≡ length w → Done w₁ w′ out out′ (RecordDone (memory ot on ol) (memory nt nn nl) tt tests rows had i w₁ out r out′)
         → Told (recordCall (loadedJob j olds ot ol news nt nl tt tests rows w) i (length out)) r out out′
     unfolding recordCall RecordDone goesBy ofStage
     record-goes i w₁ w′ out out′ r z q d =
         subst (λ (k : LentJob). Told (recordCall k i (length out)) r out out′) is-loaded
-        (due-goes 16896 the-job had eh _ (λ x. Told x r out out′) z wide-old wide-new (λ h room y. d .claim (givenBy h) y (omega arith)))
+        (due-goes 16912 the-job had eh _ (λ x. Told x r out out′) z wide-old wide-new (λ h room y. d .claim (givenBy h) y (omega arith)))
 
     -- ---- `check_in`
 
     pub check-stop : (sheet : Bytes) → (had .number ≡ 0 → ⊥) → Answered (checkCall (loadedJob j olds ot ol news nt nl tt tests rows w) sheet) (record { number = had .number; place = had .place })
     unfolding checkCall goesBy ofStage
     check-stop sheet z =
-        subst (λ (k : LentJob). Answered (checkCall k sheet) (record { number = had .number; place = had .place })) is-loaded
-        (subst (λ (x : Outcome). Answered x (record { number = had .number; place = had .place })) (sym (due-stops 16896 the-job had eh _ z)) (record { number-is = refl; place-is = refl }))
+        subst (λ (k : LentJob). Answered (checkCall k sheet) (record { number = had .number; place = had .place })) is-loaded (told-stop _ [] z .answered)
 
-    pub check-goes : (sheet : Bytes) (r : Checked) → had .number ≡ 0
+    pub check-goes : (sheet : Bytes) (r : Answer) → had .number ≡ 0
         → Checks (memory ot on ol) (memory nt nn nl) (had .«old_nodes») (had .«new_nodes») (had .«old_edges») tt tests rows (had .tests) sheet r
         → Answered (checkCall (loadedJob j olds ot ol news nt nl tt tests rows w) sheet) r
     unfolding checkCall Checks goesBy ofStage
     check-goes sheet r z d =
         subst (λ (k : LentJob). Answered (checkCall k sheet) r) is-loaded
-        (due-goes 16896 the-job had eh _ (λ x. Answered x r) z wide-old wide-new
+        (due-goes 16912 the-job had eh _ (λ x. Answered x r) z wide-old wide-new
         (λ h room y. subst (λ (g : Given). Answered (outcome (readSheet (g .old) (g .new) (g .suite) sheet) (judged g)) r) (sym (y .given-is))
         (d (y .o) (y .p) (y .l) (y .old-in) (y .new-in) (y .tests-read) (y .tests-in) (y .old-nodes-n) (y .new-nodes-n) (y .old-edges-n))))
 
@@ -399,8 +392,7 @@ module _ (j : Job) (olds : ℕ) (ot on ol : List ℕ) (news : ℕ) (nt nn nl tt 
   unfolding labelCall labelPartCall goesBy ofStage outcome shownBy
   label-refused q e =
       record {
-        number-is = sym (ap (λ (x : Reading AllRead). numberOf (outcome x (λ h. labelAnswer (versionOf (label-job .old) (h .old)) (versionOf (label-job .new) (h .new)) side n))) e);
-        place-is = sym (ap (λ (x : Reading AllRead). placeOf (outcome x (λ h. labelAnswer (versionOf (label-job .old) (h .old)) (versionOf (label-job .new) (h .new)) side n))) e);
+        answered = answered-as (ap (λ (x : Reading AllRead). outcome x (λ h. labelAnswer (versionOf (label-job .old) (h .old)) (versionOf (label-job .new) (h .new)) side n)) e) (refusal-told q 0 [] .answered);
         part-is = part-none ∙ sym (ap (λ (x : Reading AllRead). shownBy x label-job side n) e);
       }
 
@@ -419,8 +411,7 @@ module _ (j : Job) (olds : ℕ) (ot on ol : List ℕ) (news : ℕ) (nt nn nl tt 
       let y = shown-side ot on ol nt nn nl (h .old) (h .new) (version-memory (label-job .old) (h .old) (p .0) (wide-old j olds ot on ol news nt nn nl tt tests rows w eo en))
       (version-memory (label-job .new) (h .new) (p .1) (wide-new j olds ot on ol news nt nn nl tt tests rows w eo en)) n side in
       record {
-        number-is = y .0 ∙ sym (ap (λ (x : Reading AllRead). numberOf (outcome x (λ g. labelAnswer (versionOf (label-job .old) (g .old)) (versionOf (label-job .new) (g .new)) side n))) e);
-        place-is = y .1 ∙ sym (ap (λ (x : Reading AllRead). placeOf (outcome x (λ g. labelAnswer (versionOf (label-job .old) (g .old)) (versionOf (label-job .new) (g .new)) side n))) e);
+        answered = answered-as (ap (λ (x : Reading AllRead). outcome x (λ g. labelAnswer (versionOf (label-job .old) (g .old)) (versionOf (label-job .new) (g .new)) side n)) e) (record { number-is = y .0; place-is = y .1 });
         part-is = y .2 ∙ sym (ap (λ (x : Reading AllRead). shownBy x label-job side n) e);
       }
 
@@ -438,28 +429,21 @@ module _ (j : Job) (olds : ℕ) (ot on ol : List ℕ) (news : ℕ) (nt nn nl tt 
       let b : had .«new_nodes» ≡ nodeCount (h .new .program) = ap (λ (t : Texts). t .«new_nodes») (eh ∙ ap dueTexts e) ∙ counts-of h .1 in
       subst (λ (x : Label). Labelled label-job side n x) (sym (er ∙ ap₂ (λ (x y : ℕ). labelBySide side x on y nn n) a b)) (label-accepted h e held)))
 
--- ---- `label_on`, `shown_on`
+-- ---- the outer functions: the scratch is zero
 
 pub on-zero : (n m : ℕ) (w₂ : List ℕ) → m ≡ n → w₂ ≡ replicate m 0 → w₂ ≡ replicate n 0
 on-zero n m w₂ e q = q ∙ ap (λ (k : ℕ). replicate k 0) e
 
-pub on-labelled : (k : LentJob) (side n : ℕ) (a : Label) (w w₁ w₂ : List ℕ) → Labelled k side n a → length w₁ ≡ length w → w₂ ≡ replicate (length w₁) 0
-    → CalledOn (labelCall k side n) (record { number = a .number; place = a .place }) w w₂
-on-labelled k side n a w w₁ w₂ t e q = record { number-is = t .number-is; place-is = t .place-is; scratch-is = on-zero (length w) (length w₁) w₂ e q }
+pub on-called : (x : Outcome) (a : Answer) (w w₁ w₂ : List ℕ) → Answered x a → length w₁ ≡ length w → w₂ ≡ replicate (length w₁) 0 → CalledOn x a w w₂
+on-called x a w w₁ w₂ t e q = record { answered = t; scratch-is = on-zero (length w) (length w₁) w₂ e q }
 
 pub on-shown : (k : LentJob) (side n : ℕ) (a : Label) (r : List ℕ) → Labelled k side n a → r ≡ partShown (k .old .text) (k .new .text) side (a .start) (a .len) → r ≡ labelPartCall k side n
 on-shown k side n a r t e = e ∙ t .part-is
 
-pub ruleset labels = (label-none, label-found, side-old, side-new, side-none, label-stop, label-goes, on-zero, on-labelled, on-shown)
+pub ruleset labels = (label-none, label-found, side-old, side-new, side-none, label-stop, label-goes, on-shown, on-called)
 
--- ---- `sheet_on`, `record_on`, `check_on`
-
-pub on-called : (x : Outcome) (a : Checked) (w w₁ w₂ : List ℕ) → Answered x a → length w₁ ≡ length w → w₂ ≡ replicate (length w₁) 0 → CalledOn x (record { number = a .number; place = a .place }) w w₂
-on-called x a w w₁ w₂ t e q = record { number-is = t .number-is; place-is = t .place-is; scratch-is = on-zero (length w) (length w₁) w₂ e q }
-
-pub on-wrote : (x : Outcome) (a : Written) (w w₁ w₂ out out′ : List ℕ) → Told x a out out′ → length w₁ ≡ length w → w₂ ≡ replicate (length w₁) 0 → WroteOn x (record { number = a .number; place = a .place }) w w₂ out out′
-on-wrote x a w w₁ w₂ out out′ t e q =
-    record { called = record { number-is = t .numbered; place-is = t .placed; scratch-is = on-zero (length w) (length w₁) w₂ e q }; output-is = t .output }
+pub on-wrote : (x : Outcome) (a : Answer) (w w₁ w₂ out out′ : List ℕ) → Told x a out out′ → length w₁ ≡ length w → w₂ ≡ replicate (length w₁) 0 → WroteOn x a w w₂ out out′
+on-wrote x a w w₁ w₂ out out′ t e q = record { told = t; scratch-is = on-zero (length w) (length w₁) w₂ e q }
 
 -- ---- the calls: what is lent is what the scratch was loaded with
 
@@ -526,14 +510,15 @@ module _ (j : Job) (ot : Bytes) (on : List Node) (ol nt : List ℕ) (nn : List N
 
   sheet-same : (room : ℕ) → sheetCall job-loaded room ≡ sheetCall job-lent room
   unfolding sheetCall
-  sheet-same room = ap (λ (x : Reading AllRead). outcome x (λ h. writing (givenBy h) room (sheetBytes (givenBy h)))) (goes-same write-sheet 16896 (omega arith))
+  sheet-same room = ap (λ (x : Reading AllRead). outcome x (λ h. writing (givenBy h) room (sheetBytes (givenBy h)))) (goes-same write-sheet 16912 (omega arith))
 
   wrote-is : (x y : Outcome) (r : Answer) (w₂ out out′ : List ℕ) → x ≡ y → WroteOn x r w₁ w₂ out out′ → Wrote y r j j w w₂ out out′
   wrote-is x y r w₂ out out′ e h =
       subst (λ (z : Outcome). Wrote z r j j w w₂ out out′) e
       (record {
-        called = record { number-is = h .called .number-is; place-is = h .called .place-is; job-is = refl; scratch-is = h .called .scratch-is ∙ ap (λ (n : ℕ). replicate n 0) long-same };
-        output-is = h .output-is;
+        told = h .told;
+        job-is = refl;
+        scratch-is = h .scratch-is ∙ ap (λ (n : ℕ). replicate n 0) long-same;
       })
 
   -- `write_sheet`
@@ -543,7 +528,7 @@ module _ (j : Job) (ot : Bytes) (on : List Node) (ol nt : List ℕ) (nn : List N
   record-same : (i room : ℕ) → recordCall job-loaded i room ≡ recordCall job-lent i room
   unfolding recordCall
   record-same i room =
-      ap (λ (x : Reading AllRead). outcome x (λ h. choose (ltb i (testCount (givenBy h .suite))) (writing (givenBy h) room (recordBytes (givenBy h) i)) (refusal 6 0))) (goes-same write-record 16896 (omega arith))
+      ap (λ (x : Reading AllRead). outcome x (λ h. choose (ltb i (testCount (givenBy h .suite))) (writing (givenBy h) room (recordBytes (givenBy h) i)) (refusal 6 0))) (goes-same write-record 16912 (omega arith))
 
   -- `write_record`
   pub record-is : (i : ℕ) (r : Answer) (w₂ out out′ : List ℕ) → WroteOn (recordCall job-loaded i (length out)) r w₁ w₂ out out′ → Wrote (recordCall job-lent i (length out)) r j j w w₂ out out′
@@ -552,12 +537,12 @@ module _ (j : Job) (ot : Bytes) (on : List Node) (ol nt : List ℕ) (nn : List N
   called-is : (x y : Outcome) (r : Answer) (w₂ : List ℕ) → x ≡ y → CalledOn x r w₁ w₂ → Called y r j j w w₂
   called-is x y r w₂ e h =
       subst (λ (z : Outcome). Called z r j j w w₂) e
-      (record { number-is = h .number-is; place-is = h .place-is; job-is = refl; scratch-is = h .scratch-is ∙ ap (λ (n : ℕ). replicate n 0) long-same })
+      (record { answered = h .answered; job-is = refl; scratch-is = h .scratch-is ∙ ap (λ (n : ℕ). replicate n 0) long-same })
 
   check-same : (sheet : Bytes) → checkCall job-loaded sheet ≡ checkCall job-lent sheet
   unfolding checkCall
   check-same sheet =
-      ap (λ (x : Reading AllRead). outcome x (λ h. outcome (readSheet (h .old .program) (h .new .program) (h .tests .suite) sheet) (judged (givenBy h)))) (goes-same check-sheet 16896 (omega arith))
+      ap (λ (x : Reading AllRead). outcome x (λ h. outcome (readSheet (h .old .program) (h .new .program) (h .tests .suite) sheet) (judged (givenBy h)))) (goes-same check-sheet 16912 (omega arith))
 
   -- `check_sheet`
   pub check-is : (sheet : Bytes) (r : Answer) (w₂ : List ℕ) → CalledOn (checkCall job-loaded sheet) r w₁ w₂ → Called (checkCall job-lent sheet) r j j w w₂

@@ -18,10 +18,10 @@ use Rattle.rules.specs.Job.{Given, Outcome, Version, bySide, checkAnswer, isNod
 use Rattle.rules.specs.Promises.{MarksTrue, Plain, RunsAlike}
 use Rattle.rules.specs.Theorems.{answers-plain, demand3, label-shown}
 use Rattle.rules.specs.Proofs.JobLaws.{known, outcome-wrote, wrote-choose}
+use Rattle.answer.specs.declared.Answer.{Answer}
 use Rattle.records.specs.declared.Job.{Job}
 use Rattle.held.specs.Held.{AllRead}
 use Rattle.held.specs.HeldLaws.{held-tests-parts, texts-accepted, version-read}
-use Rattle.job.specs.declared.Answer.{Answer}
 use Rattle.job_calls.specs.Calls.{Called, LentJob, checkCall, givenBy, goesBy, labelCall, labelPartCall, labelScratch, pairScratch, recordCall, sheetCall, shownBy, versionOf}
 use Rattle.job_calls.specs.DueLaws.{due-cases, goes-held}
 
@@ -188,4 +188,4 @@ zero-passes k sheet z =
 -- By the contract of `check_sheet`: where it answers 0, every test with no R line on the sheet goes the same in both versions.
 pub left-off-alike {ℓ κ} : (St : Type ℓ) (Out : Type κ) (k : LentJob) (sheet : Bytes) (r : Answer) (j j′ : Job) (w w′ : List ℕ) → Called (checkCall k sheet) r j j′ w w′ → r .number ≡ 0
     → (g : Given) × (readTexts k ≡ accepted g) × ((i : ℕ) → i < testCount (g .suite) → leftOff sheet (testName (g .suite) i) ≡ true → RunsAlike St Out g i)
-left-off-alike St Out k sheet r j j′ w w′ c z = lent-demand3 St Out k .checker sheet (zero-passes k sheet (sym (c .number-is) ∙ z))
+left-off-alike St Out k sheet r j j′ w w′ c z = lent-demand3 St Out k .checker sheet (zero-passes k sheet (sym (c .answered .number-is) ∙ z))

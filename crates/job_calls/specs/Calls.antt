@@ -12,15 +12,16 @@ use Rattle.rules.specs.Graph.{nodeCount, edgeCount}
 use Rattle.rules.specs.ProgramFile.{Listing}
 use Rattle.rules.specs.SuiteFile.{TestListing, testCount}
 use Rattle.rules.specs.Sheet.{readSheet}
-use Rattle.rules.specs.Job.{Call, Given, Outcome, Version, check-sheet, judged, labelAnswer, labelShown, numberOf, ofStage, outcome, outputAfter, placeOf, read-tests, recordBytes, refusal, sheetBytes, show-label, stageAfter, write-record, write-sheet, writing}
+use Rattle.rules.specs.Job.{Call, Given, Outcome, Version, check-sheet, judged, labelAnswer, labelShown, ofStage, outcome, read-tests, recordBytes, refusal, sheetBytes, show-label, stageAfter, write-record, write-sheet, writing}
+use Rattle.answer.specs.declared.Answer.{Answer}
+use Rattle.answer.specs.Outcomes.{Answered, Told}
 use Rattle.reader.specs.declared.Count.{Count}
 use Rattle.intake.specs.declared.Texts.{Texts}
 use Rattle.intake.specs.Ready.{refusedTexts}
 use Rattle.records.specs.declared.Job.{Job}
 use Rattle.records.specs.Jobs.{sameJob}
 use Rattle.records.specs.Shown.{partShown}
-use Rattle.held.specs.Held.{AllRead, Lent, heldTests, numbers}
-use Rattle.job.specs.declared.Answer.{Answer}
+use Rattle.held.specs.Held.{AllRead, Lent, heldTests, jobAt, numbers}
 use Rattle.job_calls.specs.declared.Label.{Label}
 
 -- ---- what is lent
@@ -50,7 +51,7 @@ goesBy c asked k =
 
 -- How many numbers of scratch the calls ask for: the table of the pairs; to show a label, the reader's work table.
 abbrev pub pairScratch : ℕ
-pairScratch = 16896
+pairScratch = 16912
 
 abbrev pub labelScratch : ℕ
 labelScratch = 8128
@@ -96,15 +97,15 @@ labelPartCall k side n = shownBy (goesBy show-label labelScratch k) k side n
 
 -- A call that writes nothing: number and place; the job is as it was, and the scratch is zero.
 pub record Called (x : Outcome) (r : Answer) (j j′ : Job) (w w′ : List ℕ) : Type 0 where
-  pub number-is : r .number ≡ numberOf x
-  pub place-is : r .place ≡ placeOf x
+  pub answered : Answered x r
   pub job-is : j′ ≡ j
   pub scratch-is : w′ ≡ replicate (length w) 0
 
 -- A call that writes: the same, and the output.
 pub record Wrote (x : Outcome) (r : Answer) (j j′ : Job) (w w′ out out′ : List ℕ) : Type 0 where
-  pub called : Called x r j j′ w w′
-  pub output-is : out′ ≡ outputAfter x out
+  pub told : Told x r out out′
+  pub job-is : j′ ≡ j
+  pub scratch-is : w′ ≡ replicate (length w) 0
 
 -- A call that shows a part of a text.
 pub record Shown (part r : Bytes) (j j′ : Job) (w w′ : List ℕ) : Type 0 where
@@ -124,25 +125,12 @@ loadedJob j olds ot ol news nt nl text tests rows w =
     lentJob j (numbers olds ot (unloaded 0 w) ol) (numbers news nt (unloaded 2048 w) nl) text tests rows (length w)
 
 -- `suite_due`: the counts of a job whose programs have these counts, or 14.
-unfoldable pub jobBy : Count → Count → ℕ → Job
-jobBy o p n =
-    record {
-      stage = stageAfter read-tests;
-      «old_procs» = o .procs;
-      «old_nodes» = o .nodes;
-      «old_edges» = o .edges;
-      «new_procs» = p .procs;
-      «new_nodes» = p .nodes;
-      «new_edges» = p .edges;
-      tests = n;
-    }
-
 unfoldable pub countsBy : Count → Count → ℕ → Texts
 countsBy o p n = record { number = 0; place = 0; «old_nodes» = o .nodes; «old_edges» = o .edges; «new_nodes» = p .nodes; «new_edges» = p .edges; tests = n }
 
 unfoldable pub textsDue : Job → Count → Count → Option TestListing → Texts
 textsDue j o p none = refusedTexts 14 0
-textsDue j o p (some l) = choose (sameJob j (jobBy o p (testCount (l .suite)))) (countsBy o p (testCount (l .suite))) (refusedTexts 14 0)
+textsDue j o p (some l) = choose (sameJob j (jobAt (stageAfter read-tests) o p (testCount (l .suite)))) (countsBy o p (testCount (l .suite))) (refusedTexts 14 0)
 
 -- `due`: the refusal, or the counts of what is held.
 unfoldable pub dueTexts : Reading AllRead → Texts
@@ -160,13 +148,12 @@ dueTexts (accepted h) =
 
 -- The outer functions: number and place, and the scratch is zero; of those that write, the output.
 pub record CalledOn (x : Outcome) (r : Answer) (w w′ : List ℕ) : Type 0 where
-  pub number-is : r .number ≡ numberOf x
-  pub place-is : r .place ≡ placeOf x
+  pub answered : Answered x r
   pub scratch-is : w′ ≡ replicate (length w) 0
 
 pub record WroteOn (x : Outcome) (r : Answer) (w w′ out out′ : List ℕ) : Type 0 where
-  pub called : CalledOn x r w w′
-  pub output-is : out′ ≡ outputAfter x out
+  pub told : Told x r out out′
+  pub scratch-is : w′ ≡ replicate (length w) 0
 
 -- `label_at`: where the label of the node n stands, in a version that has so many nodes, or 6.
 abbrev pub noLabel : Label
@@ -181,6 +168,5 @@ labelBySide side olds on news nn n = choose (eqb side 0) (labelOfNode olds on n)
 
 -- `label_in`: number and place, and where the part that is shown stands.
 pub record Labelled (k : LentJob) (side n : ℕ) (r : Label) : Type 0 where
-  pub number-is : r .number ≡ numberOf (labelCall k side n)
-  pub place-is : r .place ≡ placeOf (labelCall k side n)
+  pub answered : Answered (labelCall k side n) (record { number = r .number; place = r .place })
   pub part-is : partShown (k .old .text) (k .new .text) side (r .start) (r .len) ≡ labelPartCall k side n

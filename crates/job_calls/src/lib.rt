@@ -1,7 +1,8 @@
 // The calls of a job at stage 3, over lent memory: the sheet, a record line, the check of a sheet, a label. The work of each is done on
 // values and tables of numbers; the call itself takes the job and the nodes out of what is lent. The scratch is zero afterwards.
+use answer::Answer;
 use intake::Texts;
-use job::Answer;
+use intake::refused;
 use reader::Count;
 use records::Job;
 use records::Node;
@@ -13,28 +14,11 @@ ghost use mathlib.Core.Path.{_≡_};
 ghost use Prim.Native.Nat.{_≤_};
 ghost use lib.ListN.{length, replicate};
 ghost use Rattle.rules.specs.Job.{write-sheet};
-ghost use Rattle.checker.specs.Checking.{Answered};
-ghost use Rattle.intake.specs.Ready.{refusedTexts};
+ghost use Rattle.answer.specs.Outcomes.{Answered, Told};
 ghost use Rattle.held.specs.Held.{lent, numbers, suiteLeft};
-ghost use Rattle.writer.specs.Sheets.{Told};
 ghost use Rattle.job_calls.specs.Calls.{Called, CalledOn, Labelled, Shown, Wrote, WroteOn, checkCall, dueTexts, goesBy, labelBySide, labelCall, labelOfNode, labelPartCall, lentJob, loadedJob, recordCall, sheetCall, textsDue};
 
 // ---- 13 and 14
-
-// A refusal, by number.
-fn refused(number: usize) -> Texts
-    ensures { λ r. ⌜ r ≡ refusedTexts number 0 ⌝ }
-{
-    Texts {
-        number,
-        place: 0,
-        old_nodes: 0,
-        old_edges: 0,
-        new_nodes: 0,
-        new_edges: 0,
-        tests: 0,
-    }
-}
 
 // The counts, where the tables of the tests and the job are what reading leaves, else 14.
 fn suite_due(job: Job, o: Count, p: Count, tt: &[u8], tests: &[usize], rows: &[u64]) -> Texts
@@ -45,7 +29,7 @@ fn suite_due(job: Job, o: Count, p: Count, tt: &[u8], tests: &[usize], rows: &[u
     let mut words = [0u64; 3200];
     let t = held::suite_left(tt, o.edges, tests, rows, &mut names, &mut words);
     if t.number != 0 {
-        return refused(14);
+        return refused(14, 0);
     }
     let left = Job {
         stage: 3,
@@ -68,7 +52,7 @@ fn suite_due(job: Job, o: Count, p: Count, tt: &[u8], tests: &[usize], rows: &[u
             tests: t.count,
         };
     }
-    refused(14)
+    refused(14, 0)
 }
 
 // 13, 14, or the counts of what job and tables hold, for a call that asks for so many numbers of scratch. The texts of the programs are read
@@ -93,18 +77,18 @@ fn due(
     ensures { λ r. ⌜ r ≡ dueTexts (goesBy write-sheet asked (lentJob job (numbers olds (now (ot .entry)) (now (on .entry)) (now (ol .entry))) (numbers news (now (nt .entry)) (now (nn .entry)) (now (nl .entry))) (now (tt .entry)) (now (tests .entry)) (now (rows .entry)) (length (now (scratch .entry))))) ⌝ }
 {
     if job.stage != 3 {
-        return refused(13);
+        return refused(13, 0);
     }
     if scratch.len() < asked {
-        return refused(14);
+        return refused(14, 0);
     }
     let o = held::version_left(olds, ot, on, ol, scratch);
     if o.number != 0 {
-        return refused(14);
+        return refused(14, 0);
     }
     let p = held::version_left(news, nt, nn, nl, scratch);
     if p.number != 0 {
-        return refused(14);
+        return refused(14, 0);
     }
     suite_due(job, o, p, tt, tests, rows)
 }
@@ -125,7 +109,7 @@ fn sheet_in(
     rows: &[u64],
     scratch: &mut [usize],
     out: &mut [u8],
-) -> writer::Answer
+) -> Answer
     ensures { λ r. ⌜ Told (sheetCall (loadedJob job olds (now (ot .entry)) (now (ol .entry)) news (now (nt .entry)) (now (nl .entry)) (now (tt .entry)) (now (tests .entry)) (now (rows .entry)) (now (scratch .entry))) (length (now (out .entry)))) r (now (out .entry)) (now (out .exit)) ⌝ }
 {
     let mut on = [0usize; 2048];
@@ -134,7 +118,7 @@ fn sheet_in(
     copy(&mut nn, 0, run(scratch, 2048, 2048));
     let had = due(
         job,
-        16896,
+        16912,
         olds,
         ot,
         &on,
@@ -149,7 +133,7 @@ fn sheet_in(
         scratch,
     );
     if had.number != 0 {
-        return writer::Answer {
+        return Answer {
             number: had.number,
             place: had.place,
         };
@@ -189,10 +173,7 @@ fn sheet_on(
         out,
     );
     clear(scratch);
-    Answer {
-        number: a.number,
-        place: a.place,
-    }
+    a
 }
 
 // Writes the sheet that the selector gives.
@@ -246,7 +227,7 @@ fn record_in(
     test: usize,
     scratch: &mut [usize],
     out: &mut [u8],
-) -> writer::Answer
+) -> Answer
     ensures { λ r. ⌜ Told (recordCall (loadedJob job olds (now (ot .entry)) (now (ol .entry)) news (now (nt .entry)) (now (nl .entry)) (now (tt .entry)) (now (tests .entry)) (now (rows .entry)) (now (scratch .entry))) test (length (now (out .entry)))) r (now (out .entry)) (now (out .exit)) ⌝ }
 {
     let mut on = [0usize; 2048];
@@ -255,7 +236,7 @@ fn record_in(
     copy(&mut nn, 0, run(scratch, 2048, 2048));
     let had = due(
         job,
-        16896,
+        16912,
         olds,
         ot,
         &on,
@@ -270,7 +251,7 @@ fn record_in(
         scratch,
     );
     if had.number != 0 {
-        return writer::Answer {
+        return Answer {
             number: had.number,
             place: had.place,
         };
@@ -326,10 +307,7 @@ fn record_on(
         out,
     );
     clear(scratch);
-    Answer {
-        number: a.number,
-        place: a.place,
-    }
+    a
 }
 
 // Writes the record line of a test, by its number.
@@ -384,7 +362,7 @@ fn check_in(
     rows: &[u64],
     sheet: &[u8],
     scratch: &mut [usize],
-) -> checker::Answer
+) -> Answer
     ensures { λ r. ⌜ Answered (checkCall (loadedJob job olds (now (ot .entry)) (now (ol .entry)) news (now (nt .entry)) (now (nl .entry)) (now (tt .entry)) (now (tests .entry)) (now (rows .entry)) (now (scratch .entry))) (now (sheet .entry))) r ⌝ }
 {
     let mut on = [0usize; 2048];
@@ -393,7 +371,7 @@ fn check_in(
     copy(&mut nn, 0, run(scratch, 2048, 2048));
     let had = due(
         job,
-        16896,
+        16912,
         olds,
         ot,
         &on,
@@ -408,7 +386,7 @@ fn check_in(
         scratch,
     );
     if had.number != 0 {
-        return checker::Answer {
+        return Answer {
             number: had.number,
             place: had.place,
         };
@@ -466,10 +444,7 @@ fn check_on(
         scratch,
     );
     clear(scratch);
-    Answer {
-        number: a.number,
-        place: a.place,
-    }
+    a
 }
 
 // Checks a sheet, the selector's or another's. Success is to pass.

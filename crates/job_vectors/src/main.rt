@@ -42,18 +42,6 @@ fn fill_out(out: &mut [u8]) {
     }
 }
 
-// Whether every byte from the place on is 170 still.
-fn kept(out: &[u8], from: usize) -> bool {
-    let mut i = from;
-    while i < out.len() {
-        if out[i] != 170 {
-            return false;
-        }
-        i += 1;
-    }
-    true
-}
-
 fn print_room(word: &[u8], answer: u64, is_kept: bool) {
     io::write_all(STDOUT_FILENO, word);
     files::print_field(number_of(answer));
@@ -80,7 +68,7 @@ fn one_room(
     }
     fill_out(out);
     let answer = rivetyellow::ry_sheet(old, new, tests, &mut out[..n]);
-    print_room(word, answer, kept(out, from));
+    print_room(word, answer, files::untouched(out, from));
 }
 
 // The same for one byte short of the n that were written, and for n.

@@ -1,6 +1,6 @@
 -- Sets of numbers as bits in words of 64 bits: one bit set, the other bits staying as they were; the bits of a word from a number on.
 use mathlib.Core.Path.{_≡_, refl, sym, ap, ap₂, _∙_}
-use mathlib.Core.Bool.{Bool, true, false}
+use mathlib.Core.Bool.{Bool, false}
 use mathlib.Core.List.{List}
 use Prim.Native.Nat.{ℕ, zero, suc, _+_, _*_, _/_, _%_, _^_, _≤_, _<_, max}
 use native.Mathlib.Numerals.{one-add}
@@ -14,6 +14,7 @@ use lib.Pow.{shl-exact, shr-shr}
 use lib.Seq.{getD-set-other, getD-set-same, set-out}
 use borrow.Author.Tests.{eq-eqb, le-leb, lt-leb, ne-eqb}
 use Rattle.laws.specs.Tests.{_and_, _or_}
+use Rattle.laws.specs.TestLaws.{or-swap}
 use Rattle.laws.specs.Slices.{below-or, same-or}
 use Rattle.laws.specs.Bits.{bitAt, bitIn, bit-none, bit-suc, bit-zero}
 
@@ -57,13 +58,6 @@ bit-power (suc s) zero =
 bit-power (suc s) (suc j) =
     let e : 2 ^ suc s / 2 ≡ 2 ^ s = omega arith in
     bit-suc (2 ^ suc s) j ∙ ap (λ (w : ℕ). bitAt w j) e ∙ bit-power s j ∙ same-suc s j
-
-pub or-swap : (a b : Bool) → (a or b) ≡ (b or a)
-unfolding _or_
-or-swap true true = refl
-or-swap true false = refl
-or-swap false true = refl
-or-swap false false = refl
 
 -- The bit i is set, and every other bit is as it was.
 pub bit-with : (ws : List ℕ) (i j : ℕ) → i < 64 * length ws → bitIn (withBit ws i) j ≡ (eqb i j or bitIn ws j)

@@ -68,6 +68,13 @@ unfolding _or_
 or-assoc true b d = refl
 or-assoc false b d = refl
 
+pub or-swap : (a b : Bool) → (a or b) ≡ (b or a)
+unfolding _or_
+or-swap true true = refl
+or-swap true false = refl
+or-swap false true = refl
+or-swap false false = refl
+
 -- What the second test says where the first passes, and the other way.
 pub implied : (a b : Bool) → (a ⇒ b) ≡ true → a ≡ true → b ≡ true
 unfolding _⇒_

@@ -2,19 +2,19 @@
 use mathlib.Core.Path.{_≡_, refl, sym, _∙_}
 use mathlib.Core.Bool.{Bool, true, false}
 use mathlib.Core.Option.{none, some}
-use mathlib.Core.List.{[], _∷_}
-use Prim.Native.Nat.{ℕ, _+_, _≤_, _<_, min}
+use mathlib.Core.List.{List, [], _∷_}
+use Prim.Native.Nat.{ℕ, _≤_, _<_, min}
 use native.Mathlib.Omega.{arith}
 use lib.Dec.{ltb}
-use lib.ListN.{length, take, drop}
+use lib.ListN.{length}
 use borrow.Author.Tests.{lt-ltb, le-ltb}
 use Rattle.laws.specs.Tests.{_and_, choose}
-use Rattle.rules.specs.Text.{Bytes, same, empty, split, valueFrom, isName, isLabel, isWord, isNumber}
+use Rattle.laws.specs.TestLaws.{and-not}
+use Rattle.rules.specs.Text.{Bytes, same, empty, valueFrom, isName, isLabel, isWord, isNumber}
 use Rattle.rules.specs.Graph.{Kind, E, S, C, X, kindNumber}
 use Rattle.rules.specs.ProgramFile.{node-line, malformed, kindOf, isNode, isEdge, formOf}
-use Rattle.rules.specs.Proofs.TextLaws.{same-true, split-cons}
-use Rattle.text.specs.Scans.{span}
-use Rattle.text.specs.SplitLaws.{cut, uncut, first-last, first-more}
+use Rattle.rules.specs.Proofs.TextLaws.{same-true}
+use Rattle.text.specs.NumberLaws.{no-number, a-number, number-kept}
 use Rattle.lines.specs.declared.Form.{Form}
 use Rattle.lines.specs.declared.Form.the-variants.{Malformed, Proc, Node, Edge}
 use Rattle.lines.specs.Shape.{shape}
@@ -124,33 +124,33 @@ module _ (a b c : Bytes) (t : Bool) (e : t ≡ same a (69 ∷ [])) where
 
 pub ruleset nodes = (if-so, if-not, node-entry, node-step, node-call, node-exit, node-none)
 
--- ---- `is_edge`, `edge`
+-- ---- `edge`
 
-module _ (a b c : Bytes) (t : Bool) (e : t ≡ isNumber a) where
-  pub edge-from : t ≡ false → false ≡ isEdge a b c
+-- Fields that are not those of an edge.
+edge-not : (a b c : Bytes) → isEdge a b c ≡ false → Malformed ≡ shape (formOf ((66 ∷ []) ∷ a ∷ b ∷ c ∷ []))
+unfolding formOf choose same _and_ shape
+edge-not a b c n = sym (simp n)
+
+module _ (a b c : Bytes) (i : ℕ) (e : i ≡ choose (isNumber a) (min (valueFrom 0 a) 65536) 65537) where
+  pub edge-from : 65536 < i → Malformed ≡ shape (formOf ((66 ∷ []) ∷ a ∷ b ∷ c ∷ []))
   unfolding isEdge _and_
-  edge-from n = sym (simp (← e, n))
+  edge-from h = edge-not a b c (simp (no-number a i e h))
 
-  module _ (u : Bool) (y : t ≡ true) (d : u ≡ isWord b) where
-    pub edge-word : u ≡ false → false ≡ isEdge a b c
+  module _ (h : i ≤ 65536) (j : ℕ) (f : j ≡ choose (isNumber c) (min (valueFrom 0 c) 65536) 65537) where
+    pub edge-to : 65536 < j → Malformed ≡ shape (formOf ((66 ∷ []) ∷ a ∷ b ∷ c ∷ []))
     unfolding isEdge _and_
-    edge-word n = sym (simp (← e, y, ← d, n))
+    edge-to k = edge-not a b c (simp (a-number a i e h, no-number c j f k) (and-not (isWord b)))
 
-    pub edge-to : (v : Bool) → u ≡ true → v ≡ isNumber c → v ≡ isEdge a b c
-    unfolding isEdge _and_
-    edge-to v n f = f ∙ sym (simp (← e, y, ← d, n))
+    module _ (k : j ≤ 65536) (t : Bool) (d : t ≡ isWord b) where
+      pub edge-word : t ≡ false → Malformed ≡ shape (formOf ((66 ∷ []) ∷ a ∷ b ∷ c ∷ []))
+      unfolding isEdge _and_
+      edge-word n = edge-not a b c (simp (a-number a i e h, ← d, n))
 
-module _ (a b c : Bytes) (t : Bool) (e : t ≡ isEdge a b c) where
-  pub edge-not : t ≡ false → Malformed ≡ shape (formOf ((66 ∷ []) ∷ a ∷ b ∷ c ∷ []))
-  unfolding formOf choose same _and_ shape
-  edge-not n = sym (simp (← e, n))
+      pub edge-is : t ≡ true → Edge i (length a) (length b) j ≡ shape (formOf ((66 ∷ []) ∷ a ∷ b ∷ c ∷ []))
+      unfolding isEdge formOf choose same _and_ shape
+      edge-is y = sym (simp (a-number a i e h, ← d, y, a-number c j f k, ← number-kept a i e h, ← number-kept c j f k))
 
-  pub edge-is : (i j : ℕ) → t ≡ true → i ≡ min (valueFrom 0 a) 65536 → j ≡ min (valueFrom 0 c) 65536
-      → Edge i (length a) (length b) j ≡ shape (formOf ((66 ∷ []) ∷ a ∷ b ∷ c ∷ []))
-  unfolding formOf choose same _and_ shape
-  edge-is i j y p q = sym (simp (← e, y, p, q))
-
-pub ruleset edges = (edge-from, edge-word, edge-to, edge-not, edge-is)
+pub ruleset edges = (edge-from, edge-to, edge-word, edge-is)
 
 -- ---- `four`
 
@@ -170,33 +170,22 @@ pub ruleset fours = (four-node, four-edge, four-not)
 
 -- ---- `form_of`
 
-module _ (l f : Bytes) (ef : f ≡ take (span 44 l) l) where
-  pub line-one : length l ≤ length f → Malformed ≡ shape (formOf (split 44 l))
-  unfolding formOf shape
-  line-one h = sym (simp (first-last 44 l f ef h))
+-- The form of a line with these fields. One field, three, and more than four have none.
+abbrev pub the-form : List Bytes → Form
+the-form fs = shape (formOf fs)
 
-  module _ (rest a : Bytes) (h : length f < length l) (er : rest ≡ drop (length f + 1) l) (ea : a ≡ take (span 44 rest) rest) where
-    pub line-two : (r : Form) → length rest ≤ length a → r ≡ shape (formOf (f ∷ rest ∷ [])) → r ≡ shape (formOf (split 44 l))
-    line-two r k g = g ∙ sym (simp (first-more 44 l f ef rest h er, first-last 44 rest a ea k))
+pub one-bad : (l : Bytes) → Malformed ≡ shape (formOf (l ∷ []))
+unfolding formOf shape
+one-bad l = refl
 
-    module _ (more b : Bytes) (k : length a < length rest) (em : more ≡ drop (length a + 1) rest) (eb : b ≡ take (span 44 more) more) where
-      pub line-three : length more ≤ length b → Malformed ≡ shape (formOf (split 44 l))
-      unfolding formOf shape
-      line-three i = sym (simp (first-more 44 l f ef rest h er, first-more 44 rest a ea more k em, first-last 44 more b eb i))
+pub three-bad : (f a b : Bytes) → Malformed ≡ shape (formOf (f ∷ a ∷ b ∷ []))
+unfolding formOf shape
+three-bad f a b = refl
 
-      module _ (c : Bytes) (i : length b < length more) (ec : c ≡ drop (length b + 1) more) (n : ℕ) (en : n ≡ span 44 c) where
-        all-fields : split 44 l ≡ f ∷ a ∷ b ∷ split 44 c
-        all-fields = simp (first-more 44 l f ef rest h er, first-more 44 rest a ea more k em, first-more 44 more b eb c i ec)
+pub five-bad : (f a b c d : Bytes) (fs : List Bytes) → Malformed ≡ shape (formOf (f ∷ a ∷ b ∷ c ∷ d ∷ fs))
+unfolding formOf shape
+five-bad f a b c d fs = refl
 
-        pub line-four : (r : Form) → length c ≤ n → r ≡ shape (formOf (f ∷ a ∷ b ∷ c ∷ [])) → r ≡ shape (formOf (split 44 l))
-        line-four r j g = g ∙ sym (simp (all-fields, uncut 44 c n en j))
+pub ruleset wholes = (one-bad, three-bad, five-bad)
 
-        pub line-five : n < length c → Malformed ≡ shape (formOf (split 44 l))
-        unfolding formOf shape
-        line-five j =
-            let s = split-cons 44 (drop (n + 1) c) in
-            sym (simp (all-fields, cut 44 c (take n c) (drop (n + 1) c) n en j refl refl, s .2))
-
-pub ruleset wholes = (line-one, line-two, line-three, line-four, line-five)
-
-pub ruleset all = (twos, suits, nodes, edges, fours, wholes)
+pub ruleset all = (twos, suits, nodes, edges, fours)

@@ -7,7 +7,7 @@ use native.Mathlib.Omega.{arith}
 use lib.ListN.{length, getD}
 use Rattle.laws.specs.Lists.{snoc-length, snoc-cases, snoc-old, snoc-new}
 use Rattle.rules.specs.Text.{Bytes, fieldsOf, value, accepted}
-use Rattle.rules.specs.Graph.{Node, Edge, noNode, noEdge, nameAt, labelAt, calleeAt, wordAt, procCount, nodeCount, edgeCount}
+use Rattle.rules.specs.Graph.{Node, Edge, noNode, noEdge, nameAt, labelAt, calleeAt, procCount, nodeCount, edgeCount}
 use Rattle.rules.specs.ProgramFile.{Line, proc-line, node-line, edge-line, malformed, formOf, Listing, nothingRead, current, takeLine, stepProgram}
 use Rattle.rules.specs.Places.{Part}
 use Rattle.rules.specs.Proofs.ProgramLaws.{Sound, sound-none, sound-step}
@@ -16,12 +16,11 @@ use Rattle.lines.specs.Stands.{Stands}
 
 pub record Known (text : Bytes) (s : Listing) : Type 0 where
   pub sound : Sound (s .program)
-  -- each name, label, callee and word stands in the text
+  -- each name, label and callee stands in the text
   pub names : (q : ℕ) → q < procCount (s .program) → Part text (getD (s .places .nameStarts) q 0) (nameAt (s .program) q)
   pub labels : (n : ℕ) → n < nodeCount (s .program) → Part text (getD (s .places .labelStarts) n 0) (labelAt (s .program) n)
   pub callees : (n : ℕ) → n < nodeCount (s .program)
       → Part text (getD (s .places .labelStarts) n 0 + length (labelAt (s .program) n) + 1) (calleeAt (s .program) n)
-  pub words : (e : ℕ) → e < edgeCount (s .program) → Part text (getD (s .places .wordStarts) e 0) (wordAt (s .program) e)
   -- each list of places has one for each procedure, node or edge
   pub nameStarts : length (s .places .nameStarts) ≡ procCount (s .program)
   pub procLines : length (s .places .procLines) ≡ procCount (s .program)
@@ -41,7 +40,6 @@ known-none text =
       names = λ q h. none-below q h;
       labels = λ n h. none-below n h;
       callees = λ n h. none-below n h;
-      words = λ e h. none-below e h;
       nameStarts = refl;
       procLines = refl;
       labelStarts = refl;
@@ -76,7 +74,6 @@ known-after text n at s (proc-line name) k h p =
       names = both-snoc [] (s .program .procs) name (s .places .nameStarts) (at + 2) (k .nameStarts) (λ (i : ℕ) (w : Bytes). Part text i w) (k .names) p;
       labels = k .labels;
       callees = k .callees;
-      words = k .words;
       nameStarts = counted-snoc [] (s .program .procs) name (s .places .nameStarts) (at + 2) (k .nameStarts);
       procLines = counted-snoc [] (s .program .procs) name (s .places .procLines) n (k .procLines);
       labelStarts = k .labelStarts;
@@ -91,7 +88,6 @@ known-after text n at s (node-line kind label callee) k h p =
       labels = both-snoc noNode (s .program .nodes) v (s .places .labelStarts) (at + 4) (k .labelStarts) (λ (i : ℕ) (v : Node). Part text i (v .label)) (k .labels) (p .0);
       callees = both-snoc noNode (s .program .nodes) v (s .places .labelStarts) (at + 4) (k .labelStarts)
           (λ (i : ℕ) (v : Node). Part text (i + length (v .label) + 1) (v .callee)) (k .callees) (p .1);
-      words = k .words;
       nameStarts = k .nameStarts;
       procLines = k .procLines;
       labelStarts = counted-snoc noNode (s .program .nodes) v (s .places .labelStarts) (at + 4) (k .labelStarts);
@@ -105,7 +101,6 @@ known-after text n at s (edge-line from word to) k h p =
       names = k .names;
       labels = k .labels;
       callees = k .callees;
-      words = both-snoc noEdge (s .program .edges) x (s .places .wordStarts) (at + length from + 3) (k .wordStarts) (λ (i : ℕ) (x : Edge). Part text i (x .word)) (k .words) p;
       nameStarts = k .nameStarts;
       procLines = k .procLines;
       labelStarts = k .labelStarts;

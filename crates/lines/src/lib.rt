@@ -5,7 +5,7 @@ ghost use lib.ListN.{length};
 ghost use Rattle.laws.specs.Tests.{choose};
 ghost use Rattle.rules.specs.Text.{bytes, fieldsOf};
 ghost use Rattle.rules.specs.Graph.{E, S, C};
-ghost use Rattle.rules.specs.ProgramFile.{isNode, isEdge, formOf};
+ghost use Rattle.rules.specs.ProgramFile.{isNode, formOf};
 ghost use Rattle.lines.specs.Shape.{shape};
 
 // What a line says, by lengths and numbers; a number above 65,536 counts as 65,536.
@@ -91,26 +91,19 @@ fn node(kind: &[u8], label: &[u8], callee: &[u8]) -> Form
     Form::Malformed
 }
 
-// Whether the fields are those of an edge.
-fn is_edge(from: &[u8], word: &[u8], to: &[u8]) -> bool
-    ensures { λ r. ⌜ r ≡ isEdge (now (from .entry)) (now (word .entry)) (now (to .entry)) ⌝ }
-{
-    if text::is_number(from) {
-        if text::is_word(word) {
-            return text::is_number(to);
-        }
-        return false;
-    }
-    false
-}
-
 // What the fields after `B` say.
 fn edge(from: &[u8], word: &[u8], to: &[u8]) -> Form
     ensures { λ r. ⌜ r ≡ shape (formOf (bytes "B" ∷ (now (from .entry) ∷ (now (word .entry) ∷ (now (to .entry) ∷ []))))) ⌝ }
 {
-    if is_edge(from, word, to) {
-        let source = text::value(from);
-        let target = text::value(to);
+    let source = text::number(from);
+    if 65536 < source {
+        return Form::Malformed;
+    }
+    let target = text::number(to);
+    if 65536 < target {
+        return Form::Malformed;
+    }
+    if text::is_word(word) {
         return Form::Edge(source, from.len(), word.len(), target);
     }
     Form::Malformed
@@ -148,7 +141,7 @@ pub fn form_of(l: &[u8]) -> Form
         return Form::Malformed;
     }
     let c = text::after(more, b.len() + 1);
-    if text::find(c, 44) < c.len() {
+    if text::find_short(c, 44) < c.len() {
         return Form::Malformed;
     }
     four(f, a, b, c)

@@ -8,7 +8,7 @@ use native.Mathlib.Nat.{div-mul-le-self, mod-eq-of-lt, zero-add}
 use native.Mathlib.Omega.{arith}
 use borrow.Author.Tests.{lt-ltb, le-ltb, le-leb, lt-leb}
 use lib.Count.{trailingZeros, trailing-le}
-use lib.Dec.{eqb, leb}
+use lib.Dec.{leb}
 use lib.ListN.{length, getD, set, List·getD-eq-default}
 use lib.Seq.{sets}
 use Rattle.laws.specs.Tests.{_and_, first, found, listed}
@@ -17,11 +17,11 @@ use Rattle.laws.specs.Lists.{choose-yes, choose-no}
 use Rattle.laws.specs.Counting.{first-agree}
 use Rattle.laws.specs.Slices.{below-or, sets-three}
 use Rattle.laws.specs.Bits.{bitAt, bitIn, first-no-word, first-within, first-word}
-use Rattle.laws.specs.BitSets.{bit-from, bit-in, bit-out, withBit, word-bit}
-use Rattle.pairset.specs.Store.{pairBase, pairBit, oldAt, newAt, linkAt, pairsIn, Store, lastPair, pairBefore, Has, Appends, Appended, NextPartner, RowFrom}
-use Rattle.pairset.specs.StoreLaws.{listed-at, listed-inside, more, more-length, pairs-more, store-more}
+use Rattle.laws.specs.BitSets.{bit-from, withBit, word-bit}
+use Rattle.pairset.specs.Store.{dangerBit, dangerWord, pairBase, pairBit, oldAt, newAt, linkAt, pairsIn, Store, lastPair, pairBefore, Has, Appends, Appended, MarksDanger, DangerMarked, NextPartner, RowFrom}
+use Rattle.pairset.specs.StoreLaws.{danger-more, dangers-stay, listed-at, listed-inside, marked-length, more, more-length, new-stays, old-stays, pairs-more, store-marked, store-more}
 
--- ---- `old_of`, `new_of`, `last_pair`, `pair_before`
+-- ---- `old_of`, `new_of`, `danger_word`, `last_pair`, `pair_before`
 
 module _ (w : List ℕ) (k : ℕ) where
   past : (i : ℕ) → length w ≤ k → k ≤ i → 0 ≡ getD w i 0
@@ -32,6 +32,9 @@ module _ (w : List ℕ) (k : ℕ) where
 
   pub new-past : length w ≤ k → 0 ≡ newAt w k
   new-past h = past (pairBase + 1 + 3 * k) h (omega arith)
+
+  pub danger-past : length w ≤ k → 0 ≡ dangerWord w k
+  danger-past h = past (4608 + k) h (omega arith)
 
   pub last-in : (r : ℕ) → k < 512 → r ≡ getD w k 0 → r ≡ lastPair w k
   unfolding lastPair
@@ -54,13 +57,9 @@ module _ (w : List ℕ) (k : ℕ) where
     unfolding pairBefore
     before-out h = rw (← p) (sym (choose-no place 0 (lt-leb place k h)))
 
-pub ruleset reads = (old-past, new-past, last-in, last-out, before-past, before-in, before-out)
+pub ruleset reads = (old-past, new-past, danger-past, last-in, last-out, before-past, before-in, before-out)
 
--- ---- `bit_at`, `set_bit`, `has`
-
-pub bit-read : (w : List ℕ) (i n : ℕ) → n ≡ getD w (i / 64) 0 → eqb (n / 2 ^ (i % 64) % 2) 1 ≡ bitIn w i
-unfolding bitIn bitAt
-bit-read w i n e = ap (λ (x : ℕ). eqb (x / 2 ^ (i % 64) % 2) 1) e
+-- ---- `has`
 
 module _ (w : List ℕ) (a b : ℕ) where
   pub has-no-row : 512 ≤ a → Has w a b false
@@ -75,7 +74,7 @@ module _ (w : List ℕ) (a b : ℕ) where
   unfolding Has
   has-is r h l e c s = e ∙ s .bits a b h l
 
-pub ruleset finds = (bit-read, bit-out, bit-in, has-no-row, has-no-bit, has-is)
+pub ruleset finds = (has-no-row, has-no-bit, has-is)
 
 -- ---- `put_row`, `append`
 
@@ -98,9 +97,23 @@ module _ (w : List ℕ) (c a b : ℕ) where
   append-done p v₁ v₂ v₃ e x y z =
       let q : v₁ ≡ sets w (pairBase + 3 * c) (a ∷ b ∷ lastPair w a ∷ []) = x ∙ ap (λ (k : ℕ). sets w (pairBase + 3 * c) (a ∷ b ∷ k ∷ [])) e in
       let r : v₃ ≡ more w c a b = z ∙ ap (λ (l : List ℕ). set l a (c + 1)) (y ∙ ap (λ (l : List ℕ). withBit l (pairBit a b)) q) in
-      rw r (record { appends = λ s an bn room. (store-more w c a b s an bn room, pairs-more w c a b s an bn room); size = more-length w c a b })
+      rw r (record { appends = λ s an bn room. (store-more w c a b s an bn room, pairs-more w c a b s an bn room, dangers-stay w c a b s an bn room); size = more-length w c a b })
 
 pub ruleset adds = (sets-three, append-past, append-no-row, append-no-bit, append-done)
+
+-- ---- `mark_danger`
+
+module _ (w : List ℕ) (e : ℕ) where
+  pub mark-past : 1024 ≤ e → DangerMarked w e w
+  unfolding MarksDanger
+  mark-past h = record { marks = λ c s l. absurd (let z : ⊥ = omega arith in z); size = refl }
+
+  pub mark-done : (v : List ℕ) → v ≡ withBit w (dangerBit e) → DangerMarked w e v
+  unfolding MarksDanger
+  mark-done v q =
+      rw q (record { marks = λ c s l. (store-marked w e c s l, λ k. (old-stays w e c s l k, new-stays w e c s l k), danger-more w e c s l); size = marked-length w e })
+
+pub ruleset dangers = (mark-past, mark-done)
 
 -- ---- `row_from`
 
@@ -204,4 +217,4 @@ next-room-one k z w h e = omega (arith, trailing-le 64 w)
 
 pub ruleset nexts = (next-no-row, next-start, next-found, next-on, next-none, next-room, next-room-one)
 
-pub ruleset all = (reads, finds, adds, rows, nexts)
+pub ruleset all = (reads, finds, adds, dangers, rows, nexts)

@@ -1,4 +1,4 @@
--- Laws of a set of pairs in a table: the pairs by index, the chains as the code walks them, the bits, the empty table, one pair more.
+-- Laws of a set of pairs in a table: the pairs by index, the chains as the code walks them, the bits, the empty table, one pair more, one dangerous edge more.
 use mathlib.Core.Path.{_≡_, refl, sym, ap, ap₂, _∙_, subst}
 use mathlib.Core.Bool.{Bool, true, false}
 use mathlib.Core.List.{List, [], _∷_, _++_}
@@ -7,17 +7,17 @@ use native.Mathlib.Nat.{not-suc-le-zero}
 use native.Mathlib.Numerals.{add-one}
 use native.Mathlib.Omega.{arith}
 use borrow.Author.Tests.{eqb-true, eq-eqb, ne-eqb, lt-ltb, le-ltb, le-leb, lt-leb}
-use lib.Dec.{eqb}
+use lib.Dec.{eqb, ltb}
 use lib.ListN.{length, getD, set, replicate, length-set, length-replicate, getD-replicate}
 use lib.Seq.{sets, length-sets, getD-set-same, getD-set-other}
-use Rattle.laws.specs.Tests.{_and_, _or_, every, any, listed, allPairs, anyPair}
-use Rattle.laws.specs.TestLaws.{and-assoc, and-both, and-ends, and-left, and-right, any-at, any-of, fails, or-assoc, or-ends}
+use Rattle.laws.specs.Tests.{_and_, _or_, every, any, listed, allPairs}
+use Rattle.laws.specs.TestLaws.{and-assoc, and-both, and-ends, and-left, and-not, and-right, any-at, any-of, fails, or-assoc, or-ends, or-swap}
 use Rattle.laws.specs.Lists.{choose-yes, choose-no, snoc-length}
 use Rattle.laws.specs.Slices.{below-or, same-or, getD-sets-before, getD-sets-in}
 use Rattle.laws.specs.Bits.{bitAt, bitIn}
-use Rattle.laws.specs.BitSets.{bit-with, clear-bits, or-swap, withBit}
-use Rattle.laws.specs.Chain.{latest, latest-none, Chained, chain-none, chain-more, link-le}
-use Rattle.pairset.specs.Store.{pairBase, pairBit, headAt, oldAt, newAt, linkAt, pairsIn, Store, lastPair, pairBefore}
+use Rattle.laws.specs.BitSets.{bit-with, clear-bits, withBit, word-bit}
+use Rattle.laws.specs.Chain.{latest, latest-agree, latest-none, Chained, chain-none, chain-more, link-le}
+use Rattle.pairset.specs.Store.{dangerBit, dangerIn, dangerWord, pairBase, pairBit, headAt, oldAt, newAt, linkAt, pairsIn, Store, lastPair, pairBefore}
 
 -- ---- lists of pairs with one more
 
@@ -28,11 +28,6 @@ module _ (x : ℕ × ℕ) where
   listed-snoc (y ∷ l) n k = ap (λ (t : Bool). (eqb (y .0) n and eqb (y .1) k) or t) (listed-snoc l n k) ∙ or-assoc (eqb (y .0) n and eqb (y .1) k) (listed l n k) (eqb (x .0) n and eqb (x .1) k)
 
   module _ (f : ℕ → ℕ → Bool) where
-    pub anyPair-snoc : (l : List (ℕ × ℕ)) → anyPair f (l ++ (x ∷ [])) ≡ (anyPair f l or f (x .0) (x .1))
-    unfolding anyPair _or_
-    anyPair-snoc [] = or-ends (f (x .0) (x .1))
-    anyPair-snoc (y ∷ l) = ap (λ (t : Bool). f (y .0) (y .1) or t) (anyPair-snoc l) ∙ or-assoc (f (y .0) (y .1)) (anyPair f l) (f (x .0) (x .1))
-
     pub allPairs-snoc : (l : List (ℕ × ℕ)) → allPairs f (l ++ (x ∷ [])) ≡ (allPairs f l and f (x .0) (x .1))
     unfolding allPairs _and_
     allPairs-snoc [] = and-ends (f (x .0) (x .1))
@@ -46,16 +41,11 @@ module _ (w : List ℕ) where
   pairs-count zero = refl
   pairs-count (suc c) = snoc-length (0, 0) (pairsIn w c) (oldAt w c, newAt w c) ∙ ap suc (pairs-count c)
 
-  -- Every pair passes f; some pair does.
+  -- Every pair passes f.
   pub all-pairs : (f : ℕ → ℕ → Bool) (c : ℕ) → allPairs f (pairsIn w c) ≡ every c (λ k. f (oldAt w k) (newAt w k))
   unfolding pairsIn allPairs every
   all-pairs f zero = refl
   all-pairs f (suc c) = allPairs-snoc (oldAt w c, newAt w c) f (pairsIn w c) ∙ ap (λ (t : Bool). t and f (oldAt w c) (newAt w c)) (all-pairs f c)
-
-  pub any-pair : (f : ℕ → ℕ → Bool) (c : ℕ) → anyPair f (pairsIn w c) ≡ any c (λ k. f (oldAt w k) (newAt w k))
-  unfolding pairsIn anyPair any
-  any-pair f zero = refl
-  any-pair f (suc c) = anyPair-snoc (oldAt w c, newAt w c) f (pairsIn w c) ∙ ap (λ (t : Bool). t or f (oldAt w c) (newAt w c)) (any-pair f c)
 
   -- (a, b) is one of the pairs, as a test of all of them.
   pub pair-listed : (a b c : ℕ) → listed (pairsIn w c) a b ≡ any c (λ k. eqb (oldAt w k) a and eqb (newAt w k) b)
@@ -133,6 +123,10 @@ pub store-clear : (n : ℕ) → pairBase ≤ n → Store (replicate n 0) 0
 store-clear n h =
     store-none (replicate n 0) (omega (arith, length-replicate {A = ℕ} n 0)) (λ a l. getD-replicate n a 0 0 (omega arith)) (clear-bits (replicate n 0) n refl)
 
+pub no-dangers : (n e : ℕ) → dangerIn (replicate n 0) e ≡ false
+unfolding dangerIn
+no-dangers n e = ap (λ (t : Bool). ltb e 1024 and t) (clear-bits (replicate n 0) n refl (dangerBit e)) ∙ and-not (ltb e 1024)
+
 pub no-pairs : (w : List ℕ) → pairsIn w 0 ≡ []
 unfolding pairsIn
 no-pairs w = refl
@@ -172,7 +166,7 @@ module _ (w : List ℕ) (c a b : ℕ) where
     other-head : (x : ℕ) → x < 512 → (x ≡ a → ⊥) → headAt more x ≡ headAt w x
     other-head x h e = more-at x e (λ q. let z : ⊥ = omega arith in z) ∙ getD-sets-before row w (pairBase + 3 * c) x 0 (omega arith)
 
-    under : (i : ℕ) → pairBase ≤ i → i < pairBase + 3 * c → getD more i 0 ≡ getD w i 0
+    under : (i : ℕ) → 4608 ≤ i → i < pairBase + 3 * c → getD more i 0 ≡ getD w i 0
     under i l h =
         more-at i (λ q. let z : ⊥ = omega arith in z) (λ q. let z : ⊥ = omega arith in z) ∙ getD-sets-before row w (pairBase + 3 * c) i 0 h
 
@@ -248,3 +242,75 @@ module _ (w : List ℕ) (c a b : ℕ) where
               (λ i h. under (pairBase + 2 + 3 * i) (omega arith) (omega arith));
           bits = bits-more;
         }
+
+    pub dangers-stay : (e : ℕ) → dangerIn more e ≡ dangerIn w e
+    unfolding dangerIn bitIn _and_
+    dangers-stay e =
+        below-or e 1024
+        (λ h. ap (λ (n : ℕ). ltb e 1024 and bitAt n (dangerBit e % 64)) (under (dangerBit e / 64) (omega arith) (omega arith)))
+        (λ h. rw (le-ltb e 1024 h) refl)
+
+-- ---- the dangerous edges
+
+pub danger-bit : (w : List ℕ) (e : ℕ) → e < 1024 → bitAt (dangerWord w (e / 64)) (e % 64) ≡ dangerIn w e
+unfolding dangerIn _and_
+danger-bit w e h =
+    let q : 64 * (4608 + e / 64) + e % 64 ≡ dangerBit e = omega arith in
+    sym (word-bit w (4608 + e / 64) (e % 64) (omega arith)) ∙ ap (bitIn w) q ∙ sym (ap (λ (t : Bool). t and bitIn w (dangerBit e)) (lt-ltb e 1024 h))
+
+-- ---- one dangerous edge more
+
+module _ (w : List ℕ) (e : ℕ) where
+  -- The table with the bit of the old edge e.
+  abbrev pub marked : List ℕ
+  marked = withBit w (dangerBit e)
+
+  pub marked-length : length marked ≡ length w
+  unfolding withBit
+  marked-length = length-set w (dangerBit e / 64) _
+
+  module _ (c : ℕ) (s : Store w c) (h : e < 1024) where
+    -- Where the table stays: outside the 16 words.
+    stays : (i : ℕ) → (i ≡ 4608 + e / 64 → ⊥) → getD marked i 0 ≡ getD w i 0
+    unfolding withBit
+    stays i n = getD-set-other w (dangerBit e / 64) i _ 0 (λ q. n (let z : i ≡ 4608 + e / 64 = omega arith in z))
+
+    pub old-stays : (k : ℕ) → oldAt marked k ≡ oldAt w k
+    old-stays k = stays (pairBase + 3 * k) (λ q. let z : ⊥ = omega arith in z)
+
+    pub new-stays : (k : ℕ) → newAt marked k ≡ newAt w k
+    new-stays k = stays (pairBase + 1 + 3 * k) (λ q. let z : ⊥ = omega arith in z)
+
+    pub store-marked : Store marked c
+    unfolding bitIn
+    store-marked =
+        record {
+          room = omega (arith, s .room, marked-length);
+          inside = λ k l. omega (arith, old-stays k, s .inside k l);
+          new-inside = λ k l. omega (arith, new-stays k, s .new-inside k l);
+          chains = record {
+            top = λ a l.
+                stays a (λ q. let z : ⊥ = omega arith in z) ∙ s .chains .top a l ∙ latest-agree (oldAt w) (oldAt marked) a c (λ i _. sym (old-stays i));
+            link = λ k l.
+                stays (pairBase + 2 + 3 * k) (λ q. let z : ⊥ = omega arith in z)
+                ∙ s .chains .link k l
+                ∙ ap (λ (a : ℕ). latest (oldAt w) a k) (sym (old-stays k))
+                ∙ latest-agree (oldAt w) (oldAt marked) (oldAt marked k) k (λ i _. sym (old-stays i));
+          };
+          bits = λ a b l m.
+              ap (λ (n : ℕ). bitAt n (pairBit a b % 64)) (stays (pairBit a b / 64) (λ q. let z : ⊥ = omega arith in z))
+              ∙ s .bits a b l m
+              ∙ ap (λ (p : List (ℕ × ℕ)). listed p a b) (pairs-agree w marked c (λ k _. sym (old-stays k)) (λ k _. sym (new-stays k)));
+        }
+
+    pub danger-more : (i : ℕ) → dangerIn marked i ≡ (eqb e i or dangerIn w i)
+    unfolding dangerIn _and_ _or_
+    danger-more i =
+        below-or i 1024
+        (λ l.
+        rw (lt-ltb i 1024 l)
+        (bit-with w (dangerBit e) (dangerBit i) (omega (arith, s .room))
+        ∙ ap (λ (t : Bool). t or bitIn w (dangerBit i)) (same-or e i
+        (λ q. eq-eqb (dangerBit e) (dangerBit i) (omega arith) ∙ sym (eq-eqb e i q))
+        (λ q. ne-eqb (dangerBit e) (dangerBit i) (λ y. q (omega arith)) ∙ sym (ne-eqb e i q)))))
+        (λ l. rw (le-ltb i 1024 l, ne-eqb e i (λ q. let z : ⊥ = omega arith in z)) refl)

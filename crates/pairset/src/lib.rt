@@ -1,13 +1,11 @@
-// A set of pairs of nodes in one table, to which pairs are added at the end. Every public function takes any slice and any number: what stands
-// past the end is 0, a store past the end does nothing, and a link leads only downwards.
+// A set of pairs of nodes in one table, to which pairs are added at the end, and a set of old edges. Every public function takes any slice and
+// any number: what stands past the end is 0, a store past the end does nothing, and a link leads only downwards.
 ghost use mathlib.Core.Path.{_≡_};
 ghost use mathlib.Core.List.{_∷_, []};
 ghost use Prim.Native.Nat.{_+_, _*_, _^_, _<_};
 ghost use lib.Count.{trailingZeros};
 ghost use lib.Seq.{sets};
-ghost use Rattle.laws.specs.Bits.{bitIn};
-ghost use Rattle.laws.specs.BitSets.{withBit};
-ghost use Rattle.pairset.specs.Store.{Appended, Has, NextPartner, RowFrom, lastPair, newAt, oldAt, pairBefore};
+ghost use Rattle.pairset.specs.Store.{Appended, DangerMarked, Has, NextPartner, RowFrom, dangerWord, lastPair, newAt, oldAt, pairBefore};
 
 // The old node of the pair k.
 pub fn old_of(w: &[usize], k: usize) -> usize
@@ -16,7 +14,7 @@ pub fn old_of(w: &[usize], k: usize) -> usize
     if w.len() <= k {
         return 0;
     }
-    text::get(w, 4608 + 3 * k)
+    text::get(w, 4624 + 3 * k)
 }
 
 // The new node of the pair k.
@@ -26,7 +24,7 @@ pub fn new_of(w: &[usize], k: usize) -> usize
     if w.len() <= k {
         return 0;
     }
-    text::get(w, 4609 + 3 * k)
+    text::get(w, 4625 + 3 * k)
 }
 
 // 1 + the latest pair of the old node a, or 0.
@@ -46,32 +44,11 @@ pub fn pair_before(w: &[usize], k: usize) -> usize
     if w.len() <= k {
         return 0;
     }
-    let place = text::get(w, 4610 + 3 * k);
+    let place = text::get(w, 4626 + 3 * k);
     if place <= k {
         return place;
     }
     0
-}
-
-// Whether the bit i of the words is set.
-fn bit_at(w: &[usize], i: usize) -> bool
-    ensures { λ r. ⌜ r ≡ bitIn (now (w .entry)) i ⌝ }
-{
-    let word = text::get(w, i / 64);
-    let shift = i % 64;
-    (word >> shift) % 2 == 1
-}
-
-// Sets the bit i of the words.
-fn set_bit(w: &mut [usize], i: usize)
-    ensures { λ _. ⌜ now (w .exit) ≡ withBit (now (w .entry)) i ⌝ }
-{
-    let k = i / 64;
-    let shift = i % 64;
-    if k < w.len() {
-        let bit: usize = 1 << shift;
-        w[k] = w[k] | bit;
-    }
 }
 
 // Whether (a, b) is one of the pairs, by its bit.
@@ -84,7 +61,7 @@ pub fn has(w: &[usize], a: usize, b: usize) -> bool
     if 512 <= b {
         return false;
     }
-    bit_at(w, 64 * (512 + 8 * a) + b)
+    text::bit_at(w, 64 * (512 + 8 * a) + b)
 }
 
 // Puts three numbers at `at`.
@@ -111,9 +88,28 @@ pub fn append(w: &mut [usize], c: usize, a: usize, b: usize)
         return;
     }
     let before = last_pair(w, a);
-    put_row(w, 4608 + 3 * c, a, b, before);
-    set_bit(w, 64 * (512 + 8 * a) + b);
+    put_row(w, 4624 + 3 * c, a, b, before);
+    text::set_bit(w, 64 * (512 + 8 * a) + b);
     text::put(w, a, c + 1);
+}
+
+// Puts the old edge e into the set of dangerous edges.
+pub fn mark_danger(w: &mut [usize], e: usize)
+    ensures { λ _. ⌜ DangerMarked (now (w .entry)) e (now (w .exit)) ⌝ }
+{
+    if e < 1024 {
+        text::set_bit(w, 64 * 4608 + e);
+    }
+}
+
+// The word k of the set of dangerous edges.
+pub fn danger_word(w: &[usize], k: usize) -> usize
+    ensures { λ r. ⌜ r ≡ dangerWord (now (w .entry)) k ⌝ }
+{
+    if w.len() <= k {
+        return 0;
+    }
+    text::get(w, 4608 + k)
 }
 
 // The word k of the row of a, with the bits from `from` on only.

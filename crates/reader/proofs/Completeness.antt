@@ -16,6 +16,7 @@ use Rattle.laws.specs.Counting.{count-zero, every-agree}
 use Rattle.rules.specs.Text.{Bytes, same}
 use Rattle.rules.specs.Graph.{Kind, E, S, C, X, Program, degrees, fewest, most, ownerAt, kindAt, sourceAt, wordAt, procCount, nodeCount, edgeCount, kindNumber, sameKind, isOf, degree, dash, worded}
 use Rattle.rules.specs.ProgramFile.{Listing, current, degreeFine, complete}
+use Rattle.rules.specs.Proofs.ProgramLaws.{Sound}
 use Rattle.graph.specs.Table.{procHead, firstNode}
 use Rattle.graph.specs.Lookups.{in-table, Edges, Procs, Degree, Dashed}
 use Rattle.lines.specs.Known.{Known}
@@ -27,8 +28,8 @@ use Rattle.reader.proofs.Programs.{is-current}
 
 -- ---- what the table holds
 
-pub edges-of : (text w : List ℕ) (c : Count) (s : Listing) → Known text s → Holds w c s → Edges text (in-table (linksOf w)) s
-edges-of text w c s k h = record { sources = k .sound .sources; rows = h .reading .edges; heads = h .reading .heads; words = k .words; once = k .sound .words }
+pub edges-of : (w : List ℕ) (c : Count) (s : Listing) → Sound (s .program) → Holds w c s → Edges (in-table (linksOf w)) s
+edges-of w c s k h = record { sources = k .sources; rows = h .reading .edges; heads = h .reading .heads; words = k .wordForms; once = k .words }
 
 pub procs-of : (text w : List ℕ) (c : Count) (s : Listing) → Known text s → Holds w c s → Procs text (in-table (linksOf w)) s
 procs-of text w c s k h = record { heads = h .reading .procs; names = k .names }
@@ -99,8 +100,8 @@ any-word S w a b = refl
 any-word C w a b = absurd (b refl)
 any-word X w a b = refl
 
-module _ (text w l : List ℕ) (n kind d : ℕ) (b : Degrees) (ek : kind ≡ getD w (4 * n) 0) (eb : DegreesOf kind b) (el : l ≡ linksOf w) (dd : Degree l n d) where
-  module _ (s : Listing) (c : Count) (k : Known text s) (h : Holds w c s) (m : n < nodeCount (s .program)) where
+module _ (w l : List ℕ) (n kind d : ℕ) (b : Degrees) (ek : kind ≡ getD w (4 * n) 0) (eb : DegreesOf kind b) (el : l ≡ linksOf w) (dd : Degree l n d) where
+  module _ (s : Listing) (c : Count) (k : Sound (s .program)) (h : Holds w c s) (m : n < nodeCount (s .program)) where
     kind-is : kind ≡ kindNumber (kindAt (s .program) n)
     kind-is = ek ∙ kind-at w c s h n m
 
@@ -112,41 +113,41 @@ module _ (text w l : List ℕ) (n kind d : ℕ) (b : Degrees) (ek : kind ≡ get
 
     degree-is : d ≡ degree (s .program) n
     unfolding Degree
-    degree-is = dd text s (subst (λ (x : List ℕ). Edges text (in-table x) s) (sym el) (edges-of text w c s k h)) m
+    degree-is = dd s (subst (λ (x : List ℕ). Edges (in-table x) s) (sym el) (edges-of w c s k h)) m
 
     fine : b .fewest ≤ d → d ≤ b .most → degreeFine (s .program) n ≡ true
     unfolding degreeFine
     fine a e = and-both (le-leb _ _ (subst (λ (x : ℕ). x ≤ degree (s .program) n) fewest-is (subst (λ (x : ℕ). b .fewest ≤ x) degree-is a))) (le-leb _ _ (subst (λ (x : ℕ). degree (s .program) n ≤ x) most-is (subst (λ (x : ℕ). x ≤ b .most) degree-is e)))
 
-  pub fine-few : d < b .fewest → NodeFine text w n false
+  pub fine-few : d < b .fewest → NodeFine w n false
   unfolding NodeFine nodeFine degreeFine
   fine-few a s c k h m = sym (fails _ (λ t. let z : fewest (kindAt (s .program) n) ≤ degree (s .program) n = leb-true _ _ (and-left _ _ (and-left _ _ t)) in let y : ⊥ = omega (arith, fewest-is s c k h m, degree-is s c k h m) in y))
 
-  pub fine-many : b .most < d → NodeFine text w n false
+  pub fine-many : b .most < d → NodeFine w n false
   unfolding NodeFine nodeFine degreeFine
   fine-many a s c k h m = sym (fails _ (λ t. let z : degree (s .program) n ≤ most (kindAt (s .program) n) = leb-true _ _ (and-right _ _ (and-left _ _ t)) in let y : ⊥ = omega (arith, most-is s c k h m, degree-is s c k h m) in y))
 
   module _ (a : b .fewest ≤ d) (e : d ≤ b .most) (l′ : List ℕ) (el′ : l′ ≡ linksOf w) where
     -- An E or a C: its edges are `-`.
-    dash-words : (s : Listing) (c : Count) → Known text s → Holds w c s → n < nodeCount (s .program) → (r : Bool) → Dashed text l′ n r → ((u : Bytes) → worded (kindAt (s .program) n) u ≡ same u dash) → r ≡ nodeFine (s .program) n
+    dash-words : (s : Listing) (c : Count) → Sound (s .program) → Holds w c s → n < nodeCount (s .program) → (r : Bool) → Dashed l′ n r → ((u : Bytes) → worded (kindAt (s .program) n) u ≡ same u dash) → r ≡ nodeFine (s .program) n
     unfolding nodeFine Dashed _and_
     dash-words s c k h m r q same-words =
         let z : degreeFine (s .program) n ≡ true = fine s c k h m a e in
-        q s (subst (λ (x : List ℕ). Edges text (in-table x) s) (sym el′) (edges-of text w c s k h)) m
+        q s (subst (λ (x : List ℕ). Edges (in-table x) s) (sym el′) (edges-of w c s k h)) m
         ∙ every-agree _ _ (edgeCount (s .program)) (λ i b. ap (λ (t : Bool). eqb (sourceAt (s .program) i) n ⇒ t) (sym (same-words (wordAt (s .program) i))))
         ∙ ap (λ (t : Bool). t and every (edgeCount (s .program)) (λ e. eqb (sourceAt (s .program) e) n ⇒ worded (kindAt (s .program) n) (wordAt (s .program) e))) (sym z)
 
-    pub fine-entry : kind ≡ 0 → (r : Bool) → Dashed text l′ n r → NodeFine text w n r
+    pub fine-entry : kind ≡ 0 → (r : Bool) → Dashed l′ n r → NodeFine w n r
     unfolding NodeFine worded
     fine-entry z r q s c k h m =
         dash-words s c k h m r q (λ u. ap (λ (t : Kind). worded t u) (number-kind (kindAt (s .program) n) .0 (sym (kind-is s c k h m) ∙ z)))
 
-    pub fine-call : kind ≡ 2 → (r : Bool) → Dashed text l′ n r → NodeFine text w n r
+    pub fine-call : kind ≡ 2 → (r : Bool) → Dashed l′ n r → NodeFine w n r
     unfolding NodeFine worded
     fine-call z r q s c k h m =
         dash-words s c k h m r q (λ u. ap (λ (t : Kind). worded t u) (number-kind (kindAt (s .program) n) .1 (sym (kind-is s c k h m) ∙ z)))
 
-  pub fine-other : b .fewest ≤ d → d ≤ b .most → (kind ≡ 0 → ⊥) → (kind ≡ 2 → ⊥) → NodeFine text w n true
+  pub fine-other : b .fewest ≤ d → d ≤ b .most → (kind ≡ 0 → ⊥) → (kind ≡ 2 → ⊥) → NodeFine w n true
   unfolding NodeFine nodeFine
   fine-other a e y z s c k h m =
       sym (and-both (fine s c k h m a e) (every-of _ (edgeCount (s .program)) (λ i b. implies _ _ (λ t. any-word (kindAt (s .program) n) _ (λ q. y (kind-is s c k h m ∙ q)) (λ q. z (kind-is s c k h m ∙ q))))))
@@ -155,46 +156,46 @@ pub ruleset fines = (fine-few, fine-many, fine-entry, fine-call, fine-other)
 
 -- ---- `all_fine`
 
-module _ (text w : List ℕ) (first nodes : ℕ) where
+module _ (w : List ℕ) (first nodes : ℕ) where
   below-first : (s : Listing) (i : ℕ) → i < first → (leb first i ⇒ nodeFine (s .program) i) ≡ true
   below-first s i l = implies _ _ (λ t. absurd (both-ways t (lt-leb first i (omega arith))))
 
-  pub fine-none : nodes < first → AllFine text w first nodes true
+  pub fine-none : nodes < first → AllFine w first nodes true
   unfolding AllFine
   fine-none h s c k hs e = sym (every-of _ nodes (λ i l. below-first s i (omega arith)))
 
-  pub fine-start : FineTo text w first nodes first
+  pub fine-start : FineTo w first nodes first
   unfolding FineTo
   fine-start s c k h e = every-of _ first (λ i l. below-first s i l)
 
-  pub fine-on : (n : ℕ) → FineTo text w first nodes n → n < nodes → NodeFine text w n true → FineTo text w first nodes (n + 1)
+  pub fine-on : (n : ℕ) → FineTo w first nodes n → n < nodes → NodeFine w n true → FineTo w first nodes (n + 1)
   unfolding FineTo NodeFine
   fine-on n f l q s c k h e =
       every-of _ (n + 1) (λ i b.
       ⊎-elim (λ m. every-at (λ i. leb first i ⇒ nodeFine (s .program) i) n (f s c k h e) i m)
       (λ (m : i ≡ n). implies _ _ (λ t. subst (λ (j : ℕ). nodeFine (s .program) j ≡ true) (sym m) (sym (q s c k h (omega arith))))) (below-suc i n (omega arith)))
 
-  pub fine-not : (n : ℕ) → first ≤ n → n < nodes → NodeFine text w n false → AllFine text w first nodes false
+  pub fine-not : (n : ℕ) → first ≤ n → n < nodes → NodeFine w n false → AllFine w first nodes false
   unfolding AllFine NodeFine
   fine-not n a l q s c k h e =
       sym (fails _ (λ t. both-ways (implied _ _ (every-at (λ i. leb first i ⇒ nodeFine (s .program) i) nodes t n l) (le-leb first n a)) (sym (q s c k h (omega arith)))))
 
-  pub fine-end : (n : ℕ) → FineTo text w first nodes n → n ≤ nodes → nodes ≤ n → AllFine text w first nodes true
+  pub fine-end : (n : ℕ) → FineTo w first nodes n → n ≤ nodes → nodes ≤ n → AllFine w first nodes true
   unfolding FineTo AllFine
   fine-end n f a b s c k h e = sym (ap (λ (m : ℕ). every m (λ i. leb first i ⇒ nodeFine (s .program) i)) (let z : nodes ≡ n = omega arith in z) ∙ f s c k h e)
 
 pub ruleset all-fines = (fine-none, fine-start, fine-on, fine-not, fine-end)
 
 -- A node test that passes.
-pub fine-yes : (text w : List ℕ) (n : ℕ) (r : Bool) → NodeFine text w n r → r ≡ true → NodeFine text w n true
-fine-yes text w n r q e = subst (NodeFine text w n) e q
+pub fine-yes : (w : List ℕ) (n : ℕ) (r : Bool) → NodeFine w n r → r ≡ true → NodeFine w n true
+fine-yes w n r q e = subst (NodeFine w n) e q
 
-pub fine-no : (text w : List ℕ) (n : ℕ) (r : Bool) → NodeFine text w n r → r ≡ false → NodeFine text w n false
-fine-no text w n r q e = subst (NodeFine text w n) e q
+pub fine-no : (w : List ℕ) (n : ℕ) (r : Bool) → NodeFine w n r → r ≡ false → NodeFine w n false
+fine-no w n r q e = subst (NodeFine w n) e q
 
 -- ---- `complete`
 
-module _ (text w : List ℕ) (c : Count) (s : Listing) (k : Known text s) (h : Holds w c s) (some : 0 < procCount (s .program)) where
+module _ (w : List ℕ) (c : Count) (s : Listing) (k : Sound (s .program)) (h : Holds w c s) (some : 0 < procCount (s .program)) where
   abbrev p : Program
   p = s .program
 
@@ -208,7 +209,7 @@ module _ (text w : List ℕ) (c : Count) (s : Listing) (k : Known text s) (h : H
       ap (λ (m : ℕ). count m (λ n. leb (ofCurrent w (c .procs) 3) n and eqb (getD w (4 * n) 0) (kindNumber t))) (h .nodes-n)
       ∙ count-agree _ _ (nodeCount p) (λ n l.
       ap (λ (f : ℕ). leb f n and eqb (getD w (4 * n) 0) (kindNumber t)) first-is
-      ∙ ap (λ (b : Bool). b and eqb (getD w (4 * n) 0) (kindNumber t)) (sym (is-current p (k .sound) some n l))
+      ∙ ap (λ (b : Bool). b and eqb (getD w (4 * n) 0) (kindNumber t)) (sym (is-current p k some n l))
       ∙ ap (λ (m : ℕ). eqb (ownerAt p n) (current p) and eqb m (kindNumber t)) (kind-at w c s h n l))
 
   -- Its nodes' tests are those of its nodes and of its edges.
@@ -217,7 +218,7 @@ module _ (text w : List ℕ) (c : Count) (s : Listing) (k : Known text s) (h : H
   unfolding nodeFine
   fine-is =
       ap (λ (m : ℕ). every m (λ i. leb (ofCurrent w (c .procs) 3) i ⇒ nodeFine p i)) (h .nodes-n)
-      ∙ every-agree _ _ (nodeCount p) (λ n l. ap (λ (f : ℕ). leb f n ⇒ nodeFine p n) first-is ∙ ap (λ (b : Bool). b ⇒ nodeFine p n) (sym (is-current p (k .sound) some n l)))
+      ∙ every-agree _ _ (nodeCount p) (λ n l. ap (λ (f : ℕ). leb f n ⇒ nodeFine p n) first-is ∙ ap (λ (b : Bool). b ⇒ nodeFine p n) (sym (is-current p k some n l)))
       ∙ same-test _ _ (λ t. and-both (nodes-of t) (edges-are t)) there
     where
       nodes-of : every (nodeCount p) (λ n. eqb (ownerAt p n) (current p) ⇒ nodeFine p n) ≡ true → every (nodeCount p) (λ n. eqb (ownerAt p n) (current p) ⇒ degreeFine p n) ≡ true
@@ -227,7 +228,7 @@ module _ (text w : List ℕ) (c : Count) (s : Listing) (k : Known text s) (h : H
           → every (edgeCount p) (λ e. eqb (ownerAt p (sourceAt p e)) (current p) ⇒ worded (kindAt p (sourceAt p e)) (wordAt p e)) ≡ true
       edges-are t =
           every-of _ (edgeCount p) (λ e l. implies _ _ (λ o.
-          let a = and-right _ _ (implied _ _ (every-at (λ n. eqb (ownerAt p n) (current p) ⇒ nodeFine p n) (nodeCount p) t (sourceAt p e) (k .sound .sources e l)) o) in
+          let a = and-right _ _ (implied _ _ (every-at (λ n. eqb (ownerAt p n) (current p) ⇒ nodeFine p n) (nodeCount p) t (sourceAt p e) (k .sources e l)) o) in
           implied _ _ (every-at (λ i. eqb (sourceAt p i) (sourceAt p e) ⇒ worded (kindAt p (sourceAt p e)) (wordAt p i)) (edgeCount p) a e l) (eq-eqb (sourceAt p e) (sourceAt p e) refl)))
 
       there : (every (nodeCount p) (λ n. eqb (ownerAt p n) (current p) ⇒ degreeFine p n) and every (edgeCount p) (λ e. eqb (ownerAt p (sourceAt p e)) (current p) ⇒ worded (kindAt p (sourceAt p e)) (wordAt p e))) ≡ true
@@ -241,24 +242,24 @@ module _ (text w : List ℕ) (c : Count) (s : Listing) (k : Known text s) (h : H
           (implied _ _ (every-at (λ e. eqb (ownerAt p (sourceAt p e)) (current p) ⇒ worded (kindAt p (sourceAt p e)) (wordAt p e)) (edgeCount p) (and-right _ _ t) e b)
           (subst (λ (m : ℕ). eqb (ownerAt p m) (current p) ≡ true) (sym z) o)))))))
 
-module _ (text w : List ℕ) (c : Count) where
-  pub entries-not : (ofCurrent-3 n : ℕ) → ofCurrent-3 ≡ ofCurrent w (c .procs) 3 → n ≡ kindCount w ofCurrent-3 (c .nodes) 0 → (n ≡ 1 → ⊥) → Completes text w c false
+module _ (w : List ℕ) (c : Count) where
+  pub entries-not : (ofCurrent-3 n : ℕ) → ofCurrent-3 ≡ ofCurrent w (c .procs) 3 → n ≡ kindCount w ofCurrent-3 (c .nodes) 0 → (n ≡ 1 → ⊥) → Completes w c false
   unfolding Completes complete
   entries-not f n ef en z s k h some =
-      sym (fails _ (λ t. z (en ∙ ap (λ (f : ℕ). kindCount w f (c .nodes) 0) ef ∙ kinds-counted text w c s k h some E ∙ eqb-true _ _ (and-left _ _ t))))
+      sym (fails _ (λ t. z (en ∙ ap (λ (f : ℕ). kindCount w f (c .nodes) 0) ef ∙ kinds-counted w c s k h some E ∙ eqb-true _ _ (and-left _ _ t))))
 
-  pub exits-not : (f n : ℕ) → f ≡ ofCurrent w (c .procs) 3 → n ≡ kindCount w f (c .nodes) 3 → (n ≡ 1 → ⊥) → Completes text w c false
+  pub exits-not : (f n : ℕ) → f ≡ ofCurrent w (c .procs) 3 → n ≡ kindCount w f (c .nodes) 3 → (n ≡ 1 → ⊥) → Completes w c false
   unfolding Completes complete
   exits-not f n ef en z s k h some =
-      sym (fails _ (λ t. z (en ∙ ap (λ (f : ℕ). kindCount w f (c .nodes) 3) ef ∙ kinds-counted text w c s k h some X ∙ eqb-true _ _ (and-left _ _ (and-right _ _ t)))))
+      sym (fails _ (λ t. z (en ∙ ap (λ (f : ℕ). kindCount w f (c .nodes) 3) ef ∙ kinds-counted w c s k h some X ∙ eqb-true _ _ (and-left _ _ (and-right _ _ t)))))
 
-  pub complete-rest : (f n m : ℕ) (r : Bool) → f ≡ ofCurrent w (c .procs) 3 → n ≡ kindCount w f (c .nodes) 0 → n ≡ 1 → m ≡ kindCount w f (c .nodes) 3 → m ≡ 1 → AllFine text w f (c .nodes) r → Completes text w c r
+  pub complete-rest : (f n m : ℕ) (r : Bool) → f ≡ ofCurrent w (c .procs) 3 → n ≡ kindCount w f (c .nodes) 0 → n ≡ 1 → m ≡ kindCount w f (c .nodes) 3 → m ≡ 1 → AllFine w f (c .nodes) r → Completes w c r
   unfolding Completes complete AllFine _and_
   complete-rest f n m r ef en one em one′ q s k h some =
       let a : eqb (count (nodeCount (s .program)) (isOf (s .program) (current (s .program)) E)) 1 ≡ true
-      = eq-eqb _ _ (sym (kinds-counted text w c s k h some E) ∙ ap (λ (f : ℕ). kindCount w f (c .nodes) 0) (sym ef) ∙ sym en ∙ one) in
+      = eq-eqb _ _ (sym (kinds-counted w c s k h some E) ∙ ap (λ (f : ℕ). kindCount w f (c .nodes) 0) (sym ef) ∙ sym en ∙ one) in
       let b : eqb (count (nodeCount (s .program)) (isOf (s .program) (current (s .program)) X)) 1 ≡ true
-      = eq-eqb _ _ (sym (kinds-counted text w c s k h some X) ∙ ap (λ (f : ℕ). kindCount w f (c .nodes) 3) (sym ef) ∙ sym em ∙ one′) in
-      q s c k h (h .nodes-n) ∙ ap (λ (f : ℕ). every (c .nodes) (λ i. leb f i ⇒ nodeFine (s .program) i)) ef ∙ fine-is text w c s k h some ∙ rw (a, b)
+      = eq-eqb _ _ (sym (kinds-counted w c s k h some X) ∙ ap (λ (f : ℕ). kindCount w f (c .nodes) 3) (sym ef) ∙ sym em ∙ one′) in
+      q s c k h (h .nodes-n) ∙ ap (λ (f : ℕ). every (c .nodes) (λ i. leb f i ⇒ nodeFine (s .program) i)) ef ∙ fine-is w c s k h some ∙ rw (a, b)
 
 pub ruleset completes = (entries-not, exits-not, complete-rest)

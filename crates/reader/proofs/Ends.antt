@@ -288,7 +288,7 @@ module _ (text w : List ℕ) (c : Count) (sm : Small c) where
         small = small-answer 2 1;
       }
 
-  module _ (some-proc : c .procs ≡ 0 → ⊥) (u : Bool) (q : Completes text w c u) where
+  module _ (some-proc : c .procs ≡ 0 → ⊥) (u : Bool) (q : Completes w c u) where
     some-of : (s : Listing) → Holds w c s → 0 < procCount (s .program)
     some-of s h = some-procs w c s h some-proc
 
@@ -301,14 +301,14 @@ module _ (text w : List ℕ) (c : Count) (sm : Small c) where
         record {
           told = λ s n k h.
               told-refused _ 8 (getD (s .places .procLines) (current (s .program)) 0) _ w
-              (unless-passes _ _ _ _ (begun-of s h) ∙ unless-stops _ _ _ _ (true-isnt (sym (q s k h (some-of s h)) ∙ t))) (omega arith) refl (e ∙ current-row w c s h (some-of s h) 2 (omega arith));
+              (unless-passes _ _ _ _ (begun-of s h) ∙ unless-stops _ _ _ _ (true-isnt (sym (q s (k .sound) h (some-of s h)) ∙ t))) (omega arith) refl (e ∙ current-row w c s h (some-of s h) 2 (omega arith));
           small = small-answer 8 place;
         }
 
     module _ (t : u ≡ true) (line : ℕ) (w′ : List ℕ) (rs : Resolved text w (c .procs) (c .nodes) line w′) where
       finish-is : (s : Listing) (n : ℕ) → Known text s → Holds w c s → finishProgram n s ≡ after (first (nodeCount (s .program)) (lost (s .program))) (accepted s) (λ m. refused 9 (getD (s .places .nodeLines) m 0))
       unfolding finishProgram Completes
-      finish-is s n k h = unless-passes _ _ _ _ (begun-of s h) ∙ unless-passes _ _ _ _ (false-isnt (sym (q s k h (some-of s h)) ∙ t))
+      finish-is s n k h = unless-passes _ _ _ _ (begun-of s h) ∙ unless-passes _ _ _ _ (false-isnt (sym (q s (k .sound) h (some-of s h)) ∙ t))
 
       pub finish-lost : (place : ℕ) → (line ≡ 0 → ⊥) → place ≡ line - 1 → Finished text c w (record { number = 9; place = place; procs = c .procs; nodes = c .nodes; edges = c .edges }) w′
       unfolding Resolved
@@ -328,7 +328,7 @@ module _ (text w : List ℕ) (c : Count) (sm : Small c) where
             told = λ s n k h.
                 let a : Partly w w′ s (nodeCount (s .program)) = rs s c k h (h .procs-n) (h .nodes-n) .0 z in
                 let held : InTable w′ (record { number = 0; place = 0; procs = c .procs; nodes = c .nodes; edges = c .edges }) s
-                = table-held text w w′ c s k h (some-of s h) (sym (q s k h (some-of s h)) ∙ t) a (record { number = 0; place = 0; procs = c .procs; nodes = c .nodes; edges = c .edges }) refl refl refl in
+                = table-held text w w′ c s k h (some-of s h) (sym (q s (k .sound) h (some-of s h)) ∙ t) a (record { number = 0; place = 0; procs = c .procs; nodes = c .nodes; edges = c .edges }) refl refl refl in
                 subst (λ (x : Answer Listing). Told x (record { number = 0; place = 0; procs = c .procs; nodes = c .nodes; edges = c .edges }) w′)
                 (sym (finish-is s n k h ∙ ap (λ (o : Option ℕ). after o (accepted s) (λ m. refused 9 (getD (s .places .nodeLines) m 0))) (a .none-lost))) (refl, refl, held);
             small = small-answer 0 0;

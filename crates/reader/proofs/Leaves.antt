@@ -63,10 +63,10 @@ pub stored-node : (w w₁ w₂ w₃ : List ℕ) (q c kind start len last : ℕ) 
 unfolding storedNode
 stored-node w w₁ w₂ w₃ q c kind start len last a b d = d ∙ ap (marked kind q c) (b ∙ ap (λ (l : List ℕ). set l (7616 + c) 0) a)
 
-pub stored-edge : (w w₁ w₂ : List ℕ) (c from start len to head : ℕ) → head ≡ getD w (7616 + from) 0 → w₁ ≡ sets w (2496 + 5 * c) (from ∷ start ∷ len ∷ to ∷ head ∷ []) → w₂ ≡ set w₁ (7616 + from) (c + 1)
-    → w₂ ≡ storedEdge w c from start len to
+pub stored-edge : (w w₁ w₂ : List ℕ) (c from start key to head : ℕ) → head ≡ getD w (7616 + from) 0 → w₁ ≡ sets w (2496 + 5 * c) (from ∷ start ∷ key ∷ to ∷ head ∷ []) → w₂ ≡ set w₁ (7616 + from) (c + 1)
+    → w₂ ≡ storedEdge w c from start key to
 unfolding storedEdge
-stored-edge w w₁ w₂ c from start len to head e a b =
-    b ∙ ap (λ (l : List ℕ). set l (7616 + from) (c + 1)) (a ∙ ap (λ (h : ℕ). sets w (2496 + 5 * c) (from ∷ start ∷ len ∷ to ∷ h ∷ [])) e)
+stored-edge w w₁ w₂ c from start key to head e a b =
+    b ∙ ap (λ (l : List ℕ). set l (7616 + from) (c + 1)) (a ∙ ap (λ (h : ℕ). sets w (2496 + 5 * c) (from ∷ start ∷ key ∷ to ∷ h ∷ [])) e)
 
 pub ruleset leaves = (degrees-other, of-none, of-some, sets-five, mark-entry, mark-exit, mark-none, stored-node, stored-edge)

@@ -12,13 +12,14 @@ use borrow.Author.Tests.{eqb-true, ltb-true, lt-ltb, le-ltb, leb-true, le-leb, l
 use Rattle.laws.specs.Tests.{_and_, _or_, isnt, any, first, found}
 use Rattle.laws.specs.TestLaws.{and-left, and-right, and-both, or-left, or-right, fails, both-ways, true-isnt, false-isnt, same-test, any-of, any-at, first-at, first-none}
 use Rattle.laws.specs.Lists.{choose-yes, choose-no}
-use Rattle.rules.specs.Text.{Bytes, same, value, maxProcs, maxEdges, Answer, refused, unless}
+use Rattle.rules.specs.Text.{Bytes, same, isWord, value, maxProcs, maxEdges, Answer, refused, unless}
 use Rattle.rules.specs.Graph.{Kind, nameAt, ownerAt, procCount, nodeCount, edgeCount, kindNumber, leaves, edgeTaken}
 use Rattle.rules.specs.ProgramFile.{Line, proc-line, node-line, edge-line, malformed, Listing, current, begun, named, hasEdge, hasWord, isNodeOf, withProc, withNode, withEdge, takeLine}
 use Rattle.rules.specs.Places.{Part}
 use Rattle.rules.specs.Proofs.TextLaws.{unless-passes}
 use Rattle.rules.specs.Proofs.Places.{part-is}
 use Rattle.graph.specs.Table.{firstNode, firstEdge}
+use Rattle.graph.specs.Keys.{wordKey, word-short}
 use Rattle.graph.specs.Lookups.{in-table, Procs, Edges, ProcNamed, EdgeTaken}
 use Rattle.lines.specs.declared.Form.{Form}
 use Rattle.lines.specs.declared.Form.the-variants.{Malformed, Proc, Node, Edge}
@@ -127,7 +128,7 @@ module _ (text w : List ℕ) (n at len : ℕ) (c : Count) where
   first-proc r w′ z o =
       proc-stepped r w′ (λ s name k h e p. after-same _ _ r w′ (choose-no _ _ (le-ltb 0 (procCount (s .program)) (omega (arith, h .procs-n)))) (o s name k h e p))
 
-  module _ (some-proc : c .procs ≡ 0 → ⊥) (u : Bool) (q : Completes text w c u) where
+  module _ (some-proc : c .procs ≡ 0 → ⊥) (u : Bool) (q : Completes w c u) where
     some-of : (s : Listing) → Holds w c s → 0 < procCount (s .program)
     some-of s h = some-procs w c s h some-proc
 
@@ -136,7 +137,7 @@ module _ (text w : List ℕ) (n at len : ℕ) (c : Count) where
     next-proc r w′ t o =
         proc-stepped r w′ (λ s name k h e p.
         let b = some-of s h in
-        after-same _ _ r w′ (choose-yes _ _ (lt-ltb 0 (procCount (s .program)) b) ∙ unless-passes _ _ _ _ (false-isnt (sym (q s k h b) ∙ t))) (o s name k h e p))
+        after-same _ _ r w′ (choose-yes _ _ (lt-ltb 0 (procCount (s .program)) b) ∙ unless-passes _ _ _ _ (false-isnt (sym (q s (k .sound) h b) ∙ t))) (o s name k h e p))
 
     pub open-proc : (r : Count) (w′ : List ℕ) → u ≡ false → r .number ≡ 8 → r .place ≡ ofCurrent w (c .procs) 2 → Stepped text n at (Proc len) c w r w′
     unfolding takeLine Completes
@@ -144,7 +145,7 @@ module _ (text w : List ℕ) (n at len : ℕ) (c : Count) where
         proc-stepped r w′ (λ s name k h e p.
         let b = some-of s h in
         after-refused _ 8 (getD (s .places .procLines) (current (s .program)) 0) r w′
-        (choose-yes _ _ (lt-ltb 0 (procCount (s .program)) b) ∙ unless-stops _ _ _ _ (true-isnt (sym (q s k h b) ∙ t))) (omega arith) a (d ∙ current-row w c s h b 2 (omega arith)))
+        (choose-yes _ _ (lt-ltb 0 (procCount (s .program)) b) ∙ unless-stops _ _ _ _ (true-isnt (sym (q s (k .sound) h b) ∙ t))) (omega arith) a (d ∙ current-row w c s h b 2 (omega arith)))
 
 pub ruleset proc-lines = (small-proc, proc-full, proc-twice, proc-new, first-proc, next-proc, open-proc)
 
@@ -227,33 +228,35 @@ pub in-rest : (first nodes n : ℕ) → first ≤ n → ltb n nodes ≡ inProced
 unfolding inProcedure _and_
 in-rest first nodes n h = let z : leb first n ≡ true = le-leb first n h in rw z
 
-module _ (text w : List ℕ) (n f start len t : ℕ) (c : Count) (b : Bytes) (eb : b ≡ take len (drop start text)) (l : List ℕ) (el : l ≡ linksOf w) (y : ℕ) (q : EdgeTaken text l f b y) where
-  taken-is : (s : Listing) (word : Bytes) → Known text s → Holds w c s → len ≡ length word → Part text start word → f < nodeCount (s .program) → y ≡ found (edgeTaken (s .program) f word)
+module _ (text w : List ℕ) (n f start len t : ℕ) (c : Count) (b : Bytes) (eb : b ≡ take len (drop start text)) (i : ℕ) (ei : i ≡ wordKey (take 8 b))
+    (l : List ℕ) (el : l ≡ linksOf w) (y : ℕ) (q : EdgeTaken l f i y) where
+  key-is : (word : Bytes) → len ≡ length word → Part text start word → isWord word ≡ true → i ≡ wordKey word
+  key-is word e p v = ei ∙ ap (λ (x : Bytes). wordKey (take 8 x)) (part-bytes text start len b word eb e p) ∙ ap wordKey (word-short word v)
+
+  taken-is : (s : Listing) (word : Bytes) → Known text s → Holds w c s → len ≡ length word → Part text start word → isWord word ≡ true → f < nodeCount (s .program) → y ≡ found (edgeTaken (s .program) f word)
   unfolding EdgeTaken
-  taken-is s word k h e p m =
-      q s (subst (λ (x : List ℕ). Edges text (in-table x) s) (sym el) (edges-of text w c s k h)) m
-      ∙ ap (λ (x : Bytes). found (edgeTaken (s .program) f x)) (part-bytes text start len b word eb e p)
+  taken-is s word k h e p v m = q s word (subst (λ (x : List ℕ). Edges (in-table x) s) (sym el) (edges-of w c s (k .sound) h)) m v (key-is word e p v)
 
   pub edge-twice : (r : Count) (w′ : List ℕ) → 0 < y → r .number ≡ 7 → r .place ≡ n → Linked text n f start len t c w r w′
   unfolding Linked hasWord edgeTaken
-  edge-twice r w′ z a d s at from word to k h ef et el′ es p m o =
-      let v = found-some _ (subst (λ (m : ℕ). 0 < m) (taken-is s word k h el′ p m) z) in
-      let u = first-at (leaves (s .program) f word) (edgeCount (s .program)) (v .0) (v .1) in
-      after-refused _ 7 n r w′ (unless-stops _ _ _ _ (ap (λ (i : ℕ). any (edgeCount (s .program)) (leaves (s .program) i word)) (sym ef) ∙ any-of (leaves (s .program) f word) (edgeCount (s .program)) (v .0) (u .0) (u .1))) (omega arith) a d
+  edge-twice r w′ z a d s at from word to k h ef et el′ es p v m o =
+      let g = found-some _ (subst (λ (m : ℕ). 0 < m) (taken-is s word k h el′ p v m) z) in
+      let u = first-at (leaves (s .program) f word) (edgeCount (s .program)) (g .0) (g .1) in
+      after-refused _ 7 n r w′ (unless-stops _ _ _ _ (ap (λ (i : ℕ). any (edgeCount (s .program)) (leaves (s .program) i word)) (sym ef) ∙ any-of (leaves (s .program) f word) (edgeCount (s .program)) (g .0) (u .0) (u .1))) (omega arith) a d
 
-  pub edge-new : (w′ : List ℕ) → y ≤ 0 → c .edges < 1024 → 8128 ≤ length w → w′ ≡ storedEdge w (c .edges) f start len t
+  pub edge-new : (w′ : List ℕ) → y ≤ 0 → c .edges < 1024 → 8128 ≤ length w → w′ ≡ storedEdge w (c .edges) f start i t
       → Linked text n f start len t c w (record { number = 0; place = 0; procs = c .procs; nodes = c .nodes; edges = c .edges + 1 }) w′
   unfolding Linked hasWord edgeTaken
-  edge-new w′ z few room ew s at from word to k h ef et el′ es p m o =
-      let v = found-none _ (subst (λ (m : ℕ). m ≤ 0) (taken-is s word k h el′ p m) z) in
+  edge-new w′ z few room ew s at from word to k h ef et el′ es p v m o =
+      let g = found-none _ (subst (λ (m : ℕ). m ≤ 0) (taken-is s word k h el′ p v m) z) in
       let fresh : any (edgeCount (s .program)) (leaves (s .program) (value from) word) ≡ false
       = ap (λ (i : ℕ). any (edgeCount (s .program)) (leaves (s .program) i word)) (sym ef)
-      ∙ fails _ (λ t. let u = any-at (leaves (s .program) f word) (edgeCount (s .program)) t in first-none (leaves (s .program) f word) (edgeCount (s .program)) v (u .0) (u .1) (u .2)) in
+      ∙ fails _ (λ t. let u = any-at (leaves (s .program) f word) (edgeCount (s .program)) t in first-none (leaves (s .program) f word) (edgeCount (s .program)) g (u .0) (u .1) (u .2)) in
       after-same _ _ _ _ (unless-passes _ _ _ _ fresh) (
         refl,
         subst (λ (v : List ℕ). Holds v (record { number = 0; place = 0; procs = c .procs; nodes = c .nodes; edges = c .edges + 1 }) (withEdge at from word to s))
-            (sym (ew ∙ ap (λ (i : ℕ). storedEdge w (c .edges) i start len t) ef ∙ ap (λ (i : ℕ). storedEdge w (c .edges) (value from) i len t) es ∙ ap (λ (i : ℕ). storedEdge w (c .edges) (value from) (at + length from + 3) i t) el′
-            ∙ ap (storedEdge w (c .edges) (value from) (at + length from + 3) (length word)) et))
+            (sym (ew ∙ ap (λ (x : ℕ). storedEdge w (c .edges) x start i t) ef ∙ ap (λ (x : ℕ). storedEdge w (c .edges) (value from) x i t) es ∙ ap (λ (x : ℕ). storedEdge w (c .edges) (value from) (at + length from + 3) x t) (key-is word el′ p v)
+            ∙ ap (storedEdge w (c .edges) (value from) (at + length from + 3) (wordKey word)) et))
             (push-edge text w c s k h room few from word to at (subst (λ (i : ℕ). ownerAt (s .program) i ≡ current (s .program)) ef o) (subst (λ (i : ℕ). i < nodeCount (s .program)) ef m)),
       )
 
@@ -269,7 +272,7 @@ module _ (text w : List ℕ) (n from start len to : ℕ) (c : Count) (at j : ℕ
   as-edge malformed e f = absurd (true≢false (let z : true ≡ false = cc in z))
 
   edge-stepped : (r : Count) (w′ : List ℕ)
-      → ((s : Listing) (f v t : Bytes) → Known text s → Holds w c s → from ≡ min (value f) 65536 → j ≡ length f → len ≡ length v → to ≡ min (value t) 65536 → Part text (at + length f + 3) v
+      → ((s : Listing) (f v t : Bytes) → Known text s → Holds w c s → from ≡ min (value f) 65536 → j ≡ length f → len ≡ length v → to ≡ min (value t) 65536 → Part text (at + length f + 3) v × (isWord v ≡ true)
       → After (takeLine n at s (edge-line f v t)) r w′)
       → Stepped text n at (Edge from j len to) c w r w′
   unfolding Stepped
@@ -342,7 +345,7 @@ module _ (text w : List ℕ) (n from start len to : ℕ) (c : Count) (at j : ℕ
           let ef : from ≡ value f = omega (arith, small .few-nodes) in
           let et : to ≡ value t = omega (arith, small .few-nodes) in
           after-same _ _ r w′ (unless-passes _ _ _ _ (has-begun s h) ∙ unless-passes _ _ _ _ (room-edges s h) ∙ unless-passes _ _ _ _ (false-isnt (and-both a b)))
-          (q s at f v t k h ef et d (es ∙ ap (λ (m : ℕ). at + m + 3) i) (subst (λ (m : ℕ). Part text m v) (sym (es ∙ ap (λ (m : ℕ). at + m + 3) i)) p)
+          (q s at f v t k h ef et d (es ∙ ap (λ (m : ℕ). at + m + 3) i) (subst (λ (m : ℕ). Part text m v) (sym (es ∙ ap (λ (m : ℕ). at + m + 3) i)) (p .0)) (p .1)
           (subst (λ (m : ℕ). from < m) (h .nodes-n) fl) (subst (λ (m : ℕ). ownerAt (s .program) m ≡ current (s .program)) (sym ef) (eqb-true _ _ (and-right _ _ a)))))
 
 pub ruleset edge-lines = (in-not, in-rest, edge-first, edge-full, edge-from, edge-to, edge-linked)

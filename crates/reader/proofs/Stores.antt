@@ -20,6 +20,7 @@ use Rattle.rules.specs.Text.{Bytes, value}
 use Rattle.rules.specs.Graph.{Kind, E, S, C, X, Node, Edge, noNode, noEdge, ownerAt, sourceAt, procCount, nodeCount, edgeCount, kindNumber, sameKind, orZero, isOf, entry, exit}
 use Rattle.rules.specs.ProgramFile.{Listing, addNode, current, withProc, withNode, withEdge}
 use Rattle.graph.specs.Table.{At, procHead, edgeRow, headOf, firstNode, firstEdge}
+use Rattle.graph.specs.Keys.{wordKey}
 use Rattle.graph.specs.Lookups.{in-table}
 use Rattle.lines.specs.Known.{Known}
 use Rattle.reader.specs.declared.Count.{Count}
@@ -336,7 +337,7 @@ module _ (text w : List ℕ) (c : Count) (s : Listing) (k : Known text s) (h : H
   with-edge = withEdge at from word to s
 
   abbrev edge-row : List ℕ
-  edge-row = value from ∷ (at + length from + 3) ∷ length word ∷ value to ∷ getD w (7616 + value from) 0 ∷ []
+  edge-row = value from ∷ (at + length from + 3) ∷ wordKey word ∷ value to ∷ getD w (7616 + value from) 0 ∷ []
 
   m₁ : List ℕ
   m₁ = set (sets (linksOf w) (448 + 5 * c .edges) edge-row) (5568 + value from) (c .edges + 1)
@@ -367,14 +368,14 @@ module _ (text w : List ℕ) (c : Count) (s : Listing) (k : Known text s) (h : H
   row-old : (e : ℕ) → e < edgeCount (s .program) → edgeRow with-edge e ≡ edgeRow s e
   row-old e l =
       let v = snoc-old noEdge (s .program .edges) y e l in
-      five (ap (λ (v : Edge). v .source) v) (snoc-old 0 (s .places .wordStarts) (at + length from + 3) e (omega (arith, k .wordStarts))) (ap (λ (v : Edge). length (v .word)) v) (ap (λ (v : Edge). v .target) v)
+      five (ap (λ (v : Edge). v .source) v) (snoc-old 0 (s .places .wordStarts) (at + length from + 3) e (omega (arith, k .wordStarts))) (ap (λ (v : Edge). wordKey (v .word)) v) (ap (λ (v : Edge). v .target) v)
       (latest-agree (sourceAt (with-edge .program)) (sourceAt (s .program)) (sourceAt (with-edge .program) e) e (λ i b. sources-agree i (omega arith))
       ∙ ap (λ (a : ℕ). latest (sourceAt (s .program)) a e) (sources-agree e l))
 
   row-new : (e : ℕ) → e ≡ edgeCount (s .program) → edge-row ≡ edgeRow with-edge e
   row-new e l =
       let v : getD (s .program .edges ++ (y ∷ [])) e noEdge ≡ y = last-is noEdge (s .program .edges) y e (sym l) in
-      five (sym (ap (λ (v : Edge). v .source) v)) (sym (last-is 0 (s .places .wordStarts) (at + length from + 3) e (k .wordStarts ∙ sym l))) (sym (ap (λ (v : Edge). length (v .word)) v)) (sym (ap (λ (v : Edge). v .target) v))
+      five (sym (ap (λ (v : Edge). v .source) v)) (sym (last-is 0 (s .places .wordStarts) (at + length from + 3) e (k .wordStarts ∙ sym l))) (sym (ap (λ (v : Edge). wordKey (v .word)) v)) (sym (ap (λ (v : Edge). v .target) v))
       (head-before e l)
 
   edge-at : (e : ℕ) → (e < edgeCount (s .program)) ⊎ (e ≡ edgeCount (s .program)) → At (in-table m₁) (448 + 5 * e) (edgeRow with-edge e)
@@ -409,7 +410,7 @@ module _ (text w : List ℕ) (c : Count) (s : Listing) (k : Known text s) (h : H
       (five refl refl refl refl (sym (edge-first-edge (s .program) y i (let z : i ≤ ownerAt (s .program) (value from) = omega (arith, mine) in z))))
       (λ j b. kept-before (7 * i + j) (omega (arith, k .sound .fewProcs)) ∙ h .reading .procs i l j b)
 
-  pub push-edge : Holds (storedEdge w (c .edges) (value from) (at + length from + 3) (length word) (value to))
+  pub push-edge : Holds (storedEdge w (c .edges) (value from) (at + length from + 3) (wordKey word) (value to))
       (record { number = 0; place = 0; procs = c .procs; nodes = c .nodes; edges = c .edges + 1 }) (withEdge at from word to s)
   unfolding storedEdge entry exit isOf
   push-edge =

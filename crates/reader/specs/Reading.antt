@@ -8,10 +8,11 @@ use lib.Dec.{eqb, leb, ltb}
 use lib.ListN.{length, getD, take, drop, set}
 use lib.Seq.{sets}
 use Rattle.laws.specs.Tests.{_and_, _⇒_, every, first, count, choose}
-use Rattle.rules.specs.Text.{Bytes, value, Answer, refused, accepted, unless, readLines, linesOf as linesOfText}
+use Rattle.rules.specs.Text.{Bytes, isWord, value, Answer, refused, accepted, unless, readLines, linesOf as linesOfText}
 use Rattle.rules.specs.Graph.{Program, E, C, X, kindAt, labelAt, calleeAt, sourceAt, nodeCount, edgeCount, procCount, kindNumber, isOf, entry, exit, worded, wordAt, ownerAt}
 use Rattle.rules.specs.ProgramFile.{Line, Listing, current, complete, takeProc, takeLine, stepProgram, finishProgram, nothingRead, hasWord, withEdge, degreeFine, lost}
 use Rattle.rules.specs.Places.{Part}
+use Rattle.rules.specs.Proofs.ProgramLaws.{Sound}
 use Rattle.graph.specs.Table.{At, nodeBase, procBase, edgeBase, headBase, procHead, edgeRow, headOf, nodeRow}
 use Rattle.graph.specs.Lookups.{in-table}
 use Rattle.lines.specs.declared.Form.{Form}
@@ -87,7 +88,7 @@ pub record AddedEdge (text : Bytes) (n from start len to : ℕ) (c : Count) (w :
 unfoldable pub Linked : Bytes → ℕ → ℕ → ℕ → ℕ → ℕ → Count → List ℕ → Count → List ℕ → Type 0
 Linked text n f start len t c w r w′ =
     (s : Listing) (at : ℕ) (from word to : Bytes) → Known text s → Holds w c s → f ≡ value from → t ≡ value to → len ≡ length word → start ≡ at + length from + 3 → Part text start word
-    → f < nodeCount (s .program) → ownerAt (s .program) f ≡ current (s .program)
+    → isWord word ≡ true → f < nodeCount (s .program) → ownerAt (s .program) f ≡ current (s .program)
     → After (unless (hasWord (s .program) (value from) word) 7 n (accepted (withEdge at from word to s))) r w′
 
 pub record LinkedEdge (text : Bytes) (n f start len t : ℕ) (c : Count) (w : List ℕ) (r : Count) (w′ : List ℕ) : Type 0 where
@@ -115,21 +116,21 @@ kindCount w first nodes k = count nodes (λ n. leb first n and eqb (getD w (4 * 
 unfoldable pub nodeFine : Program → ℕ → Bool
 nodeFine p n = degreeFine p n and every (edgeCount p) (λ e. eqb (sourceAt p e) n ⇒ worded (kindAt p n) (wordAt p e))
 
-unfoldable pub NodeFine : Bytes → List ℕ → ℕ → Bool → Type 0
-NodeFine text w n r = (s : Listing) (c : Count) → Known text s → Holds w c s → n < nodeCount (s .program) → r ≡ nodeFine (s .program) n
+unfoldable pub NodeFine : List ℕ → ℕ → Bool → Type 0
+NodeFine w n r = (s : Listing) (c : Count) → Sound (s .program) → Holds w c s → n < nodeCount (s .program) → r ≡ nodeFine (s .program) n
 
 -- `all_fine`: every node from `first` on is.
-unfoldable pub AllFine : Bytes → List ℕ → ℕ → ℕ → Bool → Type 0
-AllFine text w first nodes r = (s : Listing) (c : Count) → Known text s → Holds w c s → nodes ≡ nodeCount (s .program) → r ≡ every nodes (λ n. leb first n ⇒ nodeFine (s .program) n)
+unfoldable pub AllFine : List ℕ → ℕ → ℕ → Bool → Type 0
+AllFine w first nodes r = (s : Listing) (c : Count) → Sound (s .program) → Holds w c s → nodes ≡ nodeCount (s .program) → r ≡ every nodes (λ n. leb first n ⇒ nodeFine (s .program) n)
 
 -- The nodes from `first` up to n are.
-unfoldable pub FineTo : Bytes → List ℕ → ℕ → ℕ → ℕ → Type 0
-FineTo text w first nodes n =
-    (s : Listing) (c : Count) → Known text s → Holds w c s → nodes ≡ nodeCount (s .program) → every n (λ i. leb first i ⇒ nodeFine (s .program) i) ≡ true
+unfoldable pub FineTo : List ℕ → ℕ → ℕ → ℕ → Type 0
+FineTo w first nodes n =
+    (s : Listing) (c : Count) → Sound (s .program) → Holds w c s → nodes ≡ nodeCount (s .program) → every n (λ i. leb first i ⇒ nodeFine (s .program) i) ≡ true
 
 -- `complete`: the procedure that is being read is.
-unfoldable pub Completes : Bytes → List ℕ → Count → Bool → Type 0
-Completes text w c r = (s : Listing) → Known text s → Holds w c s → 0 < procCount (s .program) → r ≡ complete (s .program) (current (s .program))
+unfoldable pub Completes : List ℕ → Count → Bool → Type 0
+Completes w c r = (s : Listing) → Sound (s .program) → Holds w c s → 0 < procCount (s .program) → r ≡ complete (s .program) (current (s .program))
 
 -- ---- what the stores leave in the work table
 
@@ -146,7 +147,7 @@ storedNode w q c kind start len last = marked kind q c (set (sets w (4 * c) (kin
 
 -- The row of the edge c, at the head of its node's chain.
 unfoldable pub storedEdge : List ℕ → ℕ → ℕ → ℕ → ℕ → ℕ → List ℕ
-storedEdge w c from start len to = set (sets w (2496 + 5 * c) (from ∷ start ∷ len ∷ to ∷ getD w (7616 + from) 0 ∷ [])) (7616 + from) (c + 1)
+storedEdge w c from start key to = set (sets w (2496 + 5 * c) (from ∷ start ∷ key ∷ to ∷ getD w (7616 + from) 0 ∷ [])) (7616 + from) (c + 1)
 
 -- ---- all lines
 

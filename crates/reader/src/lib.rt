@@ -131,12 +131,12 @@ fn store_node(
     mark(work, kind, q, node);
 }
 
-fn store_edge(work: &mut [usize], edge: usize, from: usize, start: usize, len: usize, to: usize)
+fn store_edge(work: &mut [usize], edge: usize, from: usize, start: usize, key: usize, to: usize)
     requires { ⌜ (edge ≤ 1024) × (from ≤ 65536) ⌝ }
-    ensures { λ _. ⌜ now (work .exit) ≡ storedEdge (now (work .entry)) edge from start len to ⌝ }
+    ensures { λ _. ⌜ now (work .exit) ≡ storedEdge (now (work .entry)) edge from start key to ⌝ }
 {
     let head = get(work, 7616 + from);
-    put5(work, 2496 + 5 * edge, from, start, len, to, head);
+    put5(work, 2496 + 5 * edge, from, start, key, to, head);
     put(work, 7616 + from, edge + 1);
 }
 
@@ -175,9 +175,9 @@ fn count_kind(work: &[usize], first: usize, nodes: usize, kind: usize) -> usize
 }
 
 // Whether a node has as many edges as the table says, and `-` on them if it is an E or C.
-fn node_fine(text: &[u8], work: &[usize], n: usize) -> bool
+fn node_fine(work: &[usize], n: usize) -> bool
     requires { ⌜ n ≤ 512 ⌝ }
-    ensures { λ r. ⌜ NodeFine (now (text .entry)) (now (work .entry)) n r ⌝ }
+    ensures { λ r. ⌜ NodeFine (now (work .entry)) n r ⌝ }
 {
     let kind = get(work, 4 * n);
     let bounds = degrees_of(kind);
@@ -191,25 +191,25 @@ fn node_fine(text: &[u8], work: &[usize], n: usize) -> bool
         return false;
     }
     if kind == 0 {
-        return graph::dashed(text, links(work), n);
+        return graph::dashed(links(work), n);
     }
     if kind == 2 {
-        return graph::dashed(text, links(work), n);
+        return graph::dashed(links(work), n);
     }
     true
 }
 
 // Whether every node from the first on is fine.
-fn all_fine(text: &[u8], work: &[usize], first: usize, nodes: usize) -> bool
+fn all_fine(work: &[usize], first: usize, nodes: usize) -> bool
     requires { ⌜ nodes ≤ 512 ⌝ }
-    ensures { λ r. ⌜ AllFine (now (text .entry)) (now (work .entry)) first nodes r ⌝ }
+    ensures { λ r. ⌜ AllFine (now (work .entry)) first nodes r ⌝ }
 {
     if nodes < first {
         return true;
     }
     let mut n = first;
     while n < nodes {
-        if node_fine(text, work, n) {
+        if node_fine(work, n) {
             n += 1;
         } else {
             return false;
@@ -219,9 +219,9 @@ fn all_fine(text: &[u8], work: &[usize], first: usize, nodes: usize) -> bool
 }
 
 // Whether the procedure that is being read is complete.
-fn complete(text: &[u8], work: &[usize], had: Count) -> bool
+fn complete(work: &[usize], had: Count) -> bool
     requires { ⌜ Small had ⌝ }
-    ensures { λ r. ⌜ Completes (now (text .entry)) (now (work .entry)) had r ⌝ }
+    ensures { λ r. ⌜ Completes (now (work .entry)) had r ⌝ }
 {
     let procs = had.procs;
     let nodes = had.nodes;
@@ -234,7 +234,7 @@ fn complete(text: &[u8], work: &[usize], had: Count) -> bool
     if exits != 1 {
         return false;
     }
-    all_fine(text, work, first, nodes)
+    all_fine(work, first, nodes)
 }
 
 // ---- a line
@@ -302,7 +302,7 @@ fn add_proc(
     if procs == 0 {
         return new_proc(text, line, at, len, had, work);
     }
-    if complete(text, work, had) {
+    if complete(work, had) {
         return new_proc(text, line, at, len, had, work);
     }
     let place = of_current(work, procs, 2);
@@ -464,7 +464,8 @@ fn new_edge(
     let nodes = had.nodes;
     let edges = had.edges;
     let word = part(text, start, len);
-    let twice = graph::edge_taken(text, links(work), from, word);
+    let key = graph::key(word);
+    let twice = graph::edge_taken(links(work), from, key);
     if 0 < twice {
         return Count {
             number: 7,
@@ -474,7 +475,7 @@ fn new_edge(
             edges,
         };
     }
-    store_edge(work, edges, from, start, len, to);
+    store_edge(work, edges, from, start, key, to);
     Count {
         number: 0,
         place: 0,
@@ -623,7 +624,7 @@ fn finish(text: &[u8], had: Count, work: &mut [usize]) -> Count
             edges,
         };
     }
-    if complete(text, work, had) {
+    if complete(work, had) {
         let line = resolve(text, work, procs, nodes);
         if line != 0 {
             return Count {

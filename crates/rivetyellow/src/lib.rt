@@ -1,13 +1,12 @@
 // The calls for host programs in C. Each takes texts, numbers and an output, runs a whole job in its own frame and returns
 // number * 4,294,967,296 + place: the number is 0 for success, and the place is then how many bytes were written. They answer for every text,
 // number and output; a refusal leaves the output as it was.
-use writer::Answer;
+use answer::Answer;
 ghost use mathlib.Core.Path.{_≡_};
 ghost use Prim.Native.Nat.{_+_, _*_, _≤_, _<_};
 ghost use lib.ListN.{length};
 ghost use Rattle.rules.specs.Job.{checkAnswer, outputAfter, packed, readNewAnswer, readOldAnswer, readTestsAnswer, recordAnswer, sheetAnswer};
-ghost use Rattle.checker.specs.Checking.{Answered};
-ghost use Rattle.writer.specs.Sheets.{Told};
+ghost use Rattle.answer.specs.Outcomes.{Answered, Told};
 
 // Number and place in one number.
 fn pack(number: usize, place: usize) -> u64
@@ -73,7 +72,7 @@ fn sheet_job(old: &[u8], new: &[u8], tt: &[u8], out: &mut [u8]) -> Answer
             place: had.place,
         };
     }
-    let mut w = [0usize; 16896];
+    let mut w = [0usize; 16912];
     let ol = reader::links(&ow);
     let nl = reader::links(&nw);
     work::write_sheet(
@@ -117,7 +116,7 @@ fn record_job(old: &[u8], new: &[u8], tt: &[u8], test: usize, out: &mut [u8]) ->
             place: had.place,
         };
     }
-    let mut w = [0usize; 16896];
+    let mut w = [0usize; 16912];
     let ol = reader::links(&ow);
     let nl = reader::links(&nw);
     work::write_record(
@@ -150,7 +149,7 @@ pub extern "C" fn ry_record(old: &[u8], new: &[u8], tt: &[u8], test: usize, out:
 // ---- checking
 
 // The check of a sheet over a whole job.
-fn check_job(old: &[u8], new: &[u8], tt: &[u8], sheet: &[u8]) -> checker::Answer
+fn check_job(old: &[u8], new: &[u8], tt: &[u8], sheet: &[u8]) -> Answer
     ensures { λ r. ⌜ Answered (checkAnswer (now (old .entry)) (now (new .entry)) (now (tt .entry)) (now (sheet .entry))) r ⌝ }
 {
     let mut ow = [0usize; 8128];
@@ -159,7 +158,7 @@ fn check_job(old: &[u8], new: &[u8], tt: &[u8], sheet: &[u8]) -> checker::Answer
     let mut rows = [0u64; 3200];
     let had = intake::read_job(old, new, tt, &mut ow, &mut nw, &mut tests, &mut rows);
     if had.number != 0 {
-        return checker::Answer {
+        return Answer {
             number: had.number,
             place: had.place,
         };
@@ -168,7 +167,7 @@ fn check_job(old: &[u8], new: &[u8], tt: &[u8], sheet: &[u8]) -> checker::Answer
     let news = had.new_nodes;
     let edges = had.old_edges;
     let count = had.tests;
-    let mut w = [0usize; 16896];
+    let mut w = [0usize; 16912];
     let mut sets = [0u64; 20];
     let ol = reader::links(&ow);
     let nl = reader::links(&nw);

@@ -18,7 +18,6 @@ use Rattle.rules.specs.ProgramFile.{Listing}
 use Rattle.graph.specs.Table.{edgeBase}
 use Rattle.pairset.specs.Store.{lastPair, newAt, oldAt, pairBefore, pairsIn}
 use Rattle.pairset.specs.StoreLaws.{walked}
-use Rattle.versions.specs.Memory.{Memory, memory}
 use Rattle.versions.specs.Found.{none-found}
 use Rattle.versions.specs.Claims.{GoesOn}
 use Rattle.selection.specs.Compared.{Compared, Fitting, Leads, counterpart, joins-lead, pair-there}
@@ -27,15 +26,15 @@ use Rattle.selection.proofs.Dangers.{goes-is, source-of}
 
 -- ---- `joins`
 
-module _ (ot on ol nt nn nl w : List ℕ) (e n m : ℕ) (g : Bool) (go : GoesOn on ol nn nl w n m g) where
-  pub joins-stays : g ≡ false → Joins (memory ot on ol) (memory nt nn nl) w e n m 0
+module _ (on ol nn nl w : List ℕ) (e n m : ℕ) (g : Bool) (go : GoesOn on ol nn nl w n m g) where
+  pub joins-stays : g ≡ false → Joins on ol nn nl w e n m 0
   unfolding Joins counterpart
-  joins-stays z o p c h i en j = sym (choose-no _ 0 (rw (← en) (sym (goes-is ot on ol nt nn nl w e n m g go o p c h i en j) ∙ z)))
+  joins-stays z o p c h i en j = sym (choose-no _ 0 (rw (← en) (sym (goes-is on ol nn nl w e n m g go o p c h i en j) ∙ z)))
 
-  pub joins-goes : (t : ℕ) → g ≡ true → Fitting ot ol nt nl w e m t → Joins (memory ot on ol) (memory nt nn nl) w e n m t
+  pub joins-goes : (t : ℕ) → g ≡ true → Fitting ol nl w e m t → Joins on ol nn nl w e n m t
   unfolding Joins Fitting counterpart
   joins-goes t z f o p c h i en j =
-      let x : goesOn (o .program) (p .program) (pairsIn w c) (sourceAt (o .program) e) m ≡ true = rw (← en) (sym (goes-is ot on ol nt nn nl w e n m g go o p c h i en j) ∙ z) in
+      let x : goesOn (o .program) (p .program) (pairsIn w c) (sourceAt (o .program) e) m ≡ true = rw (← en) (sym (goes-is on ol nn nl w e n m g go o p c h i en j) ∙ z) in
       f on nn o p c h i (rw (← en) j) x ∙ sym (choose-yes _ 0 x)
 
 -- ---- `differ`, `either`
@@ -138,46 +137,46 @@ module _ {J : ℕ → Bool} {n : ℕ} {key to : ℕ → ℕ} {a c : ℕ} (h : Le
           }))
 
 -- What was seen of the counterparts, at the place.
-unfoldable pub SeenTo : Memory → Memory → List ℕ → ℕ → ℕ → ℕ → ℕ → Type 0
-SeenTo v v′ w e n seen place =
-    (o p : Listing) (c : ℕ) → Compared v v′ w c o p → e < edgeCount (o .program)
+unfoldable pub SeenTo : List ℕ → List ℕ → List ℕ → List ℕ → List ℕ → ℕ → ℕ → ℕ → ℕ → Type 0
+SeenTo on ol nn nl w e n seen place =
+    (o p : Listing) (c : ℕ) → Compared on ol nn nl w c o p → e < edgeCount (o .program)
     → (n ≡ sourceAt (o .program) e)
     × Seen (joined (o .program) (p .program) (pairs (o .program) (p .program)) e) (edgeCount (p .program)) (oldAt w) (λ k. counterpart (o .program) (p .program) (pairsIn w c) e (newAt w k))
     (sourceAt (o .program) e) c seen place
 
 -- What `joins` found for the pair k, in a walk along the pairs of the node that the old edge leaves.
-pub joins-here : {v v′ : Memory} {w : List ℕ} {c : ℕ} {o p : Listing} → Compared v v′ w c o p → (e n k m f : ℕ) → e < edgeCount (o .program) → n ≡ sourceAt (o .program) e → k < c → oldAt w k ≡ n → m ≡ newAt w k
-    → Joins v v′ w e n m f → f ≡ counterpart (o .program) (p .program) (pairsIn w c) e (newAt w k)
+pub joins-here : {on ol nn nl w : List ℕ} {c : ℕ} {o p : Listing} → Compared on ol nn nl w c o p → (e n k m f : ℕ) → e < edgeCount (o .program) → n ≡ sourceAt (o .program) e → k < c → oldAt w k ≡ n → m ≡ newAt w k
+    → Joins on ol nn nl w e n m f → f ≡ counterpart (o .program) (p .program) (pairsIn w c) e (newAt w k)
 unfolding Joins
 joins-here {w = w} {c = c} {o = o} {p = p} h e n k m f i en l a em j =
     j o p c h i en (rw (← a, em) (pair-there w c k l)) ∙ ap (counterpart (o .program) (p .program) (pairsIn w c) e) em
 
-pub only-start : (ot on ol : List ℕ) (v′ : Memory) (w : List ℕ) (e n place : ℕ) → n ≡ getD ol (edgeBase e) 0 → place ≡ lastPair w n → SeenTo (memory ot on ol) v′ w e n 0 place
+pub only-start : (on ol nn nl w : List ℕ) (e n place : ℕ) → n ≡ getD ol (edgeBase e) 0 → place ≡ lastPair w n → SeenTo on ol nn nl w e n 0 place
 unfolding SeenTo
-only-start ot on ol v′ w e n place en ep o p c h i =
-    let s : n ≡ sourceAt (o .program) e = source-of ot on ol e n h i en in
+only-start on ol nn nl w e n place en ep o p c h i =
+    let s : n ≡ sourceAt (o .program) e = source-of e n h i en in
     (s, rw (ep, s) (seen-none (joins-lead h e) (lastPair w) (pairBefore w) (walked (h .held .store) (suc (sourceAt (o .program) e)))))
 
-module _ (v v′ : Memory) (w : List ℕ) (e n seen place : ℕ) (inv : SeenTo v v′ w e n seen place) where
-  pub only-end : place ≤ 0 → Only v v′ w e seen
+module _ (on ol nn nl w : List ℕ) (e n seen place : ℕ) (inv : SeenTo on ol nn nl w e n seen place) where
+  pub only-end : place ≤ 0 → Only on ol nn nl w e seen
   unfolding SeenTo Only
   only-end z o p c h i =
       seen-last (joins-lead h e) (lastPair w) (pairBefore w) (walked (h .held .store) (suc (sourceAt (o .program) e))) seen place (inv o p c h i .1) z
 
-  module _ (k m f : ℕ) (pos : 0 < place) (d : k ≡ place - 1) (em : m ≡ newAt w k) (j : Joins v v′ w e n m f) (t : Bool) (et : t ≡ differs seen f) where
-    found-here : (o p : Listing) (c : ℕ) (h : Compared v v′ w c o p) (i : e < edgeCount (o .program)) → f ≡ counterpart (o .program) (p .program) (pairsIn w c) e (newAt w (place - 1))
+  module _ (k m f : ℕ) (pos : 0 < place) (d : k ≡ place - 1) (em : m ≡ newAt w k) (j : Joins on ol nn nl w e n m f) (t : Bool) (et : t ≡ differs seen f) where
+    found-here : (o p : Listing) (c : ℕ) (h : Compared on ol nn nl w c o p) (i : e < edgeCount (o .program)) → f ≡ counterpart (o .program) (p .program) (pairsIn w c) e (newAt w (place - 1))
     unfolding SeenTo
     found-here o p c h i =
         let s = inv o p c h i in
         let l : k < c = omega (arith, s .1 .walk .within) in
         joins-here h e n k m f i (s .0) l (ap (oldAt w) d ∙ s .1 .walk .owner pos ∙ sym (s .0)) em j ∙ ap (λ (x : ℕ). counterpart (o .program) (p .program) (pairsIn w c) e (newAt w x)) d
 
-    pub only-two : t ≡ true → Only v v′ w e 0
+    pub only-two : t ≡ true → Only on ol nn nl w e 0
     unfolding SeenTo Only
     only-two y o p c h i =
         seen-two (joins-lead h e) (lastPair w) (pairBefore w) (walked (h .held .store) (suc (sourceAt (o .program) e))) seen place (inv o p c h i .1) pos f (found-here o p c h i) (sym et ∙ y)
 
-    pub only-on : (seen′ next : ℕ) → t ≡ false → seen′ ≡ eitherOf seen f → next ≡ pairBefore w k → SeenTo v v′ w e n seen′ next
+    pub only-on : (seen′ next : ℕ) → t ≡ false → seen′ ≡ eitherOf seen f → next ≡ pairBefore w k → SeenTo on ol nn nl w e n seen′ next
     unfolding SeenTo
     only-on seen′ next y es en o p c h i = (
       inv o p c h i .0,

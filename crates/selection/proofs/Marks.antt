@@ -22,7 +22,6 @@ use Rattle.graph.specs.Table.{edgeBase}
 use Rattle.pairset.specs.Store.{lastPair, newAt, oldAt, pairBefore, pairsIn}
 use Rattle.pairset.specs.StoreLaws.{walked}
 use Rattle.suite.specs.Rows.{edgeBit}
-use Rattle.versions.specs.Memory.{Memory, memory}
 use Rattle.versions.specs.Found.{found-at, found-none}
 use Rattle.laws.specs.Those.{any-more, any-skip}
 use Rattle.selection.specs.Compared.{Compared, counterpart, joins-lead, leads-any}
@@ -106,16 +105,16 @@ unfolding _and_
 yes-and t e = ap (λ (s : Bool). s and t) e
 
 -- The marks come to what those of the pairs below the place still raise.
-unfoldable pub RaisesFrom : Memory → Memory → List ℕ → ℕ → ℕ → List ℕ → List ℕ → ℕ → Type 0
-RaisesFrom v v′ w e n marks marks′ place =
-    (o p : Listing) (c : ℕ) → Compared v v′ w c o p → e < edgeCount (o .program)
+unfoldable pub RaisesFrom : List ℕ → List ℕ → List ℕ → List ℕ → List ℕ → ℕ → ℕ → List ℕ → List ℕ → ℕ → Type 0
+RaisesFrom on ol nn nl w e n marks marks′ place =
+    (o p : Listing) (c : ℕ) → Compared on ol nn nl w c o p → e < edgeCount (o .program)
     → (n ≡ sourceAt (o .program) e)
     × ((x : ℕ) → x < length marks → Left (oldAt w) (sourceAt (o .program) e) c
     (carried (getD marks x 0) (any c (λ k. eqb (oldAt w k) (sourceAt (o .program) e) and eqb (counterpart (o .program) (p .program) (pairsIn w c) e (newAt w k)) (suc x))) false)
     (λ j. carried (getD marks′ x 0) (any j (λ k. eqb (oldAt w k) (sourceAt (o .program) e) and eqb (counterpart (o .program) (p .program) (pairsIn w c) e (newAt w k)) (suc x))) false) place)
 
-pub record RaisedFrom (v v′ : Memory) (w : List ℕ) (e n : ℕ) (marks marks′ : List ℕ) (place : ℕ) : Type 0 where
-  pub from : RaisesFrom v v′ w e n marks marks′ place
+pub record RaisedFrom (on ol nn nl w : List ℕ) (e n : ℕ) (marks marks′ : List ℕ) (place : ℕ) : Type 0 where
+  pub from : RaisesFrom on ol nn nl w e n marks marks′ place
   pub size : length marks′ ≡ length marks
 
 module _ (w : List ℕ) (a : ℕ) (to : ℕ → ℕ) (x m : ℕ) where
@@ -123,12 +122,12 @@ module _ (w : List ℕ) (a : ℕ) (to : ℕ → ℕ) (x m : ℕ) where
   unfolding Blind
   raises-blind k d = ap (λ (t : Bool). carried m t false) (any-skip (λ k. eqb (oldAt w k) a and eqb (to k) (suc x)) k (fails _ (λ t. d (eqb-true _ _ (and-left _ _ t)))))
 
-pub all-start : (ot on ol : List ℕ) (v′ : Memory) (w : List ℕ) (e n place : ℕ) (marks : List ℕ) → n ≡ getD ol (edgeBase e) 0 → place ≡ lastPair w n → RaisedFrom (memory ot on ol) v′ w e n marks marks place
+pub all-start : (on ol nn nl w : List ℕ) (e n place : ℕ) (marks : List ℕ) → n ≡ getD ol (edgeBase e) 0 → place ≡ lastPair w n → RaisedFrom on ol nn nl w e n marks marks place
 unfolding RaisesFrom
-all-start ot on ol v′ w e n place marks en ep =
+all-start on ol nn nl w e n place marks en ep =
     record {
       from = λ o p c h i.
-          let s : n ≡ sourceAt (o .program) e = source-of ot on ol e n h i en in (
+          let s : n ≡ sourceAt (o .program) e = source-of e n h i en in (
             s,
             λ x l. rw (ep, s) (left-start (walked (h .held .store) (suc (sourceAt (o .program) e))) (sourceAt (o .program) e) (omega arith)
                 (raises-blind w (sourceAt (o .program) e) (λ k. counterpart (o .program) (p .program) (pairsIn w c) e (newAt w k)) x (getD marks x 0))),
@@ -136,8 +135,8 @@ all-start ot on ol v′ w e n place marks en ep =
       size = refl;
     }
 
-module _ (v v′ : Memory) (w : List ℕ) (e n : ℕ) (marks marks₁ : List ℕ) (place : ℕ) (inv : RaisedFrom v v′ w e n marks marks₁ place) where
-  pub all-end : place ≤ 0 → AllRaised v v′ w e marks marks₁
+module _ (on ol nn nl w : List ℕ) (e n : ℕ) (marks marks₁ : List ℕ) (place : ℕ) (inv : RaisedFrom on ol nn nl w e n marks marks₁ place) where
+  pub all-end : place ≤ 0 → AllRaised on ol nn nl w e marks marks₁
   unfolding RaisesFrom Raises any
   all-end z =
       record {
@@ -151,8 +150,8 @@ module _ (v v′ : Memory) (w : List ℕ) (e n : ℕ) (marks marks₁ : List ℕ
         size = inv .size;
       }
 
-  pub all-on : (k m f next : ℕ) (marks₂ : List ℕ) → 0 < place → k ≡ place - 1 → m ≡ newAt w k → Joins v v′ w e n m f → marks₂ ≡ raised marks₁ f → next ≡ pairBefore w k
-      → RaisedFrom v v′ w e n marks marks₂ next
+  pub all-on : (k m f next : ℕ) (marks₂ : List ℕ) → 0 < place → k ≡ place - 1 → m ≡ newAt w k → Joins on ol nn nl w e n m f → marks₂ ≡ raised marks₁ f → next ≡ pairBefore w k
+      → RaisedFrom on ol nn nl w e n marks marks₂ next
   unfolding RaisesFrom
   all-on k m f next marks₂ pos d em j er en =
       record {
@@ -198,8 +197,8 @@ module _ (old new : Program) (coverage : Coverage) (x e : ℕ) where
   unfolding carriesOf carriesOnly sole
   crossed-only z = ap (λ (t : Bool). ltb x (edgeCount new) and (t and every (edgeCount new) (λ f. joined old new (pairs old new) e f ⇒ eqb f x))) (yes-and _ z)
 
-module _ (v v′ : Memory) (w rows : List ℕ) (i e : ℕ) (marks : List ℕ) (t : Bool) (et : t ≡ edgeBit rows i e) where
-  pub carry-not : t ≡ false → Carried v v′ w rows i e marks marks
+module _ (on ol nn nl w rows : List ℕ) (i e : ℕ) (marks : List ℕ) (t : Bool) (et : t ≡ edgeBit rows i e) where
+  pub carry-not : t ≡ false → Carried on ol nn nl w rows i e marks marks
   unfolding Carries
   carry-not z =
       record {
@@ -209,8 +208,8 @@ module _ (v v′ : Memory) (w rows : List ℕ) (i e : ℕ) (marks : List ℕ) (t
         size = refl;
       }
 
-  module _ (y : t ≡ true) (f : ℕ) (only : Only v v′ w e f) where
-    pub carry-several : (marks′ : List ℕ) → f ≡ 0 → AllRaised v v′ w e marks marks′ → Carried v v′ w rows i e marks marks′
+  module _ (y : t ≡ true) (f : ℕ) (only : Only on ol nn nl w e f) where
+    pub carry-several : (marks′ : List ℕ) → f ≡ 0 → AllRaised on ol nn nl w e marks marks′ → Carried on ol nn nl w rows i e marks marks′
     unfolding Carries Only Raises
     carry-several marks′ z a =
         record {
@@ -223,7 +222,7 @@ module _ (v v′ : Memory) (w rows : List ℕ) (i e : ℕ) (marks : List ℕ) (t
           size = a .size;
         }
 
-    pub carry-one : (marks′ : List ℕ) → (f ≡ 0 → ⊥) → marks′ ≡ markedOne marks f → Carried v v′ w rows i e marks marks′
+    pub carry-one : (marks′ : List ℕ) → (f ≡ 0 → ⊥) → marks′ ≡ markedOne marks f → Carried on ol nn nl w rows i e marks marks′
     unfolding Carries Only markedOne sole
     carry-one marks′ d em =
         let is : marks′ ≡ set marks (f - 1) 49 = em ∙ choose-yes _ _ (lt-ltb 0 f (omega arith)) in
@@ -256,13 +255,13 @@ module _ (v v′ : Memory) (w rows : List ℕ) (i e : ℕ) (marks : List ℕ) (t
 
 -- ---- `carry_all`
 
-module _ (v v′ : Memory) (w rows : List ℕ) (i edges : ℕ) (marks : List ℕ) where
-  pub over-start : AllCarried v v′ w rows i edges 0 marks marks
+module _ (on ol nn nl w rows : List ℕ) (i edges : ℕ) (marks : List ℕ) where
+  pub over-start : AllCarried on ol nn nl w rows i edges 0 marks marks
   unfolding CarriesTo any
   over-start = record { carries = λ o p c coverage h r q x b. sym (carried-none (getD marks x 0)); size = refl }
 
-  module _ (e : ℕ) (marks₁ : List ℕ) (inv : AllCarried v v′ w rows i edges e marks marks₁) where
-    pub over-on : (marks₂ : List ℕ) → e < edges → Carried v v′ w rows i e marks₁ marks₂ → AllCarried v v′ w rows i edges (e + 1) marks marks₂
+  module _ (e : ℕ) (marks₁ : List ℕ) (inv : AllCarried on ol nn nl w rows i edges e marks marks₁) where
+    pub over-on : (marks₂ : List ℕ) → e < edges → Carried on ol nn nl w rows i e marks₁ marks₂ → AllCarried on ol nn nl w rows i edges (e + 1) marks marks₂
     unfolding CarriesTo Carries
     over-on marks₂ l a =
         record {
@@ -276,7 +275,7 @@ module _ (v v′ : Memory) (w rows : List ℕ) (i edges : ℕ) (marks : List ℕ
           size = a .size ∙ inv .size;
         }
 
-    pub over-end : e ≤ edges → edges ≤ e → AllCarried v v′ w rows i edges edges marks marks₁
+    pub over-end : e ≤ edges → edges ≤ e → AllCarried on ol nn nl w rows i edges edges marks marks₁
     over-end a b = let q : e ≡ edges = omega arith in rw q at inv
 
 pub ruleset carries = (carry-not, carry-several, carry-one, over-start, over-on, over-end)
@@ -311,8 +310,8 @@ module _ (marks : List ℕ) (n b : ℕ) where
   filled-past : (x : ℕ) → n ≤ x → getD (sets marks 0 (replicate n b)) x 0 ≡ getD marks x 0
   filled-past x l = getD-sets-after (replicate n b) marks 0 x 0 (omega (arith, length-replicate {A = ℕ} n b))
 
-module _ (v v′ : Memory) (w rows : List ℕ) (i olds news : ℕ) (again : Bool) (marks marks₁ : List ℕ) where
-  pub marks-repeated : again ≡ true → marks₁ ≡ sets marks 0 (replicate news 63) → MarksFound v v′ w rows i olds news again marks marks₁
+module _ (on ol nn nl w rows : List ℕ) (i olds news : ℕ) (again : Bool) (marks marks₁ : List ℕ) where
+  pub marks-repeated : again ≡ true → marks₁ ≡ sets marks 0 (replicate news 63) → MarksFound on ol nn nl w rows i olds news again marks marks₁
   unfolding Finds
   marks-repeated y e =
       let size : length marks₁ ≡ length marks = ap length e ∙ length-sets marks 0 (replicate news 63) in
@@ -324,7 +323,7 @@ module _ (v v′ : Memory) (w rows : List ℕ) (i olds news : ℕ) (again : Bool
         size = size;
       }
 
-  pub marks-carried : (marks₂ : List ℕ) → again ≡ false → marks₁ ≡ sets marks 0 (replicate news 48) → AllCarried v v′ w rows i olds olds marks₁ marks₂ → MarksFound v v′ w rows i olds news again marks marks₂
+  pub marks-carried : (marks₂ : List ℕ) → again ≡ false → marks₁ ≡ sets marks 0 (replicate news 48) → AllCarried on ol nn nl w rows i olds olds marks₁ marks₂ → MarksFound on ol nn nl w rows i olds news again marks marks₂
   unfolding Finds CarriesTo
   marks-carried marks₂ y e a =
       let size₁ : length marks₁ ≡ length marks = ap length e ∙ length-sets marks 0 (replicate news 48) in

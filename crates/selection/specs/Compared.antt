@@ -1,4 +1,4 @@
--- Two versions that were compared: their programs are in memory, and a table holds exactly their pairs.
+-- Two versions that were compared: their programs are in memory, with some texts, and a table holds exactly their pairs.
 use mathlib.Core.Path.{_≡_, refl, sym, ap, _∙_}
 use mathlib.Core.Logic.{⊎-elim}
 use mathlib.Core.Bool.{Bool, true}
@@ -18,42 +18,44 @@ use Rattle.rules.specs.Proofs.Closure.{joined-iff, joined-of, pair-alike, pairs
 use Rattle.rules.specs.Proofs.ClosingLaws.{fits-of, fits-word, same-word}
 use Rattle.pairset.specs.Store.{newAt, oldAt, pairsIn}
 use Rattle.pairset.specs.StoreLaws.{listed-at, listed-of}
-use Rattle.versions.specs.Memory.{InMemory, Memory, memory}
+use Rattle.versions.specs.Memory.{InMemory, memory}
 use Rattle.versions.specs.MemoryLaws.{well-formed}
 use Rattle.versions.specs.Found.{found-at}
 use Rattle.versions.specs.Held.{PairsHeld, goesOn-agree, joined-agree}
 
-pub record Compared (v v′ : Memory) (w : List ℕ) (c : ℕ) (o p : Listing) : Type 0 where
-  pub old-in : InMemory v o
-  pub new-in : InMemory v′ p
+pub record Compared (on ol nn nl w : List ℕ) (c : ℕ) (o p : Listing) : Type 0 where
+  pub old-text : Bytes
+  pub new-text : Bytes
+  pub old-in : InMemory (memory old-text on ol) o
+  pub new-in : InMemory (memory new-text nn nl) p
   pub held : PairsHeld (o .program) (p .program) w c
 
 -- Each pair of the table is listed; the new node of a listed pair is one.
 pub pair-there : (w : List ℕ) (c k : ℕ) → k < c → listed (pairsIn w c) (oldAt w k) (newAt w k) ≡ true
 pair-there w c k l = listed-of w (oldAt w k) (newAt w k) c k l refl refl
 
-pub partner-below : {v v′ : Memory} {w : List ℕ} {c : ℕ} {o p : Listing} → Compared v v′ w c o p → (n m : ℕ) → listed (pairsIn w c) n m ≡ true → m < nodeCount (p .program)
+pub partner-below : {on ol nn nl w : List ℕ} {c : ℕ} {o p : Listing} → Compared on ol nn nl w c o p → (n m : ℕ) → listed (pairsIn w c) n m ≡ true → m < nodeCount (p .program)
 partner-below {o = o} {p = p} h n m l = pairs-inside (o .program) (p .program) n m (sym (h .held .same n m) ∙ l) .1
 
 -- ---- an old edge at a pair that may go on
 
 -- `fitting`: 1 + the edge of the new node m that fits the old edge e, or 0, where the node that e leaves and m are a pair that may go on.
-unfoldable pub Fitting : Bytes → List ℕ → Bytes → List ℕ → List ℕ → ℕ → ℕ → ℕ → Type 0
-Fitting ot ol nt nl w e m r =
-    (on nn : List ℕ) (o p : Listing) (c : ℕ) → Compared (memory ot on ol) (memory nt nn nl) w c o p → e < edgeCount (o .program)
+unfoldable pub Fitting : List ℕ → List ℕ → List ℕ → ℕ → ℕ → ℕ → Type 0
+Fitting ol nl w e m r =
+    (on nn : List ℕ) (o p : Listing) (c : ℕ) → Compared on ol nn nl w c o p → e < edgeCount (o .program)
     → listed (pairsIn w c) (sourceAt (o .program) e) m ≡ true → goesOn (o .program) (p .program) (pairsIn w c) (sourceAt (o .program) e) m ≡ true
     → r ≡ found (first (edgeCount (p .program)) (λ f. eqb (sourceAt (p .program) f) m and fits (o .program) (p .program) e f))
 
 -- There the ends of edges of one word are alike just where they are a pair.
-pub ends-pair : {v v′ : Memory} {w : List ℕ} {c : ℕ} {o p : Listing} → Compared v v′ w c o p → (e f : ℕ) → e < edgeCount (o .program) → f < edgeCount (p .program)
+pub ends-pair : {on ol nn nl w : List ℕ} {c : ℕ} {o p : Listing} → Compared on ol nn nl w c o p → (e f : ℕ) → e < edgeCount (o .program) → f < edgeCount (p .program)
     → listed (pairsIn w c) (sourceAt (o .program) e) (sourceAt (p .program) f) ≡ true → goesOn (o .program) (p .program) (pairsIn w c) (sourceAt (o .program) e) (sourceAt (p .program) f) ≡ true
     → sameWord (o .program) (p .program) e f ≡ true
     → listed (pairsIn w c) (targetAt (o .program) e) (targetAt (p .program) f) ≡ alike (o .program) (p .program) (targetAt (o .program) e) (targetAt (p .program) f)
-ends-pair {v = v} {v′ = v′} {w = w} {c = c} {o = o} {p = p} h e f i j l g s =
+ends-pair {w = w} {c = c} {o = o} {p = p} h e f i j l g s =
     let old = o .program in
     let new = p .program in
-    let wo = well-formed v o (h .old-in) in
-    let wn = well-formed v′ p (h .new-in) in
+    let wo = well-formed _ o (h .old-in) in
+    let wn = well-formed _ p (h .new-in) in
     h .held .same (targetAt old e) (targetAt new f)
     ∙ same-test _ _ (λ t. pair-alike old new wo wn (pairs-sound old new _ _ t))
     (λ t.
@@ -87,7 +89,7 @@ leads-any {J = J} {n = n} {key = key} {to = to} {a = a} {c = c} h x =
 unfoldable pub counterpart : Program → Program → List (ℕ × ℕ) → ℕ → ℕ → ℕ
 counterpart old new M e m = choose (goesOn old new M (sourceAt old e) m) (found (first (edgeCount new) (λ f. eqb (sourceAt new f) m and fits old new e f))) 0
 
-module _ {v v′ : Memory} {w : List ℕ} {c : ℕ} {o p : Listing} (h : Compared v v′ w c o p) (e : ℕ) where
+module _ {on ol nn nl w : List ℕ} {c : ℕ} {o p : Listing} (h : Compared on ol nn nl w c o p) (e : ℕ) where
   abbrev old : Program
   old = o .program
 

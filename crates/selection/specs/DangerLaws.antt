@@ -1,24 +1,17 @@
--- What a set of dangerous edges says: the edges, and whether a test is to be repeated.
+-- What a set of dangerous edges says: whether a test is to be repeated.
 use mathlib.Core.Path.{_≡_}
 use mathlib.Core.List.{List}
-use Prim.Native.Nat.{ℕ, _≤_, _<_}
+use Prim.Native.Nat.{ℕ, _≤_}
 use native.Mathlib.Omega.{arith}
 use lib.Dec.{ltb}
-use Rattle.laws.specs.Tests.{has}
-use Rattle.laws.specs.Those.{those-has}
 use Rattle.rules.specs.Graph.{Program, edgeCount}
-use Rattle.rules.specs.Closing.{Coverage, dangerous, dangers, meets, pairs}
+use Rattle.rules.specs.Closing.{Coverage, dangers, meets}
 use Rattle.rules.specs.Proofs.Closure.{dangers-inside}
 use Rattle.suite.specs.Rows.{Row, rowCommon}
 use Rattle.suite.specs.RowLaws.{common-meets}
 use Rattle.selection.specs.Dangers.{DangerSet}
 
-module _ (old new : Program) where
-  pub danger-has : (e : ℕ) → e < edgeCount old → has (dangers old new) e ≡ dangerous old new (pairs old new) e
-  unfolding dangers
-  danger-has e l = those-has (dangerous old new (pairs old new)) (edgeCount old) e l
-
-  module _ (set : List ℕ) (few : edgeCount old ≤ 1024) (h : DangerSet old new set) where
-    -- A row that has an edge of the set is that of a test to repeat.
-    pub row-meets : (rows : List ℕ) (i : ℕ) (coverage : Coverage) → Row (edgeCount old) rows i coverage → ltb 0 (rowCommon rows i set) ≡ meets (dangers old new) coverage
-    row-meets rows i coverage r = common-meets (edgeCount old) rows i coverage few r set (dangers old new) (λ e l. h .bits e (omega arith)) (dangers-inside old new)
+module _ (old new : Program) (set : List ℕ) (few : edgeCount old ≤ 1024) (h : DangerSet old new set) where
+  -- A row that has an edge of the set is that of a test to repeat.
+  pub row-meets : (rows : List ℕ) (i : ℕ) (coverage : Coverage) → Row (edgeCount old) rows i coverage → ltb 0 (rowCommon rows i set) ≡ meets (dangers old new) coverage
+  row-meets rows i coverage r = common-meets (edgeCount old) rows i coverage few r set (dangers old new) (λ e l. h .bits e (omega arith)) (dangers-inside old new)

@@ -14,13 +14,12 @@ use Rattle.rules.specs.Sheet.{marksOf}
 use Rattle.rules.specs.ProgramFile.{Listing}
 use Rattle.pairset.specs.Store.{pairsIn}
 use Rattle.suite.specs.Rows.{Row}
-use Rattle.versions.specs.Memory.{Memory}
 use Rattle.selection.specs.Compared.{Compared, counterpart}
 
 -- `joins`: 1 + the edge of the new node m that is joined with the old edge e, which leaves the node n, for the pair of n and m, or 0.
-unfoldable pub Joins : Memory → Memory → List ℕ → ℕ → ℕ → ℕ → ℕ → Type 0
-Joins v v′ w e n m r =
-    (o p : Listing) (c : ℕ) → Compared v v′ w c o p → e < edgeCount (o .program) → n ≡ sourceAt (o .program) e → listed (pairsIn w c) n m ≡ true
+unfoldable pub Joins : List ℕ → List ℕ → List ℕ → List ℕ → List ℕ → ℕ → ℕ → ℕ → ℕ → Type 0
+Joins on ol nn nl w e n m r =
+    (o p : Listing) (c : ℕ) → Compared on ol nn nl w c o p → e < edgeCount (o .program) → n ≡ sourceAt (o .program) e → listed (pairsIn w c) n m ≡ true
     → r ≡ counterpart (o .program) (p .program) (pairsIn w c) e m
 
 -- `differ`: both are numbers found, and not the same one. `either`: the first, or the second where the first is none.
@@ -35,9 +34,9 @@ unfoldable pub sole : ℕ → (ℕ → Bool) → ℕ → Bool
 sole n J f = J f and every n (λ g. J g ⇒ eqb g f)
 
 -- `only_counterpart`: 1 + the only counterpart of the old edge e, or 0 where it has none or several.
-unfoldable pub Only : Memory → Memory → List ℕ → ℕ → ℕ → Type 0
-Only v v′ w e r =
-    (o p : Listing) (c : ℕ) → Compared v v′ w c o p → e < edgeCount (o .program)
+unfoldable pub Only : List ℕ → List ℕ → List ℕ → List ℕ → List ℕ → ℕ → ℕ → Type 0
+Only on ol nn nl w e r =
+    (o p : Listing) (c : ℕ) → Compared on ol nn nl w c o p → e < edgeCount (o .program)
     → r ≡ found (first (edgeCount (p .program)) (sole (edgeCount (p .program)) (joined (o .program) (p .program) (pairs (o .program) (p .program)) e)))
 
 -- A mark after an old edge: of which the new edge is a counterpart, or is not; the only one, or not.
@@ -53,13 +52,13 @@ unfoldable pub markedOne : List ℕ → ℕ → List ℕ
 markedOne marks f = choose (ltb 0 f) (set marks (f - 1) 49) marks
 
 -- `raise_all`: so do those of all counterparts of the old edge e.
-unfoldable pub Raises : Memory → Memory → List ℕ → ℕ → List ℕ → List ℕ → Type 0
-Raises v v′ w e marks marks′ =
-    (o p : Listing) (c : ℕ) → Compared v v′ w c o p → e < edgeCount (o .program) → (x : ℕ) → x < length marks
+unfoldable pub Raises : List ℕ → List ℕ → List ℕ → List ℕ → List ℕ → ℕ → List ℕ → List ℕ → Type 0
+Raises on ol nn nl w e marks marks′ =
+    (o p : Listing) (c : ℕ) → Compared on ol nn nl w c o p → e < edgeCount (o .program) → (x : ℕ) → x < length marks
     → getD marks′ x 0 ≡ carried (getD marks x 0) (ltb x (edgeCount (p .program)) and joined (o .program) (p .program) (pairs (o .program) (p .program)) e x) false
 
-pub record AllRaised (v v′ : Memory) (w : List ℕ) (e : ℕ) (marks marks′ : List ℕ) : Type 0 where
-  pub raises : Raises v v′ w e marks marks′
+pub record AllRaised (on ol nn nl w : List ℕ) (e : ℕ) (marks marks′ : List ℕ) : Type 0 where
+  pub raises : Raises on ol nn nl w e marks marks′
   pub size : length marks′ ≡ length marks
 
 -- The old edge e was crossed and has the new edge x as a counterpart, as its only one.
@@ -70,32 +69,32 @@ abbrev pub carriesOnlyTo : Program → Program → Coverage → ℕ → ℕ → 
 carriesOnlyTo old new coverage x e = ltb x (edgeCount new) and carriesOnly old new coverage x e
 
 -- `carry`: the marks after the old edge e.
-unfoldable pub Carries : Memory → Memory → List ℕ → List ℕ → ℕ → ℕ → List ℕ → List ℕ → Type 0
-Carries v v′ w rows i e marks marks′ =
-    (o p : Listing) (c : ℕ) (coverage : Coverage) → Compared v v′ w c o p → Row (edgeCount (o .program)) rows i coverage → e < edgeCount (o .program) → (x : ℕ) → x < length marks
+unfoldable pub Carries : List ℕ → List ℕ → List ℕ → List ℕ → List ℕ → List ℕ → ℕ → ℕ → List ℕ → List ℕ → Type 0
+Carries on ol nn nl w rows i e marks marks′ =
+    (o p : Listing) (c : ℕ) (coverage : Coverage) → Compared on ol nn nl w c o p → Row (edgeCount (o .program)) rows i coverage → e < edgeCount (o .program) → (x : ℕ) → x < length marks
     → getD marks′ x 0 ≡ carried (getD marks x 0) (carriesTo (o .program) (p .program) coverage x e) (carriesOnlyTo (o .program) (p .program) coverage x e)
 
-pub record Carried (v v′ : Memory) (w rows : List ℕ) (i e : ℕ) (marks marks′ : List ℕ) : Type 0 where
-  pub carries : Carries v v′ w rows i e marks marks′
+pub record Carried (on ol nn nl w rows : List ℕ) (i e : ℕ) (marks marks′ : List ℕ) : Type 0 where
+  pub carries : Carries on ol nn nl w rows i e marks marks′
   pub size : length marks′ ≡ length marks
 
 -- `carry_all`: the marks after the first k old edges.
-unfoldable pub CarriesTo : Memory → Memory → List ℕ → List ℕ → ℕ → ℕ → ℕ → List ℕ → List ℕ → Type 0
-CarriesTo v v′ w rows i edges k marks marks′ =
-    (o p : Listing) (c : ℕ) (coverage : Coverage) → Compared v v′ w c o p → Row (edgeCount (o .program)) rows i coverage → edges ≡ edgeCount (o .program) → (x : ℕ) → x < length marks
+unfoldable pub CarriesTo : List ℕ → List ℕ → List ℕ → List ℕ → List ℕ → List ℕ → ℕ → ℕ → ℕ → List ℕ → List ℕ → Type 0
+CarriesTo on ol nn nl w rows i edges k marks marks′ =
+    (o p : Listing) (c : ℕ) (coverage : Coverage) → Compared on ol nn nl w c o p → Row (edgeCount (o .program)) rows i coverage → edges ≡ edgeCount (o .program) → (x : ℕ) → x < length marks
     → getD marks′ x 0 ≡ carried (getD marks x 0) (any k (carriesTo (o .program) (p .program) coverage x)) (any k (carriesOnlyTo (o .program) (p .program) coverage x))
 
-pub record AllCarried (v v′ : Memory) (w rows : List ℕ) (i edges k : ℕ) (marks marks′ : List ℕ) : Type 0 where
-  pub carries : CarriesTo v v′ w rows i edges k marks marks′
+pub record AllCarried (on ol nn nl w rows : List ℕ) (i edges k : ℕ) (marks marks′ : List ℕ) : Type 0 where
+  pub carries : CarriesTo on ol nn nl w rows i edges k marks marks′
   pub size : length marks′ ≡ length marks
 
 -- `find_marks`: the marks of the test i, one for each new edge, and what stands behind them.
-unfoldable pub Finds : Memory → Memory → List ℕ → List ℕ → ℕ → ℕ → ℕ → Bool → List ℕ → List ℕ → Type 0
-Finds v v′ w rows i olds news again marks marks′ =
-    (o p : Listing) (c : ℕ) (coverage : Coverage) → Compared v v′ w c o p → Row (edgeCount (o .program)) rows i coverage → olds ≡ edgeCount (o .program) → news ≡ edgeCount (p .program)
+unfoldable pub Finds : List ℕ → List ℕ → List ℕ → List ℕ → List ℕ → List ℕ → ℕ → ℕ → ℕ → Bool → List ℕ → List ℕ → Type 0
+Finds on ol nn nl w rows i olds news again marks marks′ =
+    (o p : Listing) (c : ℕ) (coverage : Coverage) → Compared on ol nn nl w c o p → Row (edgeCount (o .program)) rows i coverage → olds ≡ edgeCount (o .program) → news ≡ edgeCount (p .program)
     → again ≡ meets (dangers (o .program) (p .program)) coverage → edgeCount (p .program) ≤ length marks
     → marks′ ≡ sets marks 0 (marksOf (o .program) (p .program) coverage (edgeCount (p .program)))
 
-pub record MarksFound (v v′ : Memory) (w rows : List ℕ) (i olds news : ℕ) (again : Bool) (marks marks′ : List ℕ) : Type 0 where
-  pub finds : Finds v v′ w rows i olds news again marks marks′
+pub record MarksFound (on ol nn nl w rows : List ℕ) (i olds news : ℕ) (again : Bool) (marks marks′ : List ℕ) : Type 0 where
+  pub finds : Finds on ol nn nl w rows i olds news again marks marks′
   pub size : length marks′ ≡ length marks

@@ -1,30 +1,20 @@
 // What the pairs of two versions say of the tests: which old edges are dangerous, which tests are repeated, and the marks of a test.
 ghost use mathlib.Core.Path.{_≡_};
-ghost use Prim.Native.Nat.{_≤_, _<_, _*_};
+ghost use Prim.Native.Nat.{_≤_};
 ghost use lib.ListN.{replicate};
 ghost use lib.Seq.{sets};
-ghost use Rattle.laws.specs.Tests.{plus};
-ghost use Rattle.versions.specs.Memory.{memory};
 ghost use Rattle.selection.specs.Compared.{Fitting};
-ghost use Rattle.selection.specs.Dangers.{DangerWord, DangersMarked, Endangers, IsDangerous, Repeats};
+ghost use Rattle.selection.specs.Dangers.{DangersMarked, Repeats};
 ghost use Rattle.selection.specs.Marks.{AllCarried, AllRaised, Carried, Joins, MarksFound, Only, differs, eitherOf, markedOne, raised};
 
 // ---- an old edge at a pair
 
 // 1 + the edge of the new node m that fits the old edge e, or 0, where the node that e leaves and m are a pair that may go on: then the ends are
 // alike just where they are a pair.
-fn fitting(
-    ot: &[u8],
-    ol: &[usize],
-    nt: &[u8],
-    nl: &[usize],
-    w: &[usize],
-    e: usize,
-    m: usize,
-) -> usize
-    ensures { λ r. ⌜ Fitting (now (ot .entry)) (now (ol .entry)) (now (nt .entry)) (now (nl .entry)) (now (w .entry)) e m r ⌝ }
+fn fitting(ol: &[usize], nl: &[usize], w: &[usize], e: usize, m: usize) -> usize
+    ensures { λ r. ⌜ Fitting (now (ol .entry)) (now (nl .entry)) (now (w .entry)) e m r ⌝ }
 {
-    let t = versions::taken(ot, ol, nt, nl, e, m);
+    let t = versions::taken(ol, nl, e, m);
     if t == 0 {
         return 0;
     }
@@ -38,115 +28,16 @@ fn fitting(
 
 // ---- dangerous edges
 
-// Whether the old edge e, which leaves the node n, is dangerous for the pair of n and m: the pair may go on, and no edge of m fits e.
-fn endangers(
-    ot: &[u8],
-    on: &[usize],
-    ol: &[usize],
-    nt: &[u8],
-    nn: &[usize],
-    nl: &[usize],
-    w: &[usize],
-    e: usize,
-    n: usize,
-    m: usize,
-) -> bool
-    ensures { λ r. ⌜ Endangers (memory (now (ot .entry)) (now (on .entry)) (now (ol .entry))) (memory (now (nt .entry)) (now (nn .entry)) (now (nl .entry))) (now (w .entry)) e n m r ⌝ }
-{
-    if versions::goes_on(on, ol, nn, nl, w, n, m) {
-        return fitting(ot, ol, nt, nl, w, e, m) == 0;
-    }
-    false
-}
-
-// Whether the edge e is dangerous: for one of the partners of the node that it leaves.
-fn dangerous(
-    ot: &[u8],
-    on: &[usize],
-    ol: &[usize],
-    nt: &[u8],
-    nn: &[usize],
-    nl: &[usize],
-    w: &[usize],
-    edges: usize,
-    e: usize,
-) -> bool
-    ensures { λ r. ⌜ IsDangerous (memory (now (ot .entry)) (now (on .entry)) (now (ol .entry))) (memory (now (nt .entry)) (now (nn .entry)) (now (nl .entry))) (now (w .entry)) edges e r ⌝ }
-{
-    if edges <= e {
-        return false;
-    }
-    let n = versions::source(ol, e);
-    let mut place = pairset::last_pair(w, n);
-    while 0 < place {
-        let pair = place - 1;
-        let m = pairset::new_of(w, pair);
-        if endangers(ot, on, ol, nt, nn, nl, w, e, n, m) {
-            return true;
-        }
-        place = pairset::pair_before(w, pair);
-    }
-    false
-}
-
-// A word with one bit more below its bits.
-fn with_bit(x: u64, bit: bool) -> u64
-    requires { ⌜ x < 9223372036854775808 ⌝ }
-    ensures { λ r. ⌜ r ≡ plus bit (2 * x) ⌝ }
-{
-    if bit {
-        return 2 * x + 1;
-    }
-    2 * x
-}
-
-// The word k of the set of dangerous edges.
-fn danger_word(
-    ot: &[u8],
-    on: &[usize],
-    ol: &[usize],
-    nt: &[u8],
-    nn: &[usize],
-    nl: &[usize],
-    w: &[usize],
-    edges: usize,
-    k: usize,
-) -> u64
-    requires { ⌜ k < 16 ⌝ }
-    ensures { λ r. ⌜ DangerWord (memory (now (ot .entry)) (now (on .entry)) (now (ol .entry))) (memory (now (nt .entry)) (now (nn .entry)) (now (nl .entry))) (now (w .entry)) edges k r ⌝ }
-{
-    let mut x: u64 = 0;
-    let mut j = 64;
-    while 0 < j {
-        let i = j - 1;
-        let bit = dangerous(ot, on, ol, nt, nn, nl, w, edges, 64 * k + i);
-        x = with_bit(x, bit);
-        j = i;
-    }
-    x
-}
-
-// Makes the set that of the dangerous edges, of so many old edges.
-pub fn mark_dangers(
-    ot: &[u8],
-    on: &[usize],
-    ol: &[usize],
-    nt: &[u8],
-    nn: &[usize],
-    nl: &[usize],
-    w: &[usize],
-    edges: usize,
-    set: &mut [u64],
-)
-    ensures { λ _. ⌜ DangersMarked (memory (now (ot .entry)) (now (on .entry)) (now (ol .entry))) (memory (now (nt .entry)) (now (nn .entry)) (now (nl .entry))) (now (w .entry)) edges (now (set .entry)) (now (set .exit)) ⌝ }
+// Makes the set that of the dangerous edges in the table of the pairs.
+pub fn mark_dangers(w: &[usize], set: &mut [u64])
+    ensures { λ _. ⌜ DangersMarked (now (w .entry)) (now (set .entry)) (now (set .exit)) ⌝ }
 {
     let mut k = 0;
     while k < 16 {
-        let x = danger_word(ot, on, ol, nt, nn, nl, w, edges, k);
         if set.len() <= k {
             return;
         }
-        set[k] = x;
+        set[k] = pairset::danger_word(w, k) as u64;
         k += 1;
     }
 }
@@ -163,10 +54,8 @@ pub fn repeated(rows: &[u64], test: usize, set: &[u64]) -> bool
 
 // 1 + the edge of the new node m that is joined with the old edge e, which leaves the node n, for the pair of n and m, or 0.
 fn joins(
-    ot: &[u8],
     on: &[usize],
     ol: &[usize],
-    nt: &[u8],
     nn: &[usize],
     nl: &[usize],
     w: &[usize],
@@ -174,10 +63,10 @@ fn joins(
     n: usize,
     m: usize,
 ) -> usize
-    ensures { λ r. ⌜ Joins (memory (now (ot .entry)) (now (on .entry)) (now (ol .entry))) (memory (now (nt .entry)) (now (nn .entry)) (now (nl .entry))) (now (w .entry)) e n m r ⌝ }
+    ensures { λ r. ⌜ Joins (now (on .entry)) (now (ol .entry)) (now (nn .entry)) (now (nl .entry)) (now (w .entry)) e n m r ⌝ }
 {
     if versions::goes_on(on, ol, nn, nl, w, n, m) {
-        return fitting(ot, ol, nt, nl, w, e, m);
+        return fitting(ol, nl, w, e, m);
     }
     0
 }
@@ -210,16 +99,14 @@ fn either(a: usize, b: usize) -> usize
 
 // 1 + the only counterpart of the old edge e, or 0 where it has none or several.
 fn only_counterpart(
-    ot: &[u8],
     on: &[usize],
     ol: &[usize],
-    nt: &[u8],
     nn: &[usize],
     nl: &[usize],
     w: &[usize],
     e: usize,
 ) -> usize
-    ensures { λ r. ⌜ Only (memory (now (ot .entry)) (now (on .entry)) (now (ol .entry))) (memory (now (nt .entry)) (now (nn .entry)) (now (nl .entry))) (now (w .entry)) e r ⌝ }
+    ensures { λ r. ⌜ Only (now (on .entry)) (now (ol .entry)) (now (nn .entry)) (now (nl .entry)) (now (w .entry)) e r ⌝ }
 {
     let n = versions::source(ol, e);
     let mut seen = 0;
@@ -227,7 +114,7 @@ fn only_counterpart(
     while 0 < place {
         let k = place - 1;
         let m = pairset::new_of(w, k);
-        let f = joins(ot, on, ol, nt, nn, nl, w, e, n, m);
+        let f = joins(on, ol, nn, nl, w, e, n, m);
         if differ(seen, f) {
             return 0;
         }
@@ -257,24 +144,22 @@ fn raise(marks: &mut [u8], f: usize)
 
 // Makes each mark `0` of a counterpart of the old edge e a `?`.
 fn raise_all(
-    ot: &[u8],
     on: &[usize],
     ol: &[usize],
-    nt: &[u8],
     nn: &[usize],
     nl: &[usize],
     w: &[usize],
     e: usize,
     marks: &mut [u8],
 )
-    ensures { λ _. ⌜ AllRaised (memory (now (ot .entry)) (now (on .entry)) (now (ol .entry))) (memory (now (nt .entry)) (now (nn .entry)) (now (nl .entry))) (now (w .entry)) e (now (marks .entry)) (now (marks .exit)) ⌝ }
+    ensures { λ _. ⌜ AllRaised (now (on .entry)) (now (ol .entry)) (now (nn .entry)) (now (nl .entry)) (now (w .entry)) e (now (marks .entry)) (now (marks .exit)) ⌝ }
 {
     let n = versions::source(ol, e);
     let mut place = pairset::last_pair(w, n);
     while 0 < place {
         let k = place - 1;
         let m = pairset::new_of(w, k);
-        let f = joins(ot, on, ol, nt, nn, nl, w, e, n, m);
+        let f = joins(on, ol, nn, nl, w, e, n, m);
         raise(marks, f);
         place = pairset::pair_before(w, k);
     }
@@ -295,10 +180,8 @@ fn mark_one(marks: &mut [u8], f: usize)
 
 // Marks the counterparts of the old edge e, if the test covers it: its only one with `1`, several with `?` where they have `0`.
 fn carry(
-    ot: &[u8],
     on: &[usize],
     ol: &[usize],
-    nt: &[u8],
     nn: &[usize],
     nl: &[usize],
     w: &[usize],
@@ -308,12 +191,12 @@ fn carry(
     marks: &mut [u8],
 )
     requires { ⌜ test ≤ 200 ⌝ }
-    ensures { λ _. ⌜ Carried (memory (now (ot .entry)) (now (on .entry)) (now (ol .entry))) (memory (now (nt .entry)) (now (nn .entry)) (now (nl .entry))) (now (w .entry)) (now (rows .entry)) test e (now (marks .entry)) (now (marks .exit)) ⌝ }
+    ensures { λ _. ⌜ Carried (now (on .entry)) (now (ol .entry)) (now (nn .entry)) (now (nl .entry)) (now (w .entry)) (now (rows .entry)) test e (now (marks .entry)) (now (marks .exit)) ⌝ }
 {
     if suite::covers(rows, test, e) {
-        let f = only_counterpart(ot, on, ol, nt, nn, nl, w, e);
+        let f = only_counterpart(on, ol, nn, nl, w, e);
         if f == 0 {
-            raise_all(ot, on, ol, nt, nn, nl, w, e, marks);
+            raise_all(on, ol, nn, nl, w, e, marks);
             return;
         }
         mark_one(marks, f);
@@ -323,10 +206,8 @@ fn carry(
 
 // Carries the test over every old edge.
 fn carry_all(
-    ot: &[u8],
     on: &[usize],
     ol: &[usize],
-    nt: &[u8],
     nn: &[usize],
     nl: &[usize],
     w: &[usize],
@@ -336,11 +217,11 @@ fn carry_all(
     marks: &mut [u8],
 )
     requires { ⌜ test ≤ 200 ⌝ }
-    ensures { λ _. ⌜ AllCarried (memory (now (ot .entry)) (now (on .entry)) (now (ol .entry))) (memory (now (nt .entry)) (now (nn .entry)) (now (nl .entry))) (now (w .entry)) (now (rows .entry)) test edges edges (now (marks .entry)) (now (marks .exit)) ⌝ }
+    ensures { λ _. ⌜ AllCarried (now (on .entry)) (now (ol .entry)) (now (nn .entry)) (now (nl .entry)) (now (w .entry)) (now (rows .entry)) test edges edges (now (marks .entry)) (now (marks .exit)) ⌝ }
 {
     let mut e = 0;
     while e < edges {
-        carry(ot, on, ol, nt, nn, nl, w, rows, test, e, marks);
+        carry(on, ol, nn, nl, w, rows, test, e, marks);
         e += 1;
     }
 }
@@ -361,10 +242,8 @@ fn fill(marks: &mut [u8], n: usize, b: u8)
 
 // Finds the marks of a test, where the versions have so many edges: all are `?` if it is repeated.
 pub fn find_marks(
-    ot: &[u8],
     on: &[usize],
     ol: &[usize],
-    nt: &[u8],
     nn: &[usize],
     nl: &[usize],
     w: &[usize],
@@ -376,12 +255,12 @@ pub fn find_marks(
     marks: &mut [u8],
 )
     requires { ⌜ test ≤ 200 ⌝ }
-    ensures { λ _. ⌜ MarksFound (memory (now (ot .entry)) (now (on .entry)) (now (ol .entry))) (memory (now (nt .entry)) (now (nn .entry)) (now (nl .entry))) (now (w .entry)) (now (rows .entry)) test olds news again (now (marks .entry)) (now (marks .exit)) ⌝ }
+    ensures { λ _. ⌜ MarksFound (now (on .entry)) (now (ol .entry)) (now (nn .entry)) (now (nl .entry)) (now (w .entry)) (now (rows .entry)) test olds news again (now (marks .entry)) (now (marks .exit)) ⌝ }
 {
     if again {
         fill(marks, news, 63);
         return;
     }
     fill(marks, news, 48);
-    carry_all(ot, on, ol, nt, nn, nl, w, rows, test, olds, marks);
+    carry_all(on, ol, nn, nl, w, rows, test, olds, marks);
 }

@@ -1,7 +1,7 @@
 // sheet OLD NEW TESTS: prints the sheet that the selector gives, then the record lines of all tests in order, or only `refused,NUMBER,PLACE`.
 // The pairs are found once for all lines.
+use answer::Answer;
 use intake::Texts;
-use writer::Answer;
 ghost use Prim.Native.Nat.{_≤_};
 ghost use Rattle.intake.specs.Ready.{Few};
 
@@ -94,14 +94,14 @@ fn lines(
 )
     requires { ⌜ Few had ⌝ }
 {
-    let mut w = [0usize; 16896];
+    let mut w = [0usize; 16912];
     let mut set = [0u64; 16];
-    let edges = had.old_edges;
-    let pairs = work::select(ot, on, ol, nt, nn, nl, edges, &mut w, &mut set);
+    let pairs = work::select(ot, on, ol, nt, nn, nl, &mut w, &mut set);
     if 4096 < pairs {
         files::print_answer(b"refused", 15, 0);
         return;
     }
+    let edges = had.old_edges;
     let olds = had.old_nodes;
     let news = had.new_nodes;
     let count = had.tests;

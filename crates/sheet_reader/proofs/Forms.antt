@@ -1,161 +1,247 @@
 -- The returns of the functions that look at a line.
-use mathlib.Core.Path.{_≡_, refl, sym, ap, ap₂, _∙_}
+use mathlib.Core.Path.{_≡_, refl, sym, ap, _∙_}
 use mathlib.Core.Bool.{Bool, true, false}
-use mathlib.Core.List.{List, [], _∷_}
-use Prim.Native.Nat.{ℕ, _+_, _≤_, _<_, min}
-use lib.ListN.{length, take, drop}
+use mathlib.Core.List.{List, [], _∷_, _++_}
+use Prim.Native.Nat.{ℕ, _+_, _-_, _≤_, _<_, min}
+use native.Mathlib.Omega.{arith}
+use lib.Dec.{eqb}
+use lib.ListN.{length, take, drop, take-append-drop}
+use lib.Seq.{length-take-le}
 use Rattle.laws.specs.Tests.{_and_, choose}
-use Rattle.laws.specs.TestLaws.{and-left, and-right, both-ways, fails}
-use Rattle.laws.specs.Lists.{choose-no}
-use Rattle.rules.specs.Text.{Bytes, bytes, isName, isNumber, joinBy, onto, same, split, valueFrom}
-use Rattle.rules.specs.Sheet.{head-line, headLine, sheetForm}
-use Rattle.rules.specs.Proofs.TextLaws.{join-split, same-of, same-true, split-cons}
+use Rattle.laws.specs.TestLaws.{both-ways}
+use Rattle.laws.specs.Slices.{below-or}
+use Rattle.rules.specs.Text.{Bytes, isName, isNumber, joinBy, onto, same, split, valueFrom}
+use Rattle.rules.specs.Sheet.{SheetLine, d-line, end-line, head-line, headLine, m-line, no-form, r-line, sheetForm}
+use Rattle.rules.specs.Proofs.SheetLayout.{SheetFormed, sheet-formed}
+use Rattle.rules.specs.Proofs.TextLaws.{join-split, name-free, number-free, same-of, same-true, split-cons, split-free}
+use Rattle.text.specs.NumberLaws.{a-number, no-number, number-kept}
 use Rattle.text.specs.Scans.{span}
 use Rattle.text.specs.SplitLaws.{cut, first-last, first-more, uncut}
+use Rattle.text.proofs.Laws.{after-in}
 use Rattle.sheet_reader.specs.declared.Form.{Form}
 use Rattle.sheet_reader.specs.declared.Form.the-variants.{Edge, End, Head, Nothing, Pair, Test}
-use Rattle.sheet_reader.specs.Forms.{isEnd, shape, twoForm}
+use Rattle.sheet_reader.specs.Forms.{shape}
 
--- ---- `two`
+-- ---- numbers
 
--- A field that is `D` is not `R`.
-d-not-r : (f : Bytes) → same f (bytes "D") ≡ true → same f (bytes "R") ≡ false
-unfolding same _and_
-d-not-r f e = ap (λ (g : Bytes). same g (bytes "R")) (same-true f (bytes "D") e)
+module _ (a : Bytes) (v : ℕ) (e : v ≡ choose (isNumber a) (min (valueFrom 0 a) 65536) 65537) where
+  -- A number has no comma.
+  number-whole : v ≤ 65536 → split 44 a ≡ a ∷ []
+  number-whole h = split-free 44 a (number-free 44 a (omega arith) (a-number a v e h))
 
-module _ (f a : Bytes) (t : Bool) (e : t ≡ same f (68 ∷ [])) where
-  module _ (y : t ≡ true) (u : Bool) (d : u ≡ isNumber a) where
-    pub two-edge : (v : ℕ) → u ≡ true → v ≡ min (valueFrom 0 a) 65536 → Edge v ≡ shape (twoForm f a)
-    unfolding twoForm shape choose _and_
-    two-edge v n p = sym (simp (← e, y, ← d, n, p))
+-- ---- what follows the first field
 
-    pub two-not-edge : u ≡ false → Nothing ≡ shape (twoForm f a)
-    unfolding twoForm shape choose _and_
-    two-not-edge n = sym (simp (d-not-r f (sym e ∙ y), ← e, y, ← d, n))
+-- The text has no comma, or one at least.
+pieces : {X : Type 0} (s : Bytes) → (split 44 s ≡ s ∷ [] → X) → ((p q : Bytes) (qs : List Bytes) → split 44 s ≡ p ∷ q ∷ qs → X) → X
+pieces s f g =
+    below-or (span 44 s) (length s)
+    (λ h.
+    let r = drop (span 44 s + 1) s in
+    let c = split-cons 44 r in
+    g (take (span 44 s) s) (c .0) (c .1) (cut 44 s (take (span 44 s) s) r (span 44 s) refl h refl refl ∙ ap (λ (ps : List Bytes). take (span 44 s) s ∷ ps) (c .2)))
+    (λ h. f (uncut 44 s (span 44 s) refl h))
 
-  module _ (n : t ≡ false) (u : Bool) (d : u ≡ same f (82 ∷ [])) where
-    pub two-test : (v : Bool) → u ≡ true → v ≡ isName a → v ≡ true → Test ≡ shape (twoForm f a)
-    unfolding twoForm shape choose _and_
-    two-test v y p q = sym (simp (← e, n, ← d, y, ← p, q))
+-- ---- `pair`
 
-    pub two-not-test : (v : Bool) → u ≡ true → v ≡ isName a → v ≡ false → Nothing ≡ shape (twoForm f a)
-    unfolding twoForm shape choose _and_
-    two-not-test v y p q = sym (simp (← e, n, ← d, y, ← p, q))
+-- An M line has two numbers.
+m-first : (a : Bytes) (ps : List Bytes) → isNumber a ≡ false → sheetForm ((77 ∷ []) ∷ a ∷ ps) ≡ no-form
+unfolding sheetForm choose same _and_
+m-first a [] n = refl
+m-first a (b ∷ []) n = simp n
+m-first a (b ∷ c ∷ []) n = refl
+m-first a (b ∷ c ∷ d ∷ ds) n = refl
 
-    pub two-neither : u ≡ false → Nothing ≡ shape (twoForm f a)
-    unfolding twoForm shape choose _and_
-    two-neither y = sym (simp (← e, n, ← d, y))
+m-more : (a b c : Bytes) (cs : List Bytes) → sheetForm ((77 ∷ []) ∷ a ∷ b ∷ c ∷ cs) ≡ no-form
+unfolding sheetForm choose same _and_
+m-more a b c [] = refl
+m-more a b c (d ∷ ds) = refl
 
-pub ruleset twos = (two-edge, two-not-edge, two-test, two-not-test, two-neither)
+pub front-long : (n : ℕ) (s : Bytes) → n < length s → length (take n s) ≡ n
+front-long n s h = length-take-le n s (omega arith)
 
--- ---- `three`
+module _ (s : Bytes) (n : ℕ) (en : n ≡ span 44 s) where
+  pub pair-one : length s ≤ n → Nothing ≡ shape (sheetForm ((77 ∷ []) ∷ split 44 s))
+  unfolding sheetForm shape choose same _and_
+  pair-one h = sym (simp (uncut 44 s n en h))
 
-module _ (f a b : Bytes) (t : Bool) (e : t ≡ same f (77 ∷ [])) where
-  pub three-other : t ≡ false → Nothing ≡ shape (sheetForm (f ∷ a ∷ b ∷ []))
-  unfolding sheetForm shape choose _and_
-  three-other n = sym (simp (← e, n))
+  module _ (h : n < length s) (i : ℕ) (p : i ≡ choose (isNumber (take n s)) (min (valueFrom 0 (take n s)) 65536) 65537) where
+    cut-pair : split 44 s ≡ take n s ∷ split 44 (take (length s - (n + 1)) (drop (n + 1) s))
+    cut-pair = cut 44 s (take n s) (take (length s - (n + 1)) (drop (n + 1) s)) n en h refl (after-in s (n + 1))
 
-  module _ (u : Bool) (y : t ≡ true) (d : u ≡ isNumber a) where
-    pub three-first : u ≡ false → Nothing ≡ shape (sheetForm (f ∷ a ∷ b ∷ []))
-    unfolding sheetForm shape choose _and_
-    three-first n = sym (simp (← e, y, ← d, n))
+    pub pair-first : 65536 < i → Nothing ≡ shape (sheetForm ((77 ∷ []) ∷ split 44 s))
+    unfolding shape
+    pair-first k = sym (simp (cut-pair, m-first (take n s) (split 44 (take (length s - (n + 1)) (drop (n + 1) s))) (no-number (take n s) i p k)))
 
-    module _ (v : Bool) (m : u ≡ true) (g : v ≡ isNumber b) where
-      pub three-second : v ≡ false → Nothing ≡ shape (sheetForm (f ∷ a ∷ b ∷ []))
-      unfolding sheetForm shape choose _and_
-      three-second n = sym (simp (← e, y, ← d, m, ← g, n))
+    module _ (k : i ≤ 65536) (b : Bytes) (eb : b ≡ take (length s - (n + 1)) (drop (n + 1) s)) (j : ℕ) (q : j ≡ choose (isNumber b) (min (valueFrom 0 b) 65536) 65537) where
+      fields : split 44 s ≡ take n s ∷ split 44 b
+      fields = cut-pair ∙ ap (λ (x : Bytes). take n s ∷ split 44 x) (sym eb)
 
-      pub three-pair : (i j : ℕ) → v ≡ true → i ≡ min (valueFrom 0 a) 65536 → j ≡ min (valueFrom 0 b) 65536 → Pair i j ≡ shape (sheetForm (f ∷ a ∷ b ∷ []))
-      unfolding sheetForm shape choose _and_
-      three-pair i j n p q = sym (simp (← e, y, ← d, m, ← g, n, p, q))
+      pub pair-second : 65536 < j → Nothing ≡ shape (sheetForm ((77 ∷ []) ∷ split 44 s))
+      unfolding sheetForm shape choose same _and_
+      pair-second l =
+          pieces b
+          (λ e. sym (simp (fields, e, a-number (take n s) i p k, no-number b j q l)))
+          (λ x y ys e. sym (ap (λ (ps : List Bytes). shape (sheetForm ((77 ∷ []) ∷ ps))) (fields ∙ ap (λ (ps : List Bytes). take n s ∷ ps) e) ∙ ap shape (m-more (take n s) x y ys)))
 
-pub ruleset threes = (three-other, three-first, three-second, three-pair)
+      pub pair-both : j ≤ 65536 → Pair i j ≡ shape (sheetForm ((77 ∷ []) ∷ split 44 s))
+      unfolding sheetForm shape choose same _and_
+      pair-both l =
+          sym (simp (fields, number-whole b j q l, a-number (take n s) i p k, a-number b j q l, ← number-kept (take n s) i p k, ← number-kept b j q l))
 
--- ---- `is_end`, `four`
+pub ruleset pairForms = (front-long, pair-one, pair-first, pair-second, pair-both)
 
-module _ (f a b c : Bytes) (t : Bool) (e : t ≡ same f (101 ∷ 110 ∷ 100 ∷ [])) where
-  pub end-other : t ≡ false → false ≡ isEnd f a b c
-  unfolding isEnd _and_
-  end-other n = sym (simp (← e, n))
+-- ---- `edge`, `test`
 
-  module _ (u : Bool) (y : t ≡ true) (d : u ≡ isNumber a) where
-    pub end-first : u ≡ false → false ≡ isEnd f a b c
-    unfolding isEnd _and_
-    end-first n = sym (simp (← e, y, ← d, n))
+d-more : (a b : Bytes) (bs : List Bytes) → sheetForm ((68 ∷ []) ∷ a ∷ b ∷ bs) ≡ no-form
+unfolding sheetForm choose same _and_
+d-more a b [] = refl
+d-more a b (c ∷ []) = refl
+d-more a b (c ∷ d ∷ ds) = refl
 
-    module _ (v : Bool) (m : u ≡ true) (g : v ≡ isNumber b) where
-      pub end-second : v ≡ false → false ≡ isEnd f a b c
-      unfolding isEnd _and_
-      end-second n = sym (simp (← e, y, ← d, m, ← g, n))
+r-more : (a b : Bytes) (bs : List Bytes) → sheetForm ((82 ∷ []) ∷ a ∷ b ∷ bs) ≡ no-form
+unfolding sheetForm choose same _and_
+r-more a b [] = refl
+r-more a b (c ∷ []) = refl
+r-more a b (c ∷ d ∷ ds) = refl
 
-      pub end-third : (x : Bool) → v ≡ true → x ≡ isNumber c → x ≡ isEnd f a b c
-      unfolding isEnd _and_
-      end-third x n h = h ∙ sym (simp (← e, y, ← d, m, ← g, n))
+module _ (s : Bytes) where
+  module _ (v : ℕ) (d : v ≡ choose (isNumber s) (min (valueFrom 0 s) 65536) 65537) where
+    pub edge-not : 65536 < v → Nothing ≡ shape (sheetForm ((68 ∷ []) ∷ split 44 s))
+    unfolding sheetForm shape choose same _and_
+    edge-not h =
+        pieces s
+        (λ e. sym (simp (e, no-number s v d h)))
+        (λ x y ys e. sym (ap (λ (ps : List Bytes). shape (sheetForm ((68 ∷ []) ∷ ps))) e ∙ ap shape (d-more x y ys)))
 
-module _ (f a b c : Bytes) (t : Bool) (e : t ≡ isEnd f a b c) where
-  pub four-not : t ≡ false → Nothing ≡ shape (sheetForm (f ∷ a ∷ b ∷ c ∷ []))
-  unfolding isEnd sheetForm shape choose
-  four-not n = sym (simp (← e, n))
+    pub edge-is : v ≤ 65536 → Edge v ≡ shape (sheetForm ((68 ∷ []) ∷ split 44 s))
+    unfolding sheetForm shape choose same _and_
+    edge-is h = sym (simp (number-whole s v d h, a-number s v d h, ← number-kept s v d h))
 
-  pub four-end : (i j k : ℕ) → t ≡ true → i ≡ min (valueFrom 0 a) 65536 → j ≡ min (valueFrom 0 b) 65536 → k ≡ min (valueFrom 0 c) 65536
-      → End i j k ≡ shape (sheetForm (f ∷ a ∷ b ∷ c ∷ []))
-  unfolding isEnd sheetForm shape choose
-  four-end i j k y p q r = sym (simp (← e, y, p, q, r))
+  module _ (t : Bool) (d : t ≡ isName s) where
+    pub test-not : t ≡ false → Nothing ≡ shape (sheetForm ((82 ∷ []) ∷ split 44 s))
+    unfolding sheetForm shape choose same _and_
+    test-not n =
+        pieces s
+        (λ e. sym (simp (e, ← d, n)))
+        (λ x y ys e. sym (ap (λ (ps : List Bytes). shape (sheetForm ((82 ∷ []) ∷ ps))) e ∙ ap shape (r-more x y ys)))
 
-pub ruleset fours = (end-other, end-first, end-second, end-third, four-not, four-end)
+    pub test-is : t ≡ true → Test ≡ shape (sheetForm ((82 ∷ []) ∷ split 44 s))
+    unfolding sheetForm shape choose same _and_
+    test-is y = sym (simp (split-free 44 s (name-free 44 s (omega arith) (sym d ∙ y)), ← d, y))
+
+pub ruleset oneForms = (edge-not, edge-is, test-not, test-is)
+
+-- ---- `last`
+
+end-more : (a b c d : Bytes) (ds : List Bytes) → sheetForm ((101 ∷ 110 ∷ 100 ∷ []) ∷ a ∷ b ∷ c ∷ d ∷ ds) ≡ no-form
+unfolding sheetForm
+end-more a b c d ds = refl
+
+module _ (s a : Bytes) (ea : a ≡ take (span 44 s) s) where
+  pub last-one : length s ≤ length a → Nothing ≡ shape (sheetForm ((101 ∷ 110 ∷ 100 ∷ []) ∷ split 44 s))
+  unfolding sheetForm shape choose same _and_
+  last-one h = sym (simp (first-last 44 s a ea h))
+
+  module _ (rest b : Bytes) (h : length a < length s) (er : rest ≡ drop (length a + 1) s) (eb : b ≡ take (span 44 rest) rest) where
+    pub last-two : length rest ≤ length b → Nothing ≡ shape (sheetForm ((101 ∷ 110 ∷ 100 ∷ []) ∷ split 44 s))
+    unfolding sheetForm shape choose same _and_
+    last-two k = sym (simp (first-more 44 s a ea rest h er, first-last 44 rest b eb k))
+
+    module _ (c : Bytes) (k : length b < length rest) (ec : c ≡ drop (length b + 1) rest) where
+      end-fields : split 44 s ≡ a ∷ b ∷ split 44 c
+      end-fields = first-more 44 s a ea rest h er ∙ ap (λ (ps : List Bytes). a ∷ ps) (first-more 44 rest b eb c k ec)
+
+      -- It has no form where one of the three is no number.
+      last-none : (isNumber a and isNumber b and isNumber c) ≡ false → Nothing ≡ shape (sheetForm ((101 ∷ 110 ∷ 100 ∷ []) ∷ split 44 s))
+      unfolding sheetForm shape choose same _and_
+      last-none n =
+          pieces c
+          (λ e. sym (simp (end-fields, e, n)))
+          (λ x y ys e. sym (ap (λ (ps : List Bytes). shape (sheetForm ((101 ∷ 110 ∷ 100 ∷ []) ∷ ps))) (end-fields ∙ ap (λ (ps : List Bytes). a ∷ b ∷ ps) e) ∙ ap shape (end-more a b x y ys)))
+
+      module _ (i : ℕ) (p : i ≡ choose (isNumber a) (min (valueFrom 0 a) 65536) 65537) where
+        pub last-first : 65536 < i → Nothing ≡ shape (sheetForm ((101 ∷ 110 ∷ 100 ∷ []) ∷ split 44 s))
+        unfolding _and_
+        last-first l = last-none (simp (no-number a i p l))
+
+        module _ (l : i ≤ 65536) (j : ℕ) (q : j ≡ choose (isNumber b) (min (valueFrom 0 b) 65536) 65537) where
+          pub last-second : 65536 < j → Nothing ≡ shape (sheetForm ((101 ∷ 110 ∷ 100 ∷ []) ∷ split 44 s))
+          unfolding _and_
+          last-second m = last-none (simp (a-number a i p l, no-number b j q m))
+
+          module _ (m : j ≤ 65536) (v : ℕ) (r : v ≡ choose (isNumber c) (min (valueFrom 0 c) 65536) 65537) where
+            pub last-third : 65536 < v → Nothing ≡ shape (sheetForm ((101 ∷ 110 ∷ 100 ∷ []) ∷ split 44 s))
+            unfolding _and_
+            last-third o = last-none (simp (a-number a i p l, a-number b j q m, no-number c v r o))
+
+            pub last-all : v ≤ 65536 → End i j v ≡ shape (sheetForm ((101 ∷ 110 ∷ 100 ∷ []) ∷ split 44 s))
+            unfolding sheetForm shape choose same _and_
+            last-all o =
+                sym (simp (
+                  end-fields,
+                  number-whole c v r o,
+                  a-number a i p l,
+                  a-number b j q m,
+                  a-number c v r o,
+                  ← number-kept a i p l,
+                  ← number-kept b j q m,
+                  ← number-kept c v r o,
+                ))
+
+pub ruleset lastForms = (last-one, last-two, last-first, last-second, last-third, last-all)
 
 -- ---- `form_of`
-
--- Two fields that are not those of the first line.
-two-fields : (f a : Bytes) → (same f (bytes "sheet") and same a (bytes "1")) ≡ false → sheetForm (f ∷ a ∷ []) ≡ twoForm f a
-unfolding sheetForm twoForm
-two-fields f a h = choose-no head-line (twoForm f a) h
 
 head-form : shape (sheetForm (split 44 headLine)) ≡ Head
 unfolding split onto sheetForm shape choose same _and_
 head-form = refl
 
+-- A line by its first bytes, and by what stands behind them.
+begins : (n : ℕ) (l f p rest : Bytes) → f ≡ take n l → same f p ≡ true → rest ≡ drop n l → l ≡ p ++ rest
+begins n l f p rest ef e er =
+    sym (take-append-drop n l) ∙ ap (λ (x : Bytes). x ++ drop n l) (sym ef ∙ same-true f p e) ∙ ap (λ (x : Bytes). p ++ x) (sym er)
+
+module _ (l f rest : Bytes) (ef : f ≡ take 2 l) (er : rest ≡ drop 2 l) where
+  letter : (x : ℕ) → eqb x 44 ≡ false → same f (x ∷ 44 ∷ []) ≡ true → split 44 l ≡ (x ∷ []) ∷ split 44 rest
+  unfolding split onto
+  letter x n e = ap (split 44) (begins 2 l f (x ∷ 44 ∷ []) rest ef e er) ∙ ap (λ (t : Bool). onto t x ([] ∷ split 44 rest)) n
+
+  module _ (r : Form) (t : Bool) where
+    pub line-pair : t ≡ same f (77 ∷ 44 ∷ []) → t ≡ true → r ≡ shape (sheetForm ((77 ∷ []) ∷ split 44 rest)) → r ≡ shape (sheetForm (split 44 l))
+    line-pair e y q = q ∙ sym (ap (λ (ps : List Bytes). shape (sheetForm ps)) (letter 77 refl (sym e ∙ y)))
+
+    pub line-edge : t ≡ same f (68 ∷ 44 ∷ []) → t ≡ true → r ≡ shape (sheetForm ((68 ∷ []) ∷ split 44 rest)) → r ≡ shape (sheetForm (split 44 l))
+    line-edge e y q = q ∙ sym (ap (λ (ps : List Bytes). shape (sheetForm ps)) (letter 68 refl (sym e ∙ y)))
+
+    pub line-test : t ≡ same f (82 ∷ 44 ∷ []) → t ≡ true → r ≡ shape (sheetForm ((82 ∷ []) ∷ split 44 rest)) → r ≡ shape (sheetForm (split 44 l))
+    line-test e y q = q ∙ sym (ap (λ (ps : List Bytes). shape (sheetForm ps)) (letter 82 refl (sym e ∙ y)))
+
+pub line-last : (l f rest : Bytes) (r : Form) (t : Bool) → f ≡ take 4 l → rest ≡ drop 4 l → t ≡ same f (101 ∷ 110 ∷ 100 ∷ 44 ∷ []) → t ≡ true
+    → r ≡ shape (sheetForm ((101 ∷ 110 ∷ 100 ∷ []) ∷ split 44 rest)) → r ≡ shape (sheetForm (split 44 l))
+unfolding split onto
+line-last l f rest r t ef er e y q =
+    q ∙ sym (ap (λ (x : Bytes). shape (sheetForm (split 44 x))) (begins 4 l f (101 ∷ 110 ∷ 100 ∷ 44 ∷ []) rest ef (sym e ∙ y) er))
+
 module _ (l : Bytes) (t : Bool) (e : t ≡ same l (115 ∷ 104 ∷ 101 ∷ 101 ∷ 116 ∷ 44 ∷ 49 ∷ [])) where
   pub line-head : t ≡ true → Head ≡ shape (sheetForm (split 44 l))
   line-head y = sym (ap (λ (s : Bytes). shape (sheetForm (split 44 s))) (same-true l headLine (sym e ∙ y)) ∙ head-form)
 
-  -- The line of these two fields is the first line.
-  no-head : t ≡ false → (f a : Bytes) → split 44 l ≡ f ∷ a ∷ [] → (same f (bytes "sheet") and same a (bytes "1")) ≡ false
-  unfolding joinBy
-  no-head n f a s =
-      fails _
-      (λ y.
-      let q : l ≡ headLine =
-      sym (join-split 44 l) ∙ ap (joinBy 44) s
-      ∙ ap₂ (λ (x z : Bytes). joinBy 44 (x ∷ z ∷ [])) (same-true f (bytes "sheet") (and-left _ _ y)) (same-true a (bytes "1") (and-right _ _ y)) in
-      both-ways (same-of q) (sym e ∙ n))
+  module _ (f g : Bytes) (ef : f ≡ take 2 l) (eg : g ≡ take 4 l) (m d r u : Bool) where
+    -- Every form has its first bytes.
+    pub line-none : m ≡ same f (77 ∷ 44 ∷ []) → m ≡ false → d ≡ same f (68 ∷ 44 ∷ []) → d ≡ false → r ≡ same f (82 ∷ 44 ∷ []) → r ≡ false
+        → u ≡ same g (101 ∷ 110 ∷ 100 ∷ 44 ∷ []) → u ≡ false → t ≡ false → Nothing ≡ shape (sheetForm (split 44 l))
+    unfolding shape joinBy
+    line-none em nm ed nd eu nr ev nu nt = go (sheetForm (split 44 l)) (sheet-formed (split 44 l))
+      where
+        joined : (fs : List Bytes) → split 44 l ≡ fs → l ≡ joinBy 44 fs
+        joined fs q = sym (join-split 44 l) ∙ ap (joinBy 44) q
 
-  module _ (f : Bytes) (ef : f ≡ take (span 44 l) l) where
-    pub line-one : length l ≤ length f → Nothing ≡ shape (sheetForm (split 44 l))
-    unfolding sheetForm shape
-    line-one h = sym (simp (first-last 44 l f ef h))
+        go : (x : SheetLine) → SheetFormed (split 44 l) x → Nothing ≡ shape x
+        go head-line q = absurd (both-ways (same-of (joined _ q)) (sym e ∙ nt))
+        go (m-line a b) q = absurd (both-ways (same-of (ef ∙ ap (take 2) (joined _ (q .0)))) (sym em ∙ nm))
+        go (d-line a) q = absurd (both-ways (same-of (ef ∙ ap (take 2) (joined _ (q .0)))) (sym ed ∙ nd))
+        go (r-line a) q = absurd (both-ways (same-of (ef ∙ ap (take 2) (joined _ q))) (sym eu ∙ nr))
+        go (end-line a b c) q = absurd (both-ways (same-of (eg ∙ ap (take 4) (joined _ (q .0)))) (sym ev ∙ nu))
+        go no-form q = refl
 
-    module _ (rest a : Bytes) (h : length f < length l) (er : rest ≡ drop (length f + 1) l) (ea : a ≡ take (span 44 rest) rest) where
-      pub line-two : (r : Form) → t ≡ false → length rest ≤ length a → r ≡ shape (twoForm f rest) → r ≡ shape (sheetForm (split 44 l))
-      line-two r n k g =
-          let s : split 44 l ≡ f ∷ rest ∷ [] = first-more 44 l f ef rest h er ∙ ap (λ (fs : List Bytes). f ∷ fs) (first-last 44 rest a ea k) in
-          g ∙ sym (ap (λ (fs : List Bytes). shape (sheetForm fs)) s ∙ ap shape (two-fields f rest (no-head n f rest s)))
-
-      module _ (more b : Bytes) (k : length a < length rest) (em : more ≡ drop (length a + 1) rest) (eb : b ≡ take (span 44 more) more) where
-        pub line-three : (r : Form) → length more ≤ length b → r ≡ shape (sheetForm (f ∷ a ∷ more ∷ [])) → r ≡ shape (sheetForm (split 44 l))
-        line-three r i g = g ∙ sym (simp (first-more 44 l f ef rest h er, first-more 44 rest a ea more k em, first-last 44 more b eb i))
-
-        module _ (c : Bytes) (i : length b < length more) (ec : c ≡ drop (length b + 1) more) (n : ℕ) (en : n ≡ span 44 c) where
-          all-fields : split 44 l ≡ f ∷ a ∷ b ∷ split 44 c
-          all-fields = simp (first-more 44 l f ef rest h er, first-more 44 rest a ea more k em, first-more 44 more b eb c i ec)
-
-          pub line-four : (r : Form) → length c ≤ n → r ≡ shape (sheetForm (f ∷ a ∷ b ∷ c ∷ [])) → r ≡ shape (sheetForm (split 44 l))
-          line-four r j g = g ∙ sym (simp (all-fields, uncut 44 c n en j))
-
-          pub line-five : n < length c → Nothing ≡ shape (sheetForm (split 44 l))
-          unfolding sheetForm shape
-          line-five j =
-              let s = split-cons 44 (drop (n + 1) c) in
-              sym (simp (all-fields, cut 44 c (take n c) (drop (n + 1) c) n en j refl refl, s .2))
-
-pub ruleset lines = (line-head, line-one, line-two, line-three, line-four, line-five)
+pub ruleset lines = (line-pair, line-edge, line-test, line-last, line-head, line-none)

@@ -1,5 +1,5 @@
 -- The turns and the returns of the functions on bits, names and states.
-use mathlib.Core.Path.{_≡_, refl, sym, ap, _∙_}
+use mathlib.Core.Path.{_≡_, sym, ap, _∙_}
 use mathlib.Core.Bool.{Bool, true, false}
 use mathlib.Core.Option.{none}
 use mathlib.Core.List.{List}
@@ -7,49 +7,68 @@ use Prim.Native.Nat.{ℕ, _+_, _*_, _≤_, _<_}
 use native.Mathlib.Numerals.{add-one}
 use native.Mathlib.Omega.{arith}
 use lib.Dec.{eqb, leb}
-use borrow.Author.Tests.{eq-eqb, le-ltb, lt-ltb, ne-eqb}
+use borrow.Author.Tests.{eq-eqb, le-leb, le-ltb, lt-leb, lt-ltb, ne-eqb}
 use Rattle.laws.specs.Tests.{_and_, first, found, isnt}
-use Rattle.laws.specs.TestLaws.{first-least, first-skip}
+use Rattle.laws.specs.TestLaws.{and-both, and-not, first-least}
+use Rattle.laws.specs.Counting.{count-zero, first-of-none}
+use Rattle.laws.specs.Slices.{below-or}
 use Rattle.laws.specs.BitSets.{bit-in, bit-out}
 use Rattle.rules.specs.Text.{Bytes, same}
 use Rattle.suite.specs.Reading.{nameAt}
 use Rattle.text.proofs.Laws.{clear-done, clear-on}
 use Rattle.sheet_reader.specs.declared.State.{State}
-use Rattle.sheet_reader.specs.Reading.{edgeFits, endFits, pairFits, testFits, testIn, underway}
+use Rattle.sheet_reader.specs.Reading.{edgeFits, endFits, pairFits, testFrom, underway}
 
 -- ---- `clear_words`, `set_bit`
 
 pub ruleset bits = (clear-on, clear-done, bit-out, bit-in)
 
--- ---- `test_of`
+-- ---- `test_from`
 
--- None of the first n tests has the name.
-unfoldable pub NoTest : Bytes → List ℕ → ℕ → Bytes → Type 0
-NoTest tt table n name = first n (λ i. same (nameAt tt table i) name) ≡ none
+-- No test from k on, below i, has the name.
+unfoldable pub NoTest : Bytes → List ℕ → ℕ → ℕ → Bytes → Type 0
+NoTest tt table k i name = (j : ℕ) → k ≤ j → j < i → same (nameAt tt table j) name ≡ false
 
-pub test-start : (tt : Bytes) (table : List ℕ) (name : Bytes) → NoTest tt table 0 name
-unfolding NoTest first
-test-start tt table name = refl
+module _ (tt : Bytes) (table : List ℕ) (k : ℕ) (name : Bytes) where
+  -- The test i is from k on, and has the name.
+  abbrev pub sought : ℕ → Bool
+  sought i = leb k i and same (nameAt tt table i) name
 
-module _ (tt : Bytes) (table : List ℕ) (name : Bytes) (i : ℕ) (inv : NoTest tt table i name) (x : Bytes) (t : Bool) (ex : x ≡ nameAt tt table i) (et : t ≡ same x name) where
-  here : same (nameAt tt table i) name ≡ t
-  here = ap (λ (y : Bytes). same y name) (sym ex) ∙ sym et
+  none-sought : (i : ℕ) → NoTest tt table k i name → first i sought ≡ none
+  unfolding NoTest _and_
+  none-sought i h =
+      first-of-none sought i
+      (count-zero sought i
+      (λ j l. below-or j k
+      (λ b. ap (λ (t : Bool). t and same (nameAt tt table j) name) (lt-leb k j b))
+      (λ b. ap (λ (t : Bool). leb k j and t) (h j b l) ∙ and-not (leb k j))))
 
-  pub test-hit : (n : ℕ) → i < n → t ≡ true → i + 1 ≡ testIn tt table n name
-  unfolding NoTest testIn
-  test-hit n h y = add-one i ∙ sym (ap found (first-least (λ i. same (nameAt tt table i) name) n i h (here ∙ y) inv))
-
-  pub test-on : t ≡ false → NoTest tt table (i + 1) name
+  pub test-start : NoTest tt table k k name
   unfolding NoTest
-  test-on y = ap (λ (n : ℕ). first n (λ i. same (nameAt tt table i) name)) (add-one i) ∙ first-skip (λ i. same (nameAt tt table i) name) i (here ∙ y) ∙ inv
+  test-start j a b = absurd (let z : ⊥ = omega arith in z)
 
-pub test-none : (tt : Bytes) (table : List ℕ) (name : Bytes) (i n : ℕ) → NoTest tt table i name → i ≤ n → n ≤ i → 0 ≡ testIn tt table n name
-unfolding NoTest testIn
-test-none tt table name i n inv h k =
-    let q : n ≡ i = omega arith in
-    sym (ap found (ap (λ (m : ℕ). first m (λ i. same (nameAt tt table i) name)) q ∙ inv))
+  module _ (i : ℕ) (inv : NoTest tt table k i name) where
+    pub test-none : (n : ℕ) → n ≤ i → 0 ≡ testFrom tt table k n name
+    unfolding NoTest testFrom
+    test-none n h = sym (ap found (none-sought n (λ j a b. inv j a (omega arith))))
 
-pub ruleset names = (test-start, test-hit, test-on, test-none)
+    module _ (x : Bytes) (t : Bool) (ex : x ≡ nameAt tt table i) (et : t ≡ same x name) where
+      here : same (nameAt tt table i) name ≡ t
+      here = ap (λ (y : Bytes). same y name) (sym ex) ∙ sym et
+
+      pub test-hit : (n : ℕ) → k ≤ i → i < n → t ≡ true → i + 1 ≡ testFrom tt table k n name
+      unfolding testFrom
+      test-hit n l h y = add-one i ∙ sym (ap found (first-least sought n i h (and-both (le-leb k i l) (here ∙ y)) (none-sought i inv)))
+
+      pub test-on : t ≡ false → NoTest tt table k (i + 1) name
+      unfolding NoTest
+      test-on y j a b =
+          below-or j i (inv j a)
+          (λ l.
+          let q : j ≡ i = omega arith in
+          ap (λ (m : ℕ). same (nameAt tt table m) name) q ∙ here ∙ y)
+
+pub ruleset names = (test-start, test-none, test-hit, test-on)
 
 -- ---- `underway`
 
@@ -68,7 +87,7 @@ module _ (c : State) where
 
 pub ruleset ways = (under-not, under-shut, under-way)
 
--- ---- `pair_fits`, `edge_fits`, `test_fits`, `end_fits`
+-- ---- `pair_fits`, `edge_fits`, `end_fits`
 
 module _ (c : State) (t : Bool) (e : t ≡ underway c) where
   module _ (olds news a b : ℕ) where
@@ -119,15 +138,6 @@ module _ (c : State) (t : Bool) (e : t ≡ underway c) where
         unfolding edgeFits _and_
         edge-order k = sym (simp (← e, y, eq-eqb (c .tests) 0 (omega arith), lt-ltb i edges k))
 
-  module _ (i : ℕ) where
-    pub test-off : t ≡ false → false ≡ testFits i c
-    unfolding testFits _and_
-    test-off n = sym (simp (← e, n))
-
-    pub test-order : t ≡ true → leb (c .test) i ≡ testFits i c
-    unfolding testFits _and_
-    test-order y = sym (simp (← e, y))
-
   module _ (a b d : ℕ) where
     pub end-off : t ≡ false → false ≡ endFits a b d c
     unfolding endFits _and_
@@ -148,4 +158,4 @@ module _ (c : State) (t : Bool) (e : t ≡ underway c) where
         end-tests k = sym (simp (← e, y, eq-eqb a (c .pairs) h, eq-eqb b (c .edges) k))
 
 pub ruleset fits =
-    (pair-off, pair-late, pair-later, pair-no-old, pair-no-new, pair-order, edge-off, edge-late, edge-none, edge-order, test-off, test-order, end-off, end-pairs, end-edges, end-tests)
+    (pair-off, pair-late, pair-later, pair-no-old, pair-no-new, pair-order, edge-off, edge-late, edge-none, edge-order, end-off, end-pairs, end-edges, end-tests)

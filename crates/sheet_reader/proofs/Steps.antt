@@ -8,19 +8,24 @@ use native.Mathlib.Omega.{arith}
 use lib.Dec.{eqb, leb, ltb}
 use lib.ListN.{length}
 use borrow.Author.Tests.{eq-eqb, le-leb, leb-true, lt-leb, ltb-true, ne-eqb}
-use Rattle.laws.specs.Tests.{_and_, _or_, found, has, isnt, none?}
-use Rattle.laws.specs.TestLaws.{and-left, and-right, false-isnt, true-isnt}
+use Rattle.laws.specs.Tests.{_and_, _or_, first, found, has, isnt, none?}
+use Rattle.laws.specs.TestLaws.{and-both, and-ends, and-left, and-not, and-right, fails, false-isnt, first-at, first-none, first-only, true-isnt}
 use Rattle.laws.specs.Lists.{snoc-length}
 use Rattle.laws.specs.Slices.{same-or}
 use Rattle.laws.specs.Bits.{bitIn}
 use Rattle.laws.specs.BitSets.{bit-with, withBit}
-use Rattle.rules.specs.Text.{Answer, Bytes, accepted, unless, value}
+use Rattle.rules.specs.Text.{Answer, Bytes, accepted, same, unless, value}
 use Rattle.rules.specs.Graph.{Program, edgeCount, nodeCount}
-use Rattle.rules.specs.Sheet.{SheetRead, addD, addM, addR, allBelow, going, openSheet, pairsBefore, takeSheetLine, testOf}
+use Rattle.rules.specs.SuiteFile.{Suite, testCount, testName}
+use Rattle.rules.specs.Sheet.{SheetRead, addD, addM, addR, allBelow, going, openSheet, pairsBefore, r-line, takeSheetLine, testOf}
+use Rattle.rules.specs.Proofs.TextLaws.{same-true}
 use Rattle.pairset.specs.Store.{Appended, Appends}
+use Rattle.suite.specs.Reading.{nameAt}
 use Rattle.sheet_reader.specs.declared.State.{State}
 use Rattle.sheet_reader.specs.Forms.{kept}
-use Rattle.sheet_reader.specs.Reading.{AddsEdge, AddsPair, AddsTest, After, Ends, Holds, Opens, PairsUpTo, Refusal, Small, UpTo, edgeFits, endFits, pairFits, testFits, underway}
+use Rattle.sheet_reader.specs.Claims.{For}
+use Rattle.sheet_reader.specs.Reading.{AddsEdge, AddsPair, AddsTest, After, Ends, Holds, Opens, PairsUpTo, Refusal, Small, UpTo, edgeFits, endFits, pairFits, testFrom, underway}
+use Rattle.sheet_reader.proofs.Leaves.{sought}
 use Rattle.sheet_reader.proofs.Orders.{and-when, has-snoc, kept-below, kept-is, kept-same, none-is, pairs-up-more, up-more}
 
 -- ---- a test that refuses, and one that passes
@@ -79,8 +84,8 @@ module _ (w sets : List ℕ) (c : State) (s : SheetRead) (hold : Holds w sets c 
       sym (hold .edge-next (kept x)) ∙ ap (allBelow (s .claims .D)) xs)
       ∙ ap (λ (p : Bool). p and allBelow (s .claims .D) (value x)) (kept-below (value x) edges (omega arith))))
 
-  test-fits-is : (i : ℕ) → testFits i c ≡ (going s and allBelow (s .claims .R) i)
-  unfolding testFits UpTo
+  test-fits-is : (i : ℕ) → (underway c and leb (c .test) i) ≡ (going s and allBelow (s .claims .R) i)
+  unfolding UpTo
   test-fits-is i = ap₂ (λ (p q : Bool). p and q) way-is (sym (hold .test-next i))
 
   end-fits-is : (x y z : Bytes) → Small c
@@ -201,7 +206,7 @@ module _ (olds news n a b : ℕ) (c : State) (w : List ℕ) where
             test = c .test;
           }
 
-      held-pair : (s : SheetRead) (sets w′ : List ℕ) → 16896 ≤ length w → Appended w (c .pairs) a b w′ → Holds w sets c s → Holds w′ sets withPair (addM a b s)
+      held-pair : (s : SheetRead) (sets w′ : List ℕ) → 16912 ≤ length w → Appended w (c .pairs) a b w′ → Holds w sets c s → Holds w′ sets withPair (addM a b s)
       unfolding Appends
       held-pair s sets w′ long ap hold =
           let p = ap .appends (hold .held .store) (omega (arith, pair-old)) (omega (arith, pair-new)) (omega arith) in
@@ -222,7 +227,7 @@ module _ (olds news n a b : ℕ) (c : State) (w : List ℕ) where
             };
           }
 
-      pub pair-more : (w′ : List ℕ) → 16896 ≤ length w → Appended w (c .pairs) a b w′ → AddsPair olds news n a b c w withPair w′
+      pub pair-more : (w′ : List ℕ) → 16912 ≤ length w → Appended w (c .pairs) a b w′ → AddsPair olds news n a b c w withPair w′
       unfolding AddsPair takeSheetLine
       pair-more w′ long ap old new suite s sets x z eo en ea eb hold =
           let xs : a ≡ value x = ea ∙ kept-is (value x) olds (omega arith) (subst (λ (i : ℕ). i < olds) ea pair-old) in
@@ -368,22 +373,70 @@ found-some : (o : Option ℕ) (t : ℕ) → t ≡ found o → 1 ≤ t → o ≡ 
 found-some none t e h = absurd (let z : ⊥ = omega arith in z)
 found-some (some i) t e h = let q : i ≡ t - 1 = omega arith in ap {B = Option ℕ} some q
 
-module _ (n t : ℕ) (c : State) (sets : List ℕ) where
-  pub test-unknown : (r : State) (sets′ : List ℕ) → t < 1 → Refusal 11 n r → AddsTest n t c sets r sets′
-  unfolding AddsTest takeSheetLine
-  test-unknown r sets′ h q old new suite s w name et hold = rw (found-none (testOf suite name) t et h) (q .number-is, q .place-is, omega arith)
+module _ (tt : Bytes) (table : List ℕ) (count : ℕ) (name : Bytes) (k t : ℕ) (et : t ≡ testFrom tt table k count name) where
+  -- Where none is found, no test from k on has the name.
+  none-from : t < 1 → (i : ℕ) → i < count → k ≤ i → same (nameAt tt table i) name ≡ true → ⊥
+  unfolding testFrom
+  none-from h i l a e =
+      first-none (sought tt table k name) count (found-none (first count (sought tt table k name)) t et h) i l (and-both (le-leb k i a) e)
 
-  module _ (f : Bool) (some-test : 1 ≤ t) (few : t ≤ 200) (ef : f ≡ testFits (t - 1) c) where
-    pub test-unfit : (r : State) (sets′ : List ℕ) → f ≡ false → Refusal 11 n r → AddsTest n t c sets r sets′
+  module _ (some-test : 1 ≤ t) where
+    found-at : (t - 1 < count) × (sought tt table k name (t - 1) ≡ true)
+    unfolding testFrom
+    found-at = first-at (sought tt table k name) count (t - 1) (found-some (first count (sought tt table k name)) t et some-test)
+
+    found-from : k ≤ t - 1
+    found-from = leb-true k (t - 1) (and-left _ _ (found-at .1))
+
+    -- The test that is found is the only one of the name.
+    found-only : (olds news edges : ℕ) (old new : Program) (suite : Suite) → For olds news edges tt table count old new suite → testOf suite name ≡ some (t - 1)
+    unfolding testOf
+    found-only olds news edges old new suite for =
+        let low : t - 1 < testCount suite = omega (arith, found-at .0, for .counted) in
+        let here : same (testName suite (t - 1)) name ≡ true = ap (λ (x : Bytes). same x name) (sym (for .names (t - 1) low)) ∙ and-right _ _ (found-at .1) in
+        first-only (λ i. same (testName suite i) name) (testCount suite) (t - 1) low here
+        (λ j l e. for .differ (t - 1) j low l (same-true (testName suite j) name e ∙ sym (same-true (testName suite (t - 1)) name here)))
+
+    pub test-bit : count ≤ 200 → 1023 + t < 18446744073709551616
+    test-bit few = omega (arith, found-at .0)
+
+module _ (tt : Bytes) (table : List ℕ) (count n : ℕ) (name : Bytes) (c : State) (sets : List ℕ) (t : ℕ) (et : t ≡ testFrom tt table (c .test) count name) where
+  pub test-unknown : (r : State) (sets′ : List ℕ) → t < 1 → Refusal 11 n r → AddsTest tt table count n name c sets r sets′
+  unfolding AddsTest takeSheetLine testOf UpTo
+  test-unknown r sets′ h q olds news edges old new suite s w for hold = go (testOf suite name) refl
+    where
+      go : (o : Option ℕ) → testOf suite name ≡ o → After (takeSheetLine old new suite n s (r-line name)) r w sets′
+      go none e = rw e (q .number-is, q .place-is, omega arith)
+      go (some i) e =
+          let f = first-at (λ i. same (testName suite i) name) (testCount suite) i e in
+          let early : leb (c .test) i ≡ false =
+          fails _
+          (λ y. none-from tt table count name (c .test) t et h i (omega (arith, f .0, for .counted)) (leb-true (c .test) i y)
+          (ap (λ (x : Bytes). same x name) (for .names i (f .0)) ∙ f .1)) in
+          rw e
+          (stop r w sets′ 11 n _ (true-isnt (ap (λ (b : Bool). going s and b) (hold .test-next i ∙ early) ∙ and-not (going s))) q (omega arith))
+
+  module _ (f : Bool) (some-test : 1 ≤ t) (ef : f ≡ underway c) where
+    test-behind : c .test ≤ t - 1
+    test-behind = found-from tt table count name (c .test) t et some-test
+
+    -- The definition's test, by the code's.
+    test-are : (s : SheetRead) (w : List ℕ) → Holds w sets c s → (going s and allBelow (s .claims .R) (t - 1)) ≡ f
+    test-are s w hold =
+        sym (test-fits-is w sets c s hold (t - 1))
+        ∙ ap (λ (b : Bool). underway c and b) (le-leb (c .test) (t - 1) test-behind)
+        ∙ and-ends (underway c)
+        ∙ sym ef
+
+    pub test-unfit : (r : State) (sets′ : List ℕ) → f ≡ false → Refusal 11 n r → AddsTest tt table count n name c sets r sets′
     unfolding AddsTest takeSheetLine
-    test-unfit r sets′ y q old new suite s w name et hold =
-        rw (found-some (testOf suite name) t et some-test)
-        (stop r w sets′ 11 n _ (true-isnt (sym (test-fits-is w sets c s hold (t - 1)) ∙ sym ef ∙ y)) q (omega arith))
+    test-unfit r sets′ y q olds news edges old new suite s w for hold =
+        rw (found-only tt table count name (c .test) t et some-test olds news edges old new suite for)
+        (stop r w sets′ 11 n _ (true-isnt (test-are s w hold ∙ y)) q (omega arith))
 
-    module _ (y : f ≡ true) where
-      test-behind : c .test ≤ t - 1
-      unfolding testFits
-      test-behind = leb-true (c .test) (t - 1) (and-right _ _ (sym ef ∙ y))
+    module _ (few : count ≤ 200) where
+      test-in : t - 1 < 200
+      test-in = omega (arith, found-at tt table count name (c .test) t et some-test .0)
 
       -- The state with the test more.
       abbrev withTest : State
@@ -416,17 +469,18 @@ module _ (n t : ℕ) (c : State) (sets : List ℕ) where
             held = record {
               store = hold .held .store;
               pairs-are = hold .held .pairs-are;
-              edges-are = bit-edge-kept sets long (s .claims .D) (t - 1) (omega arith) (hold .held .edges-are);
-              tests-are = bit-test sets long (s .claims .R) (t - 1) (omega arith) (hold .held .tests-are);
+              edges-are = bit-edge-kept sets long (s .claims .D) (t - 1) test-in (hold .held .edges-are);
+              tests-are = bit-test sets long (s .claims .R) (t - 1) test-in (hold .held .tests-are);
             };
           }
 
-      pub test-more : (sets′ : List ℕ) → 20 ≤ length sets → sets′ ≡ withBit sets (1024 + (t - 1)) → AddsTest n t c sets withTest sets′
+      pub test-more : (sets′ : List ℕ) → f ≡ true → 20 ≤ length sets → sets′ ≡ withBit sets (1023 + t) → AddsTest tt table count n name c sets withTest sets′
       unfolding AddsTest takeSheetLine
-      test-more sets′ long es old new suite s w name et hold =
-          rw (found-some (testOf suite name) t et some-test)
-          (go-on withTest w sets′ 11 n _ (false-isnt (sym (test-fits-is w sets c s hold (t - 1)) ∙ sym ef ∙ y))
-          (refl, refl, subst (λ (k : List ℕ). Holds w k withTest (addR (t - 1) s)) (sym es) (held-test s w long hold)))
+      test-more sets′ y long es olds news edges old new suite s w for hold =
+          let q : 1024 + (t - 1) ≡ 1023 + t = omega arith in
+          rw (found-only tt table count name (c .test) t et some-test olds news edges old new suite for)
+          (go-on withTest w sets′ 11 n _ (false-isnt (test-are s w hold ∙ y))
+          (refl, refl, subst (λ (k : List ℕ). Holds w k withTest (addR (t - 1) s)) (ap (withBit sets) q ∙ sym es) (held-test s w long hold)))
 
       pub test-small : Small c → Small withTest
       test-small h =
@@ -436,13 +490,13 @@ module _ (n t : ℕ) (c : State) (sets : List ℕ) where
             few-edges = h .few-edges;
             low-edge = h .low-edge;
             few-tests = omega (arith, h .few-tests, test-behind);
-            low-test = omega arith;
+            low-test = omega (arith, test-in);
           }
 
 pub test-count : (c : State) → Small c → c .tests + 1 < 18446744073709551616
 test-count c h = omega (arith, h .few-tests, h .low-test)
 
-pub ruleset tests = (test-unknown, test-unfit, test-more, test-small, test-count)
+pub ruleset tests = (test-bit, test-unknown, test-unfit, test-more, test-small, test-count)
 
 -- ---- `end`
 

@@ -1,37 +1,35 @@
 -- The returns of `step`, the turns of `read_lines`, and the returns of `read_sheet`. `So` is what holds at the head of the loop, in the form of a continuation: what the
 -- whole sheet reads to is what its rest from `at` on reads to after what the state and the tables hold.
 use mathlib.Core.Path.{_≡_, refl, sym, ap, ap₂, _∙_, subst}
-use mathlib.Core.Bool.{Bool, true, false, true≢false}
-use mathlib.Core.Option.{Option, none, some}
+use mathlib.Core.Bool.{true, false, true≢false}
 use mathlib.Core.List.{List, [], _∷_}
 use Prim.Native.Nat.{ℕ, suc, _+_, _-_, _≤_, _<_}
 use native.Mathlib.Numerals.{add-one}
 use native.Mathlib.Omega.{arith}
-use lib.ListN.{length, getD, take, drop, length-drop, replicate}
+use lib.ListN.{length, take, drop, length-drop, replicate}
 use lib.Seq.{length-take-le}
 use borrow.Author.Tests.{le-ltb, lt-ltb}
-use Rattle.laws.specs.Tests.{_and_, choose, first, found, has, isnt}
-use Rattle.laws.specs.TestLaws.{first-at, true-isnt, false-isnt}
-use Rattle.laws.specs.Counting.{first-agree}
+use Rattle.laws.specs.Tests.{has, isnt}
+use Rattle.laws.specs.TestLaws.{true-isnt, false-isnt}
 use Rattle.laws.specs.Slices.{drop-end}
 use Rattle.laws.specs.BitSets.{clear-bits}
-use Rattle.rules.specs.Text.{Answer, Bytes, accepted, bytes, empty, isName, isNumber, readLines, readText, refused, same, split, then, unless}
+use Rattle.rules.specs.Text.{Answer, Bytes, accepted, empty, joinBy, readLines, readText, refused, split, then, unless}
 use Rattle.rules.specs.Graph.{Program}
-use Rattle.rules.specs.SuiteFile.{Suite, testCount, testName}
-use Rattle.rules.specs.Sheet.{Sheet, SheetLine, SheetRead, d-line, end-line, finishSheet, head-line, m-line, noSheet, no-form, r-line, readSheet, sheetForm, stepSheet, takeSheetLine, testOf}
-use Rattle.rules.specs.Proofs.TextLaws.{split-cons}
+use Rattle.rules.specs.SuiteFile.{Suite}
+use Rattle.rules.specs.Sheet.{Sheet, SheetLine, SheetRead, d-line, end-line, finishSheet, head-line, m-line, noSheet, no-form, r-line, readSheet, sheetForm, stepSheet, takeSheetLine}
+use Rattle.rules.specs.Proofs.SheetLayout.{SheetFormed, sheet-formed}
+use Rattle.rules.specs.Proofs.TextLaws.{join-split, split-cons}
 use Rattle.text.specs.Scans.{span}
 use Rattle.text.specs.SplitLaws.{cut-at, uncut-at}
 use Rattle.pairset.specs.Store.{Store}
 use Rattle.pairset.specs.StoreLaws.{no-pairs, store-clear}
-use Rattle.suite.specs.Reading.{nameAt}
 use Rattle.sheet_reader.specs.declared.Form.{Form}
 use Rattle.sheet_reader.specs.declared.Form.the-variants.{Edge, End, Head as First, Nothing, Pair, Test}
 use Rattle.sheet_reader.specs.declared.State.{State}
 use Rattle.sheet_reader.specs.declared.SheetRead.{SheetRead as Result}
 use Rattle.sheet_reader.specs.Forms.{kept, shape}
 use Rattle.sheet_reader.specs.Claims.{For, Reads}
-use Rattle.sheet_reader.specs.Reading.{AddsEdge, AddsPair, AddsTest, After, Ends, Finishes, Fresh, Holds, Lines, Opens, Refusal, Small, Stepped, Steps, nothingRead, testIn}
+use Rattle.sheet_reader.specs.Reading.{AddsEdge, AddsPair, AddsTest, After, Ends, Finishes, Fresh, Holds, Lines, Opens, Refusal, Small, Stepped, Steps, nothingRead}
 use Rattle.sheet_reader.proofs.Orders.{pairs-up-none, up-none}
 
 -- ---- the form of a line, by what is kept of it
@@ -109,44 +107,13 @@ module _ (x : SheetLine) where
       go (end-line a b c) e = (a, b, c, refl, cc, cc, cc)
       go no-form e = absurd (true≢false (let z : true ≡ false = cc in z))
 
--- The name of an R line is its second field.
-r-two : (f a name : Bytes) (t u v : Bool) → choose t head-line (choose u (d-line a) (choose v (r-line a) no-form)) ≡ r-line name → name ≡ a
-unfolding choose
-r-two f a name true u v e = absurd (true≢false (let z : true ≡ false = cc in z))
-r-two f a name false true v e = absurd (true≢false (let z : true ≡ false = cc in z))
-r-two f a name false false true e = cc
-r-two f a name false false false e = absurd (true≢false (let z : true ≡ false = cc in z))
-
-r-three : (a b name : Bytes) (t : Bool) → choose t (m-line a b) no-form ≡ r-line name → ⊥
-unfolding choose
-r-three a b name true e = true≢false (let z : true ≡ false = cc in z)
-r-three a b name false e = true≢false (let z : true ≡ false = cc in z)
-
-r-four : (a b c name : Bytes) (t : Bool) → choose t (end-line a b c) no-form ≡ r-line name → ⊥
-unfolding choose
-r-four a b c name true e = true≢false (let z : true ≡ false = cc in z)
-r-four a b c name false e = true≢false (let z : true ≡ false = cc in z)
-
-r-name : (fs : List Bytes) (name : Bytes) → sheetForm fs ≡ r-line name → name ≡ getD fs 1 []
-unfolding sheetForm
-r-name [] name e = absurd (true≢false (let z : true ≡ false = cc in z))
-r-name (f ∷ []) name e = absurd (true≢false (let z : true ≡ false = cc in z))
-r-name (f ∷ a ∷ []) name e = r-two f a name (same f (bytes "sheet") and same a (bytes "1")) (same f (bytes "D") and isNumber a) (same f (bytes "R") and isName a) e
-r-name (f ∷ a ∷ b ∷ []) name e = absurd (r-three a b name (same f (bytes "M") and isNumber a and isNumber b) e)
-r-name (f ∷ a ∷ b ∷ c ∷ []) name e = absurd (r-four a b c name (same f (bytes "end") and isNumber a and isNumber b and isNumber c) e)
-r-name (f ∷ a ∷ b ∷ c ∷ d ∷ ds) name e = absurd (true≢false (let z : true ≡ false = cc in z))
+-- The name of an R line stands behind its first comma.
+r-name : (line name : Bytes) → sheetForm (split 44 line) ≡ r-line name → drop 2 line ≡ name
+unfolding joinBy
+r-name line name e =
+    ap (drop 2) (sym (join-split 44 line) ∙ ap (joinBy 44) (subst (λ (x : SheetLine). SheetFormed (split 44 line) x) e (sheet-formed (split 44 line))))
 
 -- ---- `step`
-
--- The number of a test is no more than there are.
-found-low : (f : ℕ → Bool) (n : ℕ) (o : Option ℕ) → first n f ≡ o → found o ≤ n
-found-low f n none e = omega arith
-found-low f n (some i) e = omega (arith, first-at f n i e .0)
-
-pub test-low : (tt : Bytes) (table : List ℕ) (count : ℕ) (name : Bytes) (t : ℕ) → t ≡ testIn tt table count name → count ≤ 200 → t ≤ 200
-unfolding testIn
-test-low tt table count name t e h =
-    omega (arith, found-low (λ i. same (nameAt tt table i) name) count (first count (λ i. same (nameAt tt table i) name)) refl)
 
 module _ (olds news edges : ℕ) (tt : Bytes) (table : List ℕ) (count n : ℕ) (line : Bytes) (c : State) (w sets : List ℕ) (form : Form) (ef : form ≡ shape (sheetForm (split 44 line))) where
   pub step-none : (r : State) (w′ sets′ : List ℕ) → form ≡ Nothing → Refusal 2 n r → Steps olds news edges tt table count n line c w sets r w′ sets′
@@ -170,18 +137,13 @@ module _ (olds news edges : ℕ) (tt : Bytes) (table : List ℕ) (count n : ℕ)
       let f = form-edge (sheetForm (split 44 line)) i (sym ef ∙ e) in
       rw (f .1) (q old new suite s w (f .0) (for .old-edges) (f .2) hold)
 
-  pub step-test : (r : State) (sets′ : List ℕ) (name : Bytes) (t : ℕ) → form ≡ Test → name ≡ getD (split 44 line) 1 [] → t ≡ testIn tt table count name → AddsTest n t c sets r sets′
+  pub step-test : (r : State) (sets′ : List ℕ) (name : Bytes) → form ≡ Test → name ≡ drop 2 line → AddsTest tt table count n name c sets r sets′
       → Steps olds news edges tt table count n line c w sets r w sets′
-  unfolding Steps stepSheet AddsTest testIn testOf
-  step-test r sets′ name t e en et q old new suite s at for hold =
+  unfolding Steps stepSheet AddsTest
+  step-test r sets′ name e en q old new suite s at for hold =
       let f = form-test (sheetForm (split 44 line)) (sym ef ∙ e) in
-      let is : f .0 ≡ name = r-name (split 44 line) (f .0) (f .1) ∙ sym en in
-      let found-is : t ≡ found (testOf suite (f .0)) =
-      et
-      ∙ ap₂ (λ (k : ℕ) (x : Bytes). found (first k (λ i. same (nameAt tt table i) x))) (for .counted) (sym is)
-      ∙ ap found
-      (first-agree (λ i. same (nameAt tt table i) (f .0)) (λ i. same (testName suite i) (f .0)) (testCount suite) (λ i h. ap (λ (x : Bytes). same x (f .0)) (for .names i h))) in
-      rw (f .1) (q old new suite s w (f .0) found-is hold)
+      let is : name ≡ f .0 = en ∙ r-name line (f .0) (f .1) in
+      rw (f .1) (subst (λ (x : Bytes). After (takeSheetLine old new suite n s (r-line x)) r w sets′) is (q olds news edges old new suite s w for hold))
 
   pub step-end : (r : State) (i j k : ℕ) → form ≡ End i j k → Ends n i j k c r → Steps olds news edges tt table count n line c w sets r w sets
   unfolding Steps stepSheet Ends
@@ -374,7 +336,7 @@ pub ruleset turns = (head-start, no-end, turn-at, turn-next, turn-number, head-o
 
 -- ---- `read_sheet`
 
-pub clear-store : (w v : List ℕ) → v ≡ replicate (length w) 0 → 16896 ≤ length w → Store v 0
+pub clear-store : (w v : List ℕ) → v ≡ replicate (length w) 0 → 16912 ≤ length w → Store v 0
 clear-store w v e h = subst (λ (x : List ℕ). Store x 0) (sym e) (store-clear (length w) (omega arith))
 
 module _ (olds news edges : ℕ) (tt : Bytes) (table : List ℕ) (count : ℕ) (sheet : Bytes) (r : Result) (w′ sets′ : List ℕ) where
@@ -382,7 +344,7 @@ module _ (olds news edges : ℕ) (tt : Bytes) (table : List ℕ) (count : ℕ) (
   unfolding Reads readSheet readText unless
   sheet-long h en ep old new suite for = simp (lt-ltb 65536 (length sheet) h) (en, ep, omega arith)
 
-  pub sheet-read : (w sets w₁ sets₁ : List ℕ) → length sheet ≤ 65536 → 16896 ≤ length w → w₁ ≡ replicate (length w) 0 → sets₁ ≡ replicate (length sets) 0
+  pub sheet-read : (w sets w₁ sets₁ : List ℕ) → length sheet ≤ 65536 → 16912 ≤ length w → w₁ ≡ replicate (length w) 0 → sets₁ ≡ replicate (length sets) 0
       → Lines olds news edges tt table count sheet w₁ sets₁ r w′ sets′ → Reads olds news edges tt table count sheet r w′ sets′
   unfolding Reads Lines readSheet readText unless
   sheet-read w sets w₁ sets₁ h k ew es a old new suite for =

@@ -12,13 +12,15 @@ use Rattle.pairset.specs.Store.{Store, pairsIn}
 use Rattle.suite.specs.Reading.{nameAt}
 use Rattle.sheet_reader.specs.declared.SheetRead.{SheetRead}
 
--- The programs and the suite that a sheet is read for: so many old and new nodes, old edges and tests, and the names that the table gives in the text of the tests.
+-- The programs and the suite that a sheet is read for: so many old and new nodes, old edges and tests, and the names that the table gives in the text of the tests, no name
+-- twice.
 pub record For (olds news edges : ℕ) (tt : Bytes) (table : List ℕ) (count : ℕ) (old new : Program) (suite : Suite) : Type 0 where
   pub old-nodes : olds ≡ nodeCount old
   pub new-nodes : news ≡ nodeCount new
   pub old-edges : edges ≡ edgeCount old
   pub counted : count ≡ testCount suite
   pub names : (i : ℕ) → i < testCount suite → nameAt tt table i ≡ testName suite i
+  pub differ : (i j : ℕ) → i < testCount suite → j < testCount suite → testName suite j ≡ testName suite i → j ≡ i
 
 -- The tables hold the claims of a sheet: its m pairs, in order; bit e is whether D has the edge e, and bit 1024 + i whether R has the test i.
 pub record ClaimsHeld (w sets : List ℕ) (m : ℕ) (s : Sheet) : Type 0 where

@@ -10,7 +10,7 @@ use Rattle.laws.specs.Bits.{bitIn}
 use Rattle.rules.specs.Text.{Answer, Bytes, accepted, linesOf, readLines, refused, same}
 use Rattle.rules.specs.Graph.{Program, edgeCount, nodeCount}
 use Rattle.rules.specs.SuiteFile.{Suite}
-use Rattle.rules.specs.Sheet.{SheetRead, allBelow, d-line, end-line, finishSheet, head-line, m-line, noSheet, pairsBefore, r-line, stepSheet, takeSheetLine, testOf}
+use Rattle.rules.specs.Sheet.{SheetRead, allBelow, d-line, end-line, finishSheet, head-line, m-line, noSheet, pairsBefore, r-line, stepSheet, takeSheetLine}
 use Rattle.pairset.specs.Store.{Store}
 use Rattle.suite.specs.Reading.{nameAt}
 use Rattle.sheet_reader.specs.declared.State.{State}
@@ -65,9 +65,9 @@ nothingRead = record { number = 0; place = 0; opened = false; shut = false; pair
 
 -- ---- names
 
--- `test_of`: 1 + the first of n tests that has the name, or 0.
-unfoldable pub testIn : Bytes → List ℕ → ℕ → Bytes → ℕ
-testIn tt table n name = found (first n (λ i. same (nameAt tt table i) name))
+-- `test_from`: 1 + the first of n tests, from the test k on, that has the name, or 0.
+unfoldable pub testFrom : Bytes → List ℕ → ℕ → ℕ → Bytes → ℕ
+testFrom tt table k n name = found (first n (λ i. leb k i and same (nameAt tt table i) name))
 
 -- ---- a line may stand here
 
@@ -80,9 +80,6 @@ pairFits olds news a b c = underway c and eqb (c .edges) 0 and eqb (c .tests) 0 
 
 unfoldable pub edgeFits : ℕ → ℕ → State → Bool
 edgeFits edges e c = underway c and eqb (c .tests) 0 and ltb e edges and leb (c .edge) e
-
-unfoldable pub testFits : ℕ → State → Bool
-testFits i c = underway c and leb (c .test) i
 
 unfoldable pub endFits : ℕ → ℕ → ℕ → State → Bool
 endFits a b d c = underway c and eqb a (c .pairs) and eqb b (c .edges) and eqb d (c .tests)
@@ -114,13 +111,13 @@ pub record AddedEdge (edges n e : ℕ) (c : State) (sets : List ℕ) (r : State)
   pub adds : AddsEdge edges n e c sets r sets′
   pub small : Small r
 
-unfoldable pub AddsTest : ℕ → ℕ → State → List ℕ → State → List ℕ → Type 0
-AddsTest n t c sets r sets′ =
-    (old new : Program) (suite : Suite) (s : SheetRead) (w : List ℕ) (name : Bytes) → t ≡ found (testOf suite name) → Holds w sets c s
+unfoldable pub AddsTest : Bytes → List ℕ → ℕ → ℕ → Bytes → State → List ℕ → State → List ℕ → Type 0
+AddsTest tt table count n name c sets r sets′ =
+    (olds news edges : ℕ) (old new : Program) (suite : Suite) (s : SheetRead) (w : List ℕ) → For olds news edges tt table count old new suite → Holds w sets c s
     → After (takeSheetLine old new suite n s (r-line name)) r w sets′
 
-pub record AddedTest (n t : ℕ) (c : State) (sets : List ℕ) (r : State) (sets′ : List ℕ) : Type 0 where
-  pub adds : AddsTest n t c sets r sets′
+pub record AddedTest (tt : Bytes) (table : List ℕ) (count n : ℕ) (name : Bytes) (c : State) (sets : List ℕ) (r : State) (sets′ : List ℕ) : Type 0 where
+  pub adds : AddsTest tt table count n name c sets r sets′
   pub small : Small r
 
 unfoldable pub Ends : ℕ → ℕ → ℕ → ℕ → State → State → Type 0

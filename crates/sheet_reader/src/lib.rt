@@ -4,10 +4,10 @@ ghost use mathlib.Core.List.{_∷_, []};
 ghost use Prim.Native.Nat.{_≤_};
 ghost use lib.ListN.{length, replicate};
 ghost use Rattle.laws.specs.BitSets.{withBit};
-ghost use Rattle.rules.specs.Text.{fieldsOf};
+ghost use Rattle.rules.specs.Text.{fieldsOf, split};
 ghost use Rattle.rules.specs.Sheet.{sheetForm};
 ghost use Rattle.sheet_reader.specs.Claims.{SheetTold};
-ghost use Rattle.sheet_reader.specs.Forms.{isEnd, shape, twoForm};
+ghost use Rattle.sheet_reader.specs.Forms.{shape};
 ghost use Rattle.sheet_reader.specs.Reading.{
   AddedEdge,
   AddedPair,
@@ -23,8 +23,7 @@ ghost use Rattle.sheet_reader.specs.Reading.{
   endFits,
   nothingRead,
   pairFits,
-  testFits,
-  testIn,
+  testFrom,
   underway as isUnderway,
 };
 
@@ -64,93 +63,97 @@ pub enum Form {
 
 // ---- a line
 
-// What two fields say that are not those of the first line.
-fn two(f: &[u8], a: &[u8]) -> Form
-    ensures { λ r. ⌜ r ≡ shape (twoForm (now (f .entry)) (now (a .entry))) ⌝ }
+// What an M line says, by what stands behind its first comma. A number has no comma, so the second field is all the rest.
+fn pair(s: &[u8]) -> Form
+    ensures { λ r. ⌜ r ≡ shape (sheetForm ((77 ∷ []) ∷ split 44 (now (s .entry)))) ⌝ }
 {
-    if text::same(f, b"D") {
-        if text::is_number(a) {
-            return Form::Edge(text::value(a));
-        }
+    let n = text::find_short(s, 44);
+    if s.len() <= n {
         return Form::Nothing;
     }
-    if text::same(f, b"R") {
-        if text::is_name(a) {
-            return Form::Test;
-        }
+    let i = text::number(&s[..n]);
+    if 65536 < i {
         return Form::Nothing;
+    }
+    let j = text::number(&s[n + 1..]);
+    if 65536 < j {
+        return Form::Nothing;
+    }
+    Form::Pair(i, j)
+}
+
+// The same of a D line.
+fn edge(s: &[u8]) -> Form
+    ensures { λ r. ⌜ r ≡ shape (sheetForm ((68 ∷ []) ∷ split 44 (now (s .entry)))) ⌝ }
+{
+    let e = text::number(s);
+    if 65536 < e {
+        return Form::Nothing;
+    }
+    Form::Edge(e)
+}
+
+// The same of an R line.
+fn test(s: &[u8]) -> Form
+    ensures { λ r. ⌜ r ≡ shape (sheetForm ((82 ∷ []) ∷ split 44 (now (s .entry)))) ⌝ }
+{
+    if text::is_name(s) {
+        return Form::Test;
     }
     Form::Nothing
 }
 
-// What three fields say.
-fn three(f: &[u8], a: &[u8], b: &[u8]) -> Form
-    ensures { λ r. ⌜ r ≡ shape (sheetForm (now (f .entry) ∷ (now (a .entry) ∷ (now (b .entry) ∷ [])))) ⌝ }
+// The same of the last line.
+fn last(s: &[u8]) -> Form
+    ensures { λ r. ⌜ r ≡ shape (sheetForm ((101 ∷ 110 ∷ 100 ∷ []) ∷ split 44 (now (s .entry)))) ⌝ }
 {
-    if text::same(f, b"M") {
-        if text::is_number(a) {
-            if text::is_number(b) {
-                return Form::Pair(text::value(a), text::value(b));
-            }
-            return Form::Nothing;
-        }
+    let a = text::first_short(s, 44);
+    if s.len() <= a.len() {
         return Form::Nothing;
     }
-    Form::Nothing
-}
-
-// Whether four fields are those of the last line.
-fn is_end(f: &[u8], a: &[u8], b: &[u8], c: &[u8]) -> bool
-    ensures { λ r. ⌜ r ≡ isEnd (now (f .entry)) (now (a .entry)) (now (b .entry)) (now (c .entry)) ⌝ }
-{
-    if text::same(f, b"end") {
-        if text::is_number(a) {
-            if text::is_number(b) {
-                return text::is_number(c);
-            }
-            return false;
-        }
-        return false;
+    let rest = text::after(s, a.len() + 1);
+    let b = text::first_short(rest, 44);
+    if rest.len() <= b.len() {
+        return Form::Nothing;
     }
-    false
-}
-
-// What four fields say.
-fn four(f: &[u8], a: &[u8], b: &[u8], c: &[u8]) -> Form
-    ensures { λ r. ⌜ r ≡ shape (sheetForm (now (f .entry) ∷ (now (a .entry) ∷ (now (b .entry) ∷ (now (c .entry) ∷ []))))) ⌝ }
-{
-    if is_end(f, a, b, c) {
-        return Form::End(text::value(a), text::value(b), text::value(c));
+    let c = text::after(rest, b.len() + 1);
+    let i = text::number(a);
+    if 65536 < i {
+        return Form::Nothing;
     }
-    Form::Nothing
+    let j = text::number(b);
+    if 65536 < j {
+        return Form::Nothing;
+    }
+    let k = text::number(c);
+    if 65536 < k {
+        return Form::Nothing;
+    }
+    Form::End(i, j, k)
 }
 
 // What a line says.
 fn form_of(l: &[u8]) -> Form
     ensures { λ r. ⌜ r ≡ shape (sheetForm (fieldsOf (now (l .entry)))) ⌝ }
 {
+    let f = text::front(l, 2);
+    let rest = text::after(l, 2);
+    if text::same(f, b"M,") {
+        return pair(rest);
+    }
+    if text::same(f, b"D,") {
+        return edge(rest);
+    }
+    if text::same(f, b"R,") {
+        return test(rest);
+    }
+    if text::same(text::front(l, 4), b"end,") {
+        return last(text::after(l, 4));
+    }
     if text::same(l, &text::SHEET_HEAD) {
         return Form::Head;
     }
-    let f = text::first_short(l, 44);
-    if l.len() <= f.len() {
-        return Form::Nothing;
-    }
-    let rest = text::after(l, f.len() + 1);
-    let a = text::first_short(rest, 44);
-    if rest.len() <= a.len() {
-        return two(f, rest);
-    }
-    let more = text::after(rest, a.len() + 1);
-    let b = text::first_short(more, 44);
-    if more.len() <= b.len() {
-        return three(f, a, more);
-    }
-    let c = text::after(more, b.len() + 1);
-    if text::find(c, 44) < c.len() {
-        return Form::Nothing;
-    }
-    four(f, a, b, c)
+    Form::Nothing
 }
 
 // ---- bits and names
@@ -178,12 +181,12 @@ fn set_bit(sets: &mut [u64], i: usize)
     }
 }
 
-// 1 + the number of the test that has the name, or 0.
-fn test_of(tt: &[u8], tests: &[usize], count: usize, name: &[u8]) -> usize
+// 1 + the first test, from the test k on, that has the name, or 0.
+fn test_from(tt: &[u8], tests: &[usize], k: usize, count: usize, name: &[u8]) -> usize
     requires { ⌜ count ≤ 200 ⌝ }
-    ensures { λ r. ⌜ r ≡ testIn (now (tt .entry)) (now (tests .entry)) count (now (name .entry)) ⌝ }
+    ensures { λ r. ⌜ r ≡ testFrom (now (tt .entry)) (now (tests .entry)) k count (now (name .entry)) ⌝ }
 {
-    let mut i = 0;
+    let mut i = k;
     while i < count {
         if text::same(suite::name_at(tt, tests, i), name) {
             return i + 1;
@@ -306,7 +309,7 @@ fn add_pair(
     w: &mut [usize],
 ) -> State
     requires { ⌜ Small had ⌝ }
-    requires { ⌜ (olds ≤ 512) × (news ≤ 512) × (16896 ≤ length (now w)) ⌝ }
+    requires { ⌜ (olds ≤ 512) × (news ≤ 512) × (16912 ≤ length (now w)) ⌝ }
     ensures { λ r. ⌜ AddedPair olds news n a b had (now (w .entry)) r (now (w .exit)) ⌝ }
 {
     let pairs = had.pairs;
@@ -374,30 +377,27 @@ fn add_edge(edges: usize, n: usize, e: usize, had: State, sets: &mut [u64]) -> S
     refuse(11, n)
 }
 
-// Whether the test i may come next.
-fn test_fits(i: usize, had: State) -> bool
-    ensures { λ r. ⌜ r ≡ testFits i had ⌝ }
-{
-    let test = had.test;
-    if underway(had) {
-        return test <= i;
-    }
-    false
-}
-
-// An R line, whose name is that of the test t - 1, or of none where t is 0.
-fn add_test(n: usize, t: usize, had: State, sets: &mut [u64]) -> State
+// An R line. The tests come in order, so the name is sought from the least that may come next.
+fn add_test(
+    tt: &[u8],
+    tests: &[usize],
+    count: usize,
+    n: usize,
+    name: &[u8],
+    had: State,
+    sets: &mut [u64],
+) -> State
     requires { ⌜ Small had ⌝ }
-    requires { ⌜ (t ≤ 200) × (20 ≤ length (now sets)) ⌝ }
-    ensures { λ r. ⌜ AddedTest n t had (now (sets .entry)) r (now (sets .exit)) ⌝ }
+    requires { ⌜ (count ≤ 200) × (20 ≤ length (now sets)) ⌝ }
+    ensures { λ r. ⌜ AddedTest (now (tt .entry)) (now (tests .entry)) count n (now (name .entry)) had (now (sets .entry)) r (now (sets .exit)) ⌝ }
 {
     let listed = had.tests;
+    let t = test_from(tt, tests, had.test, count, name);
     if t < 1 {
         return refuse(11, n);
     }
-    let i = t - 1;
-    if test_fits(i, had) {
-        set_bit(sets, 1024 + i);
+    if underway(had) {
+        set_bit(sets, 1023 + t);
         return State {
             number: 0,
             place: 0,
@@ -470,7 +470,7 @@ fn step(
     sets: &mut [u64],
 ) -> State
     requires { ⌜ Small had ⌝ }
-    requires { ⌜ (olds ≤ 512) × (news ≤ 512) × (edges ≤ 1024) × (count ≤ 200) × (16896 ≤ length (now w)) × (20 ≤ length (now sets)) ⌝ }
+    requires { ⌜ (olds ≤ 512) × (news ≤ 512) × (edges ≤ 1024) × (count ≤ 200) × (16912 ≤ length (now w)) × (20 ≤ length (now sets)) ⌝ }
     ensures { λ r. ⌜ Stepped olds news edges (now (tt .entry)) (now (tests .entry)) count n (now (line .entry)) had (now (w .entry)) (now (sets .entry)) r (now (w .exit)) (now (sets .exit)) ⌝ }
 {
     let form = form_of(line);
@@ -479,10 +479,7 @@ fn step(
         Form::Head => open(n, had),
         Form::Pair(a, b) => add_pair(olds, news, n, a, b, had, w),
         Form::Edge(e) => add_edge(edges, n, e, had, sets),
-        Form::Test => {
-            let t = test_of(tt, tests, count, text::field(line, 44, 1));
-            add_test(n, t, had, sets)
-        }
+        Form::Test => add_test(tt, tests, count, n, text::after(line, 2), had, sets),
         Form::End(a, b, d) => end(n, a, b, d, had),
     }
 }
@@ -521,7 +518,7 @@ fn read_lines(
     w: &mut [usize],
     sets: &mut [u64],
 ) -> SheetRead
-    requires { ⌜ (length (now sheet) ≤ 65536) × (olds ≤ 512) × (news ≤ 512) × (edges ≤ 1024) × (count ≤ 200) × (16896 ≤ length (now w)) × (20 ≤ length (now sets)) ⌝ }
+    requires { ⌜ (length (now sheet) ≤ 65536) × (olds ≤ 512) × (news ≤ 512) × (edges ≤ 1024) × (count ≤ 200) × (16912 ≤ length (now w)) × (20 ≤ length (now sets)) ⌝ }
     ensures { λ r. ⌜ LinesRead olds news edges (now (tt .entry)) (now (tests .entry)) count (now (sheet .entry)) (now (w .entry)) (now (sets .entry)) r (now (w .exit)) (now (sets .exit)) ⌝ }
 {
     let mut at = 0;
@@ -529,7 +526,7 @@ fn read_lines(
     let mut had = nothing_read();
     while at < sheet.len() {
         let rest = text::after(sheet, at);
-        let len = text::find(rest, 10);
+        let len = text::find_short(rest, 10);
         if rest.len() <= len {
             return SheetRead {
                 number: 2,
@@ -565,7 +562,7 @@ pub fn read_sheet(
     w: &mut [usize],
     sets: &mut [u64],
 ) -> SheetRead
-    requires { ⌜ (olds ≤ 512) × (news ≤ 512) × (edges ≤ 1024) × (count ≤ 200) × (16896 ≤ length (now w)) × (20 ≤ length (now sets)) ⌝ }
+    requires { ⌜ (olds ≤ 512) × (news ≤ 512) × (edges ≤ 1024) × (count ≤ 200) × (16912 ≤ length (now w)) × (20 ≤ length (now sets)) ⌝ }
     ensures { λ r. ⌜ SheetTold olds news edges (now (tt .entry)) (now (tests .entry)) count (now (sheet .entry)) r (now (w .exit)) (now (sets .exit)) ⌝ }
 {
     if 65536 < sheet.len() {

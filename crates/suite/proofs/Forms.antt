@@ -8,17 +8,18 @@ use native.Mathlib.Omega.{arith}
 use lib.Dec.{eqb, ltb}
 use lib.ListN.{length, getD, take, drop, length-drop}
 use lib.Seq.{drop-drop}
-use borrow.Author.Tests.{eq-eqb, ne-eqb, eqb-true, leb-true, lt-ltb, ltb-true}
+use borrow.Author.Tests.{eq-eqb, ne-eqb, eqb-true, lt-ltb, ltb-true}
 use Rattle.laws.specs.Tests.{_and_, _or_, isnt, any, choose}
 use Rattle.laws.specs.TestLaws.{and-both, and-left, and-right, any-of, both-ways, fails, true-isnt}
 use Rattle.laws.specs.Slices.{below-or, drop-at, drop-end}
-use Rattle.laws.specs.Bits.{wordOf, word-none, word-drop}
+use Rattle.laws.specs.Bits.{bitIn, wordOf, word-none, word-drop}
+use Rattle.laws.specs.BitSets.{withBit}
 use Rattle.rules.specs.Text.{Bytes, same, split, between, isName, allBytes}
 use Rattle.rules.specs.Proofs.TextLaws.{allBytes-more, other, same-true, split-cons, split-free}
 use Rattle.rules.specs.SuiteFile.{bitsOf, hexByte, noneSet, no-test, rowFine, test-line, testForm}
 use Rattle.text.specs.Scans.{classByte, span}
 use Rattle.text.specs.SplitLaws.{cut, first-last, first-more}
-use Rattle.suite.specs.Reading.{beginsTest, firstField, nameAt, nameIn}
+use Rattle.suite.specs.Reading.{beginsTest, commaIn, firstField, hashFrom, nameAt, nameHash, nameIn, nameMet}
 use Rattle.suite.proofs.Laws.{drop-bits}
 
 -- ---- `begins_test`, and what the line says by it
@@ -157,6 +158,43 @@ names-done text tests name i n inv h k =
 
 pub ruleset names = (name-is, names-start, names-hit, names-on, names-done)
 
+-- ---- `hash`, `name_met`
+
+pub hash-small : (h : ℕ) (s : Bytes) → h < 4096 → hashFrom h s < 4096
+unfolding hashFrom
+hash-small h [] k = k
+hash-small h (x ∷ s) k = hash-small ((h * 31 + x) % 4096) s (omega arith)
+
+module _ (name : Bytes) (h i : ℕ) (inv : nameHash name ≡ hashFrom h (drop i name)) where
+  pub hash-on : (k : ℕ) → i < length name → k ≡ (h * 31 + getD name i 0) % 4096 → nameHash name ≡ hashFrom k (drop (i + 1) name)
+  unfolding hashFrom
+  hash-on k l e = inv ∙ ap (hashFrom h) (drop-at name i 0 l) ∙ ap (λ (n : ℕ). hashFrom n (drop (i + 1) name)) (sym e)
+
+  pub hash-done : length name ≤ i → h ≡ nameHash name
+  unfolding hashFrom
+  hash-done l = sym (inv ∙ ap (hashFrom h) (drop-end name i l))
+
+pub hash-start : (name : Bytes) → nameHash name ≡ hashFrom 0 (drop 0 name)
+hash-start name = refl
+
+module _ (text tests filter name : List ℕ) (n h : ℕ) (b : Bool) (eh : h ≡ nameHash name) (eb : b ≡ bitIn filter h) where
+  met-is : nameMet text tests n filter name ≡ (b and nameIn text tests n name)
+  unfolding nameMet
+  met-is = ap (λ (x : Bool). x and nameIn text tests n name) (ap (bitIn filter) (sym eh) ∙ sym eb)
+
+  pub met-maybe : (r : Bool) → b ≡ true → r ≡ nameIn text tests n name → r ≡ nameMet text tests n filter name
+  unfolding _and_
+  met-maybe r y e = e ∙ sym (met-is ∙ ap (λ (x : Bool). x and nameIn text tests n name) y)
+
+  pub met-not : b ≡ false → false ≡ nameMet text tests n filter name
+  unfolding _and_
+  met-not y = sym (met-is ∙ ap (λ (x : Bool). x and nameIn text tests n name) y)
+
+pub met-noted : (filter filter′ name : List ℕ) (h : ℕ) → h ≡ nameHash name → filter′ ≡ withBit filter h → filter′ ≡ withBit filter (nameHash name)
+met-noted filter filter′ name h eh e = e ∙ ap (withBit filter) eh
+
+pub ruleset hashes = (hash-on, hash-done, hash-start, met-maybe, met-not, met-noted)
+
 -- ---- `spare_clear`, `row_fine`
 
 -- No bit is 1 exactly where the number of the bits is 0.
@@ -195,7 +233,7 @@ module _ (m : ℕ) (row : Bytes) where
   pub fine-room : length row ≤ (m + 3) / 4 → length row ≤ m / 4 + 1
   fine-room h = omega arith
 
-  module _ (a : (m + 3) / 4 ≤ length row) (b : length row ≤ (m + 3) / 4) (t : Bool) (e : t ≡ allBytes (classByte 4) row) where
+  module _ (a : (m + 3) / 4 ≤ length row) (b : length row ≤ (m + 3) / 4) (t : Bool) (e : t ≡ allBytes (classByte 3) row) where
     hex : t ≡ allBytes hexByte row
     unfolding classByte choose
     hex = e
@@ -212,4 +250,14 @@ module _ (m : ℕ) (row : Bytes) where
     unfolding rowFine _and_
     fine-spare u y f = let q : length row ≡ (m + 3) / 4 = omega arith in f ∙ sym (simp (eq-eqb (length row) ((m + 3) / 4) q, ← hex, y))
 
-pub ruleset fines = (spare-none, spare-last, fine-short, fine-long, fine-room, fine-not, fine-digits, fine-spare)
+-- ---- `comma_in`
+
+pub comma-fine : (v : Bool) (row : Bytes) → v ≡ true → false ≡ commaIn v row
+unfolding commaIn isnt _and_
+comma-fine v row y = sym (ap (λ (b : Bool). commaIn b row) y)
+
+pub comma-unfit : (v : Bool) (row : Bytes) (k : ℕ) → v ≡ false → k ≡ span 44 row → ltb k (length row) ≡ commaIn v row
+unfolding commaIn isnt _and_
+comma-unfit v row k y e = ap (λ (n : ℕ). ltb n (length row)) e ∙ sym (ap (λ (b : Bool). commaIn b row) y)
+
+pub ruleset fines = (comma-fine, comma-unfit, spare-none, spare-last, fine-short, fine-long, fine-room, fine-not, fine-digits, fine-spare)

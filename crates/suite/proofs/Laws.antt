@@ -9,18 +9,16 @@ use native.Mathlib.Omega.{arith}
 use lib.Bits.{bitAnd, and-le-l}
 use lib.Count.{ones, ones-le, trailingZeros, trailing-le}
 use lib.Dec.{eqb}
-use lib.ListN.{length, getD, take, drop, set, length-drop}
-use lib.Pow.{pow-mono}
+use lib.ListN.{length, getD, take, drop, set}
 use lib.Seq.{sets, drop-drop, take-nil}
 use Rattle.laws.specs.Tests.{_and_, count, first, found}
 use Rattle.laws.specs.TestLaws.{and-both, and-left, and-right}
 use Rattle.laws.specs.Counting.{count-few}
-use Rattle.laws.specs.Slices.{drop-at, drop-end, drop-four, sets-more, part-short}
-use Rattle.laws.specs.Bits.{bitAt, bitIn, wordOf, wordsOf, bit-and, odd-plus, word-small, count-word, first-word, first-no-word}
+use Rattle.laws.specs.Slices.{drop-end, sets-more, part-short}
+use Rattle.laws.specs.Bits.{bitAt, bitIn, wordOf, wordsOf, bit-and, count-word, first-word, first-no-word}
 use Rattle.laws.specs.BitSets.{word-bit}
 use Rattle.rules.specs.Text.{Bytes, allBytes}
 use Rattle.rules.specs.SuiteFile.{bitsOf, hexByte, hexValue, odd}
-use Rattle.rules.specs.Proofs.SuiteLaws.{bits-length}
 use Rattle.text.proofs.Laws.{get-out, put-out}
 use Rattle.suite.specs.Rows.{edgeBit, rowCommon, rowOnes, storedRow}
 
@@ -34,60 +32,7 @@ zeros-fit w = omega (arith, trailing-le 64 w)
 
 pub ruleset words = (get-out, put-out, ones-fit, zeros-fit)
 
--- ---- `two`, `four`
-
--- The four bits of a digit, then those of the others.
-digit-word : (x : ℕ) (s : Bytes) → wordOf (bitsOf (x ∷ s)) ≡ hexValue x / 8 % 2 + 2 * (hexValue x / 4 % 2 + 2 * (hexValue x / 2 % 2 + 2 * (hexValue x % 2 + 2 * wordOf (bitsOf s))))
-unfolding wordOf bitsOf
-digit-word x s = simp (odd-plus (hexValue x / 8), odd-plus (hexValue x / 4), odd-plus (hexValue x / 2), odd-plus (hexValue x))
-
-no-bits : wordOf (bitsOf []) ≡ 0
-unfolding wordOf bitsOf
-no-bits = refl
-
--- One, two and four digits before the others.
-digit-more : (x : ℕ) (s : Bytes) → wordOf (bitsOf (x ∷ s)) ≡ wordOf (bitsOf s) * 16 + wordOf (bitsOf (x ∷ []))
-digit-more x s =
-    let q : wordOf (bitsOf (x ∷ [])) ≡ hexValue x / 8 % 2 + 2 * (hexValue x / 4 % 2 + 2 * (hexValue x / 2 % 2 + 2 * (hexValue x % 2 + 2 * 0))) =
-    simp no-bits at (digit-word x []) in
-    omega (arith, digit-word x s, q)
-
-two-more : (x y : ℕ) (s : Bytes) → wordOf (bitsOf (x ∷ y ∷ s)) ≡ wordOf (bitsOf s) * 256 + wordOf (bitsOf (x ∷ y ∷ []))
-two-more x y s = omega (arith, digit-more x (y ∷ s), digit-more y s, digit-more x (y ∷ []))
-
-four-more : (x y z u : ℕ) (s : Bytes) → wordOf (bitsOf (x ∷ y ∷ z ∷ u ∷ s)) ≡ wordOf (bitsOf s) * 65536 + wordOf (bitsOf (x ∷ y ∷ z ∷ u ∷ []))
-four-more x y z u s = omega (arith, two-more x y (z ∷ u ∷ s), two-more z u s, two-more x y (z ∷ u ∷ []))
-
-pub digits-small : (s : Bytes) (n : ℕ) → 4 * length s ≤ n → wordOf (bitsOf s) < 2 ^ n
-digits-small s n h =
-    let a : length (bitsOf s) ≤ n = omega (arith, bits-length s) in
-    omega (arith, word-small (bitsOf s), pow-mono a)
-
-module _ (b y : ℕ) (ey : y ≡ wordOf (bitsOf (b ∷ []))) where
-  pub two-room : y * 16 < 2 ^ 64
-  two-room = omega (arith, ey, digits-small (b ∷ []) 4 (omega arith))
-
-  module _ (a x : ℕ) (ex : x ≡ wordOf (bitsOf (a ∷ []))) where
-    pub two-fits : y * 16 + x < 2 ^ 64
-    two-fits = omega (arith, ey, ex, digits-small (b ∷ []) 4 (omega arith), digits-small (a ∷ []) 4 (omega arith))
-
-    pub two-is : y * 16 + x ≡ wordOf (bitsOf (a ∷ b ∷ []))
-    two-is = omega (arith, ey, ex, digit-more a (b ∷ []))
-
-module _ (c d y : ℕ) (ey : y ≡ wordOf (bitsOf (c ∷ d ∷ []))) where
-  pub four-room : y * 256 < 2 ^ 64
-  four-room = omega (arith, ey, digits-small (c ∷ d ∷ []) 8 (omega arith))
-
-  module _ (a b x : ℕ) (ex : x ≡ wordOf (bitsOf (a ∷ b ∷ []))) where
-    pub four-fits : y * 256 + x < 2 ^ 64
-    four-fits = omega (arith, ey, ex, digits-small (c ∷ d ∷ []) 8 (omega arith), digits-small (a ∷ b ∷ []) 8 (omega arith))
-
-    pub four-is : y * 256 + x ≡ wordOf (bitsOf (a ∷ b ∷ c ∷ d ∷ []))
-    four-is = omega (arith, ey, ex, two-more a b (c ∷ d ∷ []))
-
-pub ruleset digits = (two-room, two-fits, two-is, four-room, four-fits, four-is)
-
--- ---- `pack`, `pack_front`
+-- ---- digits
 
 -- The digits of a row are digits wherever they stand.
 pub digit-at : (s : Bytes) (i : ℕ) → allBytes hexByte s ≡ true → i < length s → hexByte (getD s i 0) ≡ true
@@ -96,7 +41,7 @@ digit-at [] i e h = absurd (let z : ⊥ = omega arith in z)
 digit-at (x ∷ s) zero e h = and-left _ _ e
 digit-at (x ∷ s) (suc i) e h = digit-at s i (and-right _ _ e) (omega arith)
 
-all-drop : (s : Bytes) (n : ℕ) → allBytes hexByte s ≡ true → allBytes hexByte (drop n s) ≡ true
+pub all-drop : (s : Bytes) (n : ℕ) → allBytes hexByte s ≡ true → allBytes hexByte (drop n s) ≡ true
 unfolding allBytes
 all-drop s zero e = e
 all-drop [] (suc n) e = e
@@ -114,53 +59,7 @@ digits-part s r i n e q = ap (allBytes hexByte) q ∙ all-take (drop i s) n (all
 pub digit-before : (s : Bytes) (i : ℕ) → allBytes hexByte s ≡ true → 0 < i → i ≤ length s → hexByte (getD s (i - 1) 0) ≡ true
 digit-before s i e h k = digit-at s (i - 1) e (omega arith)
 
-pub digits-four : (s : Bytes) (i : ℕ) → allBytes hexByte s ≡ true → 4 ≤ i → i ≤ length s
-    → (hexByte (getD s (i - 4) 0) ≡ true) × (hexByte (getD s (i - 4 + 1) 0) ≡ true) × (hexByte (getD s (i - 4 + 2) 0) ≡ true) × (hexByte (getD s (i - 4 + 3) 0) ≡ true)
-digits-four s i e h k =
-    (digit-at s (i - 4) e (omega arith), digit-at s (i - 4 + 1) e (omega arith), digit-at s (i - 4 + 2) e (omega arith), digit-at s (i - 4 + 3) e (omega arith))
-
-pub pack-start : (s : Bytes) → 0 ≡ wordOf (bitsOf (drop (length s) s))
-unfolding wordOf bitsOf
-pack-start s = sym (simp (drop-end s (length s) (omega arith)))
-
-module _ (s : Bytes) (w i : ℕ) (inv : w ≡ wordOf (bitsOf (drop i s))) (h : length s ≤ 16) (k : 0 < i) (l : i ≤ length s) where
-  rest-small : w < 2 ^ 60
-  rest-small = omega (arith, inv, digits-small (drop i s) 60 (omega (arith, length-drop i s)))
-
-  pub pack-room : w * 16 < 2 ^ 64
-  pack-room = omega (arith, rest-small)
-
-  pub pack-fits : (x d : ℕ) → d ≡ wordOf (bitsOf (x ∷ [])) → w * 16 + d < 2 ^ 64
-  pack-fits x d e = omega (arith, rest-small, e, digits-small (x ∷ []) 4 (omega arith))
-
-  pub pack-on : (d : ℕ) → d ≡ wordOf (bitsOf (getD s (i - 1) 0 ∷ [])) → w * 16 + d ≡ wordOf (bitsOf (drop (i - 1) s))
-  pack-on d e =
-      let q : i - 1 + 1 ≡ i = omega arith in
-      let r : drop (i - 1) s ≡ getD s (i - 1) 0 ∷ drop i s = drop-at s (i - 1) 0 (omega arith) ∙ ap (λ (n : ℕ). getD s (i - 1) 0 ∷ drop n s) q in
-      ap₂ (λ (a b : ℕ). a * 16 + b) inv e ∙ sym (digit-more (getD s (i - 1) 0) (drop i s)) ∙ ap (λ (r : Bytes). wordOf (bitsOf r)) (sym r)
-
-module _ (s : Bytes) (w i : ℕ) (inv : w ≡ wordOf (bitsOf (drop i s))) (h : length s ≤ 16) (k : 4 ≤ i) (l : i ≤ length s) where
-  fours-small : w < 2 ^ 48
-  fours-small = omega (arith, inv, digits-small (drop i s) 48 (omega (arith, length-drop i s)))
-
-  pub fours-room : w * 65536 < 2 ^ 64
-  fours-room = omega (arith, fours-small)
-
-  module _ (x y z u d : ℕ) (e : d ≡ wordOf (bitsOf (x ∷ y ∷ z ∷ u ∷ []))) where
-    pub fours-fits : w * 65536 + d < 2 ^ 64
-    fours-fits = omega (arith, fours-small, e, digits-small (x ∷ y ∷ z ∷ u ∷ []) 16 (omega arith))
-
-  pub fours-on : (d : ℕ) → d ≡ wordOf (bitsOf (getD s (i - 4) 0 ∷ getD s (i - 4 + 1) 0 ∷ getD s (i - 4 + 2) 0 ∷ getD s (i - 4 + 3) 0 ∷ []))
-      → w * 65536 + d ≡ wordOf (bitsOf (drop (i - 4) s))
-  fours-on d e =
-      let q : i - 4 + 4 ≡ i = omega arith in
-      ap₂ (λ (a b : ℕ). a * 65536 + b) (inv ∙ ap (λ (n : ℕ). wordOf (bitsOf (drop n s))) (sym q)) e
-      ∙ sym (four-more _ _ _ _ (drop (i - 4 + 4) s)) ∙ ap (λ (r : Bytes). wordOf (bitsOf r)) (sym (drop-four s (i - 4) 0 (omega arith)))
-
-pub pack-done : (s : Bytes) (w i : ℕ) → w ≡ wordOf (bitsOf (drop i s)) → i ≤ 0 → w ≡ wordOf (bitsOf s)
-pack-done s w i inv h = let q : i ≡ 0 = omega arith in inv ∙ ap (λ (n : ℕ). wordOf (bitsOf (drop n s))) q
-
-pub ruleset packs = (digit-at, digits-part, digit-before, pack-start, pack-room, pack-fits, pack-on, pack-done, fours-room, fours-fits, fours-on)
+pub ruleset packs = (digit-at, digits-part, digit-before)
 
 -- ---- `store_row`
 

@@ -1,5 +1,5 @@
-pub mod Nibbles
 pub mod Laws
+pub mod Digits
 pub mod Forms
 pub mod Stores
 pub mod Turns

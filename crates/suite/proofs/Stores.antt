@@ -1,28 +1,31 @@
 -- The returns of the functions that take a line: what the definition answers there, and that the tables hold one test more.
 use mathlib.Core.Path.{_≡_, refl, sym, ap, ap₂, _∙_, subst}
 use mathlib.Core.Logic.{⊎-elim}
-use mathlib.Core.Bool.{Bool, true, false}
+use mathlib.Core.Bool.{Bool, true, false, true≢false}
 use mathlib.Core.List.{List, [], _∷_}
 use Prim.Native.Nat.{ℕ, suc, _+_, _-_, _*_, _/_, _%_, _≤_, _<_}
 use native.Mathlib.Omega.{arith}
+use lib.Dec.{eqb}
 use lib.ListN.{length, getD, take, drop, set, length-set, length-take, List·getD-eq-default}
 use lib.Seq.{getD-drop, getD-set-other, getD-set-same, getD-take}
-use borrow.Author.Tests.{le-leb, lt-leb, eqb-true}
-use Rattle.laws.specs.Tests.{any, isnt}
-use Rattle.laws.specs.TestLaws.{and-left, and-right}
+use borrow.Author.Tests.{le-leb, lt-leb, eqb-true, ltb-false, ltb-true}
+use Rattle.laws.specs.Tests.{_and_, _or_, any, isnt}
+use Rattle.laws.specs.TestLaws.{and-both, and-left, and-right, any-at, eqb-self, or-left, or-right, same-test}
 use Rattle.laws.specs.Lists.{snoc-cases, snoc-length, snoc-new, snoc-old}
 use Rattle.laws.specs.Counting.{any-agree}
 use Rattle.laws.specs.Slices.{below-or, getD-sets-before, getD-sets-in}
 use Rattle.laws.specs.Bits.{bitAt, bitIn, wordOf, wordsOf, bit-none, bit-word, bits-words, words-agree, words-length}
-use Rattle.rules.specs.Text.{Bytes, allBytes, same, split, unless}
+use Rattle.laws.specs.BitSets.{bit-with, withBit}
+use Rattle.rules.specs.Text.{Bytes, accepted, allBytes, refused, same, split, unless}
+use Rattle.rules.specs.Proofs.TextLaws.{accepted-same, same-true}
 use Rattle.rules.specs.Closing.{Coverage}
 use Rattle.rules.specs.SuiteFile.{TestListing, bitsOf, hexByte, rowFine, stepSuite, takeTest, no-test, testCount, testForm, testName, tested, withTest}
 use Rattle.text.specs.Scans.{span}
 use Rattle.text.specs.SplitLaws.{uncut}
 use Rattle.suite.specs.declared.Read.{Read}
 use Rattle.suite.specs.Rows.{Holds, Row, edgeBit, storedRow, storedTest}
-use Rattle.suite.specs.Reading.{Adds, Known, Steps, beginsTest, nameAt, nameIn}
-use Rattle.suite.proofs.Forms.{none-set, begins-form, begins-four, begins-none, fine-free}
+use Rattle.suite.specs.Reading.{Adds, Known, Marked, Steps, beginsTest, commaIn, nameAt, nameHash, nameIn, nameMet}
+use Rattle.suite.proofs.Forms.{none-set, begins-form, begins-four, begins-none, fine-free, hash-small}
 
 -- ---- what the stores leave
 
@@ -169,6 +172,27 @@ module _ (m : ℕ) (t w : List ℕ) (c : ℕ) (text : Bytes) (l : TestListing) (
       ∙ any-agree (λ i. same (nameAt text t i) x) (λ i. same (testName (l .suite) i) x) (testCount (l .suite))
       (λ i h. ap (λ (s : Bytes). same s x) (ap₂ (λ (a b : ℕ). take a (drop b text)) (hold .lengths i h) (hold .starts i h) ∙ known .names i h))
 
+  module _ (f : List ℕ) (marked : Marked f l) where
+    -- It is one of the table's exactly where it is met: equal names have one hash.
+    met-is : (x : Bytes) → nameMet text t c f x ≡ tested (l .suite) x
+    unfolding nameMet tested Marked
+    met-is x =
+        ap (λ (b : Bool). bitIn f (nameHash x) and b) (seen-is x)
+        ∙ same-test _ _ (λ y. and-right _ _ y)
+        (λ y.
+        let a = any-at (λ i. same (testName (l .suite) i) x) (testCount (l .suite)) y in
+        and-both (ap (λ (s : Bytes). bitIn f (nameHash s)) (sym (same-true _ _ (a .2))) ∙ marked (a .0) (a .1)) y)
+
+    -- The filter with one hash more.
+    marked-more : 64 ≤ length f → Marked (withBit f (nameHash name)) more
+    unfolding Marked
+    marked-more wide =
+        let h : ℕ = nameHash name in
+        let is : (j : ℕ) → bitIn (withBit f h) j ≡ (eqb h j or bitIn f j) = λ j. bit-with f h j (omega (arith, hash-small 0 name (omega arith))) in
+        each (λ (i : ℕ). bitIn (withBit f h) (nameHash (testName (more .suite) i)) ≡ true)
+        (λ i k. ap (λ (s : Bytes). bitIn (withBit f h) (nameHash s)) (names-old i k) ∙ is _ ∙ or-right _ (marked i k))
+        (ap (λ (s : Bytes). bitIn (withBit f h) (nameHash s)) names-new ∙ is h ∙ or-left _ (eqb-self h))
+
 -- ---- `put_test`, `add_test`
 
 pub put-is : (t t₁ t₂ : List ℕ) (i start len : ℕ) → t₁ ≡ set t (2 * i) start → t₂ ≡ set t₁ (2 * i + 1) len → t₂ ≡ storedTest t i start len
@@ -181,29 +205,38 @@ few-none = omega arith
 pub few-more : (c : ℕ) → c < 200 → c + 1 ≤ 200
 few-more c h = omega arith
 
-module _ (text : Bytes) (m n at : ℕ) (name row : Bytes) (c : ℕ) (t w t′ w′ : List ℕ) where
-  pub add-full : (r : Read) → 200 ≤ c → r .number ≡ 4 → r .place ≡ n → Adds text m n at name row c t w r t′ w′
-  unfolding Adds takeTest unless
-  add-full r h e p l known hold = simp (le-leb 200 (testCount (l .suite)) (omega (arith, hold .counted))) (e, p, omega arith)
+no-answer : {X : Type 0} (k p : ℕ) (l : TestListing) → refused k p ≡ accepted l → X
+no-answer k p l e = absurd (true≢false (let z : true ≡ false = cc in z))
 
-  module _ (u : Bool) (room : c < 200) (eu : u ≡ nameIn text t c name) where
-    pub add-twice : (r : Read) → u ≡ true → r .number ≡ 5 → r .place ≡ n → Adds text m n at name row c t w r t′ w′
+module _ (text : Bytes) (m n at : ℕ) (name row : Bytes) (c : ℕ) (f t w f′ t′ w′ : List ℕ) where
+  pub add-full : (r : Read) → 200 ≤ c → r .number ≡ 4 → r .place ≡ n → Adds text m n at name row c f t w r f′ t′ w′
+  unfolding Adds takeTest unless
+  add-full r h e p l known hold marked =
+      simp (le-leb 200 (testCount (l .suite)) (omega (arith, hold .counted))) ((e, p, omega arith), (λ k q. no-answer 4 n k q))
+
+  module _ (u : Bool) (room : c < 200) (eu : u ≡ nameMet text t c f name) where
+    pub add-twice : (r : Read) → u ≡ true → r .number ≡ 5 → r .place ≡ n → Adds text m n at name row c f t w r f′ t′ w′
     unfolding Adds takeTest unless
-    add-twice r y e p l known hold =
-        simp (lt-leb 200 (testCount (l .suite)) (omega (arith, hold .counted)), ← seen-is m t w c text l known hold at name row name, ← eu, y) (e, p, omega arith)
+    add-twice r y e p l known hold marked =
+        simp (lt-leb 200 (testCount (l .suite)) (omega (arith, hold .counted)), ← met-is m t w c text l known hold at name row f marked name, ← eu, y)
+        ((e, p, omega arith), (λ k q. no-answer 5 n k q))
 
     module _ (v : Bool) (fresh : u ≡ false) (ev : v ≡ rowFine m row) where
-      pub add-unfit : (r : Read) → v ≡ false → r .number ≡ 10 → r .place ≡ n → Adds text m n at name row c t w r t′ w′
+      pub add-unfit : (r : Read) → v ≡ false → r .number ≡ 10 → r .place ≡ n → Adds text m n at name row c f t w r f′ t′ w′
       unfolding Adds takeTest unless isnt
-      add-unfit r y e p l known hold =
-          simp (lt-leb 200 (testCount (l .suite)) (omega (arith, hold .counted)), ← seen-is m t w c text l known hold at name row name, ← eu, fresh, ← ev, y) (e, p, omega arith)
+      add-unfit r y e p l known hold marked =
+          simp (lt-leb 200 (testCount (l .suite)) (omega (arith, hold .counted)), ← met-is m t w c text l known hold at name row f marked name, ← eu, fresh, ← ev, y)
+          ((e, p, omega arith), (λ k q. no-answer 10 n k q))
 
-      pub add-new : v ≡ true → m ≤ 1024 → 400 ≤ length t → 3200 ≤ length w → t′ ≡ storedTest t c (at + 2) (length name) → w′ ≡ storedRow w c row
-          → Adds text m n at name row c t w (record { number = 0; place = 0; count = c + 1 }) t′ w′
+      pub add-new : v ≡ true → m ≤ 1024 → 64 ≤ length f → 400 ≤ length t → 3200 ≤ length w → f′ ≡ withBit f (nameHash name) → t′ ≡ storedTest t c (at + 2) (length name)
+          → w′ ≡ storedRow w c row → Adds text m n at name row c f t w (record { number = 0; place = 0; count = c + 1 }) f′ t′ w′
       unfolding Adds takeTest unless isnt
-      add-new y few long wide et ew l known hold =
-          simp (lt-leb 200 (testCount (l .suite)) (omega (arith, hold .counted)), ← seen-is m t w c text l known hold at name row name, ← eu, fresh, ← ev, y, et, ew)
-          (refl, refl, holds-more m t w c text l known hold at name row few room long wide (sym ev ∙ y))
+      add-new y few some long wide ef et ew l known hold marked =
+          simp
+          (lt-leb 200 (testCount (l .suite)) (omega (arith, hold .counted)), ← met-is m t w c text l known hold at name row f marked name, ← eu, fresh, ← ev, y, ef, et, ew) (
+            (refl, refl, holds-more m t w c text l known hold at name row few room long wide (sym ev ∙ y)),
+            (λ k q. subst (λ (x : TestListing). Marked (withBit f (nameHash name)) x) (accepted-same q) (marked-more m t w c text l known hold at name row f marked some)),
+          )
 
 -- The digits of a fine row.
 pub row-digits : (m : ℕ) (row : Bytes) (v : Bool) → v ≡ rowFine m row → v ≡ true → allBytes hexByte row ≡ true
@@ -214,36 +247,33 @@ pub ruleset adds = (row-digits, put-is, few-none, few-more, add-full, add-twice,
 
 -- ---- `step`
 
-module _ (text : Bytes) (m n at : ℕ) (line : Bytes) (c : ℕ) (t w t′ w′ : List ℕ) (r : Read) where
-  step-none : testForm (split 44 line) ≡ no-test → r .number ≡ 2 → r .place ≡ n → Steps text m n at line c t w r t′ w′
+-- The row is all that stands behind the name.
+no-comma : (m : ℕ) (row : Bytes) (v : Bool) → v ≡ rowFine m row → commaIn v row ≡ false → split 44 row ≡ row ∷ []
+unfolding commaIn isnt _and_
+no-comma m row true e z = fine-free m row (sym e)
+no-comma m row false e z = uncut 44 row (span 44 row) refl (ltb-false _ _ z)
+
+module _ (text : Bytes) (m n at : ℕ) (line : Bytes) (c : ℕ) (f t w f′ t′ w′ : List ℕ) (r : Read) where
+  step-none : testForm (split 44 line) ≡ no-test → r .number ≡ 2 → r .place ≡ n → Steps text m n at line c f t w r f′ t′ w′
   unfolding Steps stepSuite takeTest
-  step-none e en ep l known hold = simp e (en, ep, omega arith)
+  step-none e en ep l known hold marked = simp e ((en, ep, omega arith), (λ k q. no-answer 2 n k q))
 
   module _ (u : Bool) (e : u ≡ beginsTest line) where
-    pub step-not : u ≡ false → r .number ≡ 2 → r .place ≡ n → Steps text m n at line c t w r t′ w′
+    pub step-not : u ≡ false → r .number ≡ 2 → r .place ≡ n → Steps text m n at line c f t w r f′ t′ w′
     step-not y en ep = step-none (begins-none line (sym e ∙ y)) en ep
 
     module _ (y : u ≡ true) (rest name row : Bytes) (er : rest ≡ drop 2 line) (en : name ≡ take (span 44 rest) rest) (ew : row ≡ drop (length name + 1) rest) where
-      step-test : split 44 row ≡ row ∷ [] → Adds text m n at name row c t w r t′ w′ → Steps text m n at line c t w r t′ w′
+      step-test : split 44 row ≡ row ∷ [] → Adds text m n at name row c f t w r f′ t′ w′ → Steps text m n at line c f t w r f′ t′ w′
       unfolding Steps stepSuite Adds
-      step-test q h l known hold = simp (begins-form line rest name row er en ew (sym e ∙ y) q) (h l known hold)
+      step-test q h l known hold marked = simp (begins-form line rest name row er en ew (sym e ∙ y) q) (h l known hold marked)
 
-      pub step-fine : (v : Bool) → v ≡ rowFine m row → v ≡ true → Adds text m n at name row c t w r t′ w′ → Steps text m n at line c t w r t′ w′
-      step-fine v f z h = step-test (fine-free m row (sym f ∙ z)) h
+      module _ (v b : Bool) (ev : v ≡ rowFine m row) (eb : b ≡ commaIn v row) where
+        pub step-added : b ≡ false → Adds text m n at name row c f t w r f′ t′ w′ → Steps text m n at line c f t w r f′ t′ w′
+        step-added z h = step-test (no-comma m row v ev (sym eb ∙ z)) h
 
-      module _ (k : ℕ) (ek : k ≡ span 44 row) where
-        pub step-unfit : length row ≤ k → Adds text m n at name row c t w r t′ w′ → Steps text m n at line c t w r t′ w′
-        step-unfit h a = step-test (uncut 44 row k ek h) a
+        pub step-comma : b ≡ true → r .number ≡ 2 → r .place ≡ n → Steps text m n at line c f t w r f′ t′ w′
+        unfolding commaIn
+        step-comma z ne np =
+            step-none (begins-four line rest name row er en ew (sym e ∙ y) (span 44 row) refl (ltb-true _ _ (and-right _ _ (sym eb ∙ z)))) ne np
 
-        pub step-comma : k < length row → r .number ≡ 2 → r .place ≡ n → Steps text m n at line c t w r t′ w′
-        step-comma h ne np = step-none (begins-four line rest name row er en ew (sym e ∙ y) k ek h) ne np
-
--- What the test of the row said.
-module _ (m : ℕ) (row : Bytes) (v : Bool) (e : v ≡ rowFine m row) where
-  pub said-fine : v ≡ true → true ≡ rowFine m row
-  said-fine y = sym y ∙ e
-
-  pub said-unfit : v ≡ false → false ≡ rowFine m row
-  said-unfit y = sym y ∙ e
-
-pub ruleset steps = (said-fine, said-unfit, step-not, step-fine, step-unfit, step-comma)
+pub ruleset steps = (step-not, step-added, step-comma)

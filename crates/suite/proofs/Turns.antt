@@ -19,7 +19,7 @@ use Rattle.text.specs.Scans.{span}
 use Rattle.text.specs.SplitLaws.{cut-at, uncut-at}
 use Rattle.suite.specs.declared.Read.{Read}
 use Rattle.suite.specs.Rows.{Holds}
-use Rattle.suite.specs.Reading.{After, Known, Lines, Reads, Stepped, Steps, accepted-of, refused-of}
+use Rattle.suite.specs.Reading.{After, Known, Lines, Marked, MarkedAfter, Reads, Stepped, Steps, accepted-of, refused-of}
 use Rattle.suite.proofs.Stores.{known-more}
 
 -- ---- an accepted line keeps what is known
@@ -56,36 +56,41 @@ module _ (m : ℕ) (text : Bytes) (n at : ℕ) (l : TestListing) (known : Known 
 abbrev linesFrom : ℕ → ℕ → ℕ → TestListing → List Bytes → Answer TestListing
 linesFrom m n at l ps = readLines (stepSuite m) finishSuite n at l ps
 
-pub record So (m : ℕ) (text : Bytes) (at n c : ℕ) (t w : List ℕ) : Type 0 where
+pub record So (m : ℕ) (text : Bytes) (at n c : ℕ) (f t w : List ℕ) : Type 0 where
   pub l : TestListing
   pub known : Known text l
   pub hold : Holds m t w c l
+  pub marked : Marked f l
   pub goes : linesFrom m 1 0 noTests (split 10 text) ≡ linesFrom m n at l (split 10 (drop at text))
 
 -- The invariant.
-pub record Head (m : ℕ) (text : Bytes) (t₀ w₀ : List ℕ) (at n c : ℕ) (t w : List ℕ) : Type 0 where
+pub record Head (m : ℕ) (text : Bytes) (f₀ t₀ w₀ : List ℕ) (at n c : ℕ) (f t w : List ℕ) : Type 0 where
   pub in-text : at ≤ length text
   pub few : n ≤ at + 1
   pub small : c ≤ 200
+  pub some : length f ≡ length f₀
   pub long : length t ≡ length t₀
   pub wide : length w ≡ length w₀
-  pub so : So m text at n c t w
+  pub so : So m text at n c f t w
 
 none-below : {X : Type 0} (i : ℕ) → i < 0 → X
 none-below i h = absurd (let z : ⊥ = omega arith in z)
 
-pub head-start : (m : ℕ) (text : Bytes) (t w : List ℕ) → Head m text t w 0 1 0 t w
-head-start m text t w =
+pub head-start : (m : ℕ) (text : Bytes) (f t w : List ℕ) → Head m text f t w 0 1 0 f t w
+unfolding Marked
+head-start m text f t w =
     record {
       in-text = omega arith;
       few = omega arith;
       small = omega arith;
+      some = refl;
       long = refl;
       wide = refl;
       so = record {
         l = noTests;
         known = record { placed = refl; covered = refl; names = λ i h. none-below i h };
         hold = record { counted = refl; starts = λ i h. none-below i h; lengths = λ i h. none-below i h; row = λ i h. none-below i h };
+        marked = λ i h. none-below i h;
         goes = refl;
       };
     }
@@ -101,7 +106,7 @@ unfolding empty
 empty-not [] h = absurd (let z : ⊥ = omega arith in z)
 empty-not (x ∷ s) h = refl
 
-module _ (m : ℕ) (text : Bytes) (t₀ w₀ : List ℕ) (at n c : ℕ) (t w : List ℕ) (head : Head m text t₀ w₀ at n c t w) (rest : Bytes) (er : rest ≡ drop at text) (len : ℕ) (e : len ≡ span 10 rest) where
+module _ (m : ℕ) (text : Bytes) (f₀ t₀ w₀ : List ℕ) (at n c : ℕ) (f t w : List ℕ) (head : Head m text f₀ t₀ w₀ at n c f t w) (rest : Bytes) (er : rest ≡ drop at text) (len : ℕ) (e : len ≡ span 10 rest) where
   -- The last line is not ended.
   pub no-end : at < length text → length rest ≤ len → (r : Read) → r .number ≡ 2 → r .place ≡ n → Lines m text r t w
   unfolding Lines readLines unless isnt
@@ -109,7 +114,7 @@ module _ (m : ℕ) (text : Bytes) (t₀ w₀ : List ℕ) (at n c : ℕ) (t w : L
       let q : length rest ≡ length text - at = ap length er ∙ length-drop at text in
       simp (head .so .goes, uncut-at 10 text rest at len er e k, empty-not rest (omega arith)) (en, ep, omega arith)
 
-  module _ (h : len < length rest) (line : Bytes) (el : line ≡ take len rest) (r : Read) (t′ w′ : List ℕ) (step : Stepped text m n at line c t w r t′ w′) where
+  module _ (h : len < length rest) (line : Bytes) (el : line ≡ take len rest) (r : Read) (f′ t′ w′ : List ℕ) (step : Stepped text m n at line c f t w r f′ t′ w′) where
     line-long : length line ≡ len
     line-long = ap length el ∙ length-take-le len rest (omega arith)
 
@@ -122,24 +127,26 @@ module _ (m : ℕ) (text : Bytes) (t₀ w₀ : List ℕ) (at n c : ℕ) (t w : L
         ∙ lines-more m n at (head .so .l) line (split 10 (drop (at + len + 1) text)) (sc .0) (sc .1) (sc .2)
         ∙ ap₂ (λ (k j : ℕ). then (stepSuite m n at (head .so .l) line) (λ s. linesFrom m k (at + j + 1) s (split 10 (drop (at + len + 1) text)))) (sym (add-one n)) line-long
 
-    answer : After m (stepSuite m n at (head .so .l) line) r t′ w′
+    answer : After m (stepSuite m n at (head .so .l) line) r t′ w′ × MarkedAfter f′ (stepSuite m n at (head .so .l) line)
     unfolding Steps
-    answer = step .steps (head .so .l) (head .so .known) (head .so .hold)
+    answer = step .steps (head .so .l) (head .so .known) (head .so .hold) (head .so .marked)
 
-    pub head-on : r .number ≡ 0 → length t′ ≡ length t → length w′ ≡ length w → Head m text t₀ w₀ (at + len + 1) (n + 1) (r .count) t′ w′
+    pub head-on : r .number ≡ 0 → length f′ ≡ length f → length t′ ≡ length t → length w′ ≡ length w → Head m text f₀ t₀ w₀ (at + len + 1) (n + 1) (r .count) f′ t′ w′
     unfolding then
-    head-on z lt lw =
-        let a = accepted-of m (stepSuite m n at (head .so .l) line) r t′ w′ answer z in
+    head-on z lf lt lw =
+        let a = accepted-of m (stepSuite m n at (head .so .l) line) r t′ w′ (answer .0) z in
         record {
           in-text = omega (arith, ap length er, length-drop at text);
           few = omega (arith, head .few);
           small = step .few;
+          some = lf ∙ head .some;
           long = lt ∙ head .long;
           wide = lw ∙ head .wide;
           so = record {
             l = a .0;
             known = known-step m text n at (head .so .l) (head .so .known) c t w (head .so .hold) line len (el ∙ ap (λ (s : Bytes). take len s) er) line-long (a .0) (a .1);
             hold = a .2;
+            marked = answer .1 (a .0) (a .1);
             goes = whole ∙ ap (λ (x : Answer TestListing). then x (λ s. linesFrom m (n + 1) (at + len + 1) s (split 10 (drop (at + len + 1) text)))) (a .1);
           };
         }
@@ -147,21 +154,21 @@ module _ (m : ℕ) (text : Bytes) (t₀ w₀ : List ℕ) (at n c : ℕ) (t w : L
     pub no-line : (r .number ≡ 0 → ⊥) → Lines m text r t′ w′
     unfolding Lines then
     no-line z =
-        let a = refused-of m (stepSuite m n at (head .so .l) line) r t′ w′ answer z in
+        let a = refused-of m (stepSuite m n at (head .so .l) line) r t′ w′ (answer .0) z in
         let q : linesFrom m 1 0 noTests (split 10 text) ≡ refused (r .number) (r .place) =
         whole ∙ ap (λ (x : Answer TestListing). then x (λ s. linesFrom m (n + 1) (at + len + 1) s (split 10 (drop (at + len + 1) text)))) (a .0) in
         simp q (refl, refl, a .1)
 
-pub all-read : (m : ℕ) (text : Bytes) (t₀ w₀ : List ℕ) (at n c : ℕ) (t w : List ℕ) → Head m text t₀ w₀ at n c t w → length text ≤ at
+pub all-read : (m : ℕ) (text : Bytes) (f₀ t₀ w₀ : List ℕ) (at n c : ℕ) (f t w : List ℕ) → Head m text f₀ t₀ w₀ at n c f t w → length text ≤ at
     → Lines m text (record { number = 0; place = 0; count = c }) t w
 unfolding Lines readLines split unless isnt empty
-all-read m text t₀ w₀ at n c t w head h = simp (head .so .goes, drop-end text at h) (refl, refl, head .so .hold)
+all-read m text f₀ t₀ w₀ at n c f t w head h = simp (head .so .goes, drop-end text at h) (refl, refl, head .so .hold)
 
-pub step-few : (text : Bytes) (m n at : ℕ) (line : Bytes) (c : ℕ) (t w : List ℕ) (r : Read) (t′ w′ : List ℕ) → Stepped text m n at line c t w r t′ w′ → r .count ≤ 200
-step-few text m n at line c t w r t′ w′ s = s .few
+pub step-few : (text : Bytes) (m n at : ℕ) (line : Bytes) (c : ℕ) (f t w : List ℕ) (r : Read) (f′ t′ w′ : List ℕ) → Stepped text m n at line c f t w r f′ t′ w′ → r .count ≤ 200
+step-few text m n at line c f t w r f′ t′ w′ s = s .few
 
-pub head-few : (m : ℕ) (text : Bytes) (t₀ w₀ : List ℕ) (at n c : ℕ) (t w : List ℕ) → Head m text t₀ w₀ at n c t w → c ≤ 200
-head-few m text t₀ w₀ at n c t w head = head .small
+pub head-few : (m : ℕ) (text : Bytes) (f₀ t₀ w₀ : List ℕ) (at n c : ℕ) (f t w : List ℕ) → Head m text f₀ t₀ w₀ at n c f t w → c ≤ 200
+head-few m text f₀ t₀ w₀ at n c f t w head = head .small
 
 pub ruleset turns = (head-start, no-end, head-on, no-line, all-read, step-few, head-few)
 

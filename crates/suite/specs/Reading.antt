@@ -1,12 +1,13 @@
 -- What the reader of test files claims: its answer is the definition's, whatever the tables hold before.
 use mathlib.Core.Path.{_≡_, refl, sym, ap₂}
-use mathlib.Core.Bool.{Bool}
-use mathlib.Core.List.{List}
-use Prim.Native.Nat.{ℕ, _+_, _*_, _≤_, _<_}
+use mathlib.Core.Bool.{Bool, true}
+use mathlib.Core.List.{List, [], _∷_}
+use Prim.Native.Nat.{ℕ, _+_, _*_, _%_, _≤_, _<_}
 use native.Mathlib.Omega.{arith}
 use lib.Dec.{ltb}
 use lib.ListN.{length, getD, take, drop}
-use Rattle.laws.specs.Tests.{_and_, any}
+use Rattle.laws.specs.Tests.{_and_, any, isnt}
+use Rattle.laws.specs.Bits.{bitIn}
 use Rattle.rules.specs.Text.{Bytes, same, bytes, isName, Answer, refused, accepted, linesOf, readLines}
 use Rattle.rules.specs.SuiteFile.{TestListing, finishSuite, noTests, readTests, stepSuite, takeTest, test-line, testCount, testName}
 use Rattle.text.specs.Scans.{span}
@@ -26,6 +27,10 @@ beginsTest line =
     and isName (firstField (drop 2 line))
     and ltb (length (firstField (drop 2 line))) (length (drop 2 line))
 
+-- `comma_in`: a row that is not fine has a comma.
+unfoldable pub commaIn : Bool → Bytes → Bool
+commaIn fine row = isnt fine and ltb (span 44 row) (length row)
+
 -- `name_at`: the part of the text that the table gives as the name of the test i.
 unfoldable pub nameAt : Bytes → List ℕ → ℕ → Bytes
 nameAt text tests i = take (getD tests (2 * i + 1) 0) (drop (getD tests (2 * i) 0) text)
@@ -33,6 +38,26 @@ nameAt text tests i = take (getD tests (2 * i + 1) 0) (drop (getD tests (2 * i) 
 -- `name_seen`: one of the first n tests has the name.
 unfoldable pub nameIn : Bytes → List ℕ → ℕ → Bytes → Bool
 nameIn text tests n name = any n (λ i. same (nameAt text tests i) name)
+
+-- `hash`: a number below 4,096 for a name, by its bytes from the first on.
+unfoldable pub hashFrom : ℕ → Bytes → ℕ
+hashFrom h [] = h
+hashFrom h (x ∷ s) = hashFrom ((h * 31 + x) % 4096) s
+
+abbrev pub nameHash : Bytes → ℕ
+nameHash = hashFrom 0
+
+-- `name_met`: the filter has the hash of the name, and one of the first n tests has the name.
+unfoldable pub nameMet : Bytes → List ℕ → ℕ → List ℕ → Bytes → Bool
+nameMet text tests n filter name = bitIn filter (nameHash name) and nameIn text tests n name
+
+-- The filter has the hash of every test's name.
+unfoldable pub Marked : List ℕ → TestListing → Type 0
+Marked filter l = (i : ℕ) → i < testCount (l .suite) → bitIn filter (nameHash (testName (l .suite) i)) ≡ true
+
+-- The same of the tests that the definition accepts.
+abbrev pub MarkedAfter : List ℕ → Answer TestListing → Type 0
+MarkedAfter filter x = (l : TestListing) → x ≡ accepted l → Marked filter l
 
 -- What is known of the tests that were read: each has a place and a coverage, and its name stands in the text.
 pub record Known (text : Bytes) (l : TestListing) : Type 0 where
@@ -56,22 +81,24 @@ pub refused-of : (m : ℕ) (x : Answer TestListing) (r : Read) (tests rows : Lis
 refused-of m (refused k p) r tests rows h z = (ap₂ refused (sym (h .0)) (sym (h .1)), omega arith)
 refused-of m (accepted l) r tests rows h z = absurd (z (h .0))
 
--- `add_test`: whatever tests the tables hold, the answer to a test more is the definition's.
-unfoldable pub Adds : Bytes → ℕ → ℕ → ℕ → Bytes → Bytes → ℕ → List ℕ → List ℕ → Read → List ℕ → List ℕ → Type 0
-Adds text m n at name row c tests rows r tests′ rows′ =
-    (l : TestListing) → Known text l → Holds m tests rows c l → After m (takeTest m n at l (test-line name row)) r tests′ rows′
+-- `add_test`: whatever tests the tables hold, the answer to a test more is the definition's, and the filter has the hashes of the names.
+unfoldable pub Adds : Bytes → ℕ → ℕ → ℕ → Bytes → Bytes → ℕ → List ℕ → List ℕ → List ℕ → Read → List ℕ → List ℕ → List ℕ → Type 0
+Adds text m n at name row c filter tests rows r filter′ tests′ rows′ =
+    (l : TestListing) → Known text l → Holds m tests rows c l → Marked filter l
+    → After m (takeTest m n at l (test-line name row)) r tests′ rows′ × MarkedAfter filter′ (takeTest m n at l (test-line name row))
 
-pub record Added (text : Bytes) (m n at : ℕ) (name row : Bytes) (c : ℕ) (tests rows : List ℕ) (r : Read) (tests′ rows′ : List ℕ) : Type 0 where
-  pub adds : Adds text m n at name row c tests rows r tests′ rows′
+pub record Added (text : Bytes) (m n at : ℕ) (name row : Bytes) (c : ℕ) (filter tests rows : List ℕ) (r : Read) (filter′ tests′ rows′ : List ℕ) : Type 0 where
+  pub adds : Adds text m n at name row c filter tests rows r filter′ tests′ rows′
   pub few : r .count ≤ 200
 
 -- `step`: the same of a line.
-unfoldable pub Steps : Bytes → ℕ → ℕ → ℕ → Bytes → ℕ → List ℕ → List ℕ → Read → List ℕ → List ℕ → Type 0
-Steps text m n at line c tests rows r tests′ rows′ =
-    (l : TestListing) → Known text l → Holds m tests rows c l → After m (stepSuite m n at l line) r tests′ rows′
+unfoldable pub Steps : Bytes → ℕ → ℕ → ℕ → Bytes → ℕ → List ℕ → List ℕ → List ℕ → Read → List ℕ → List ℕ → List ℕ → Type 0
+Steps text m n at line c filter tests rows r filter′ tests′ rows′ =
+    (l : TestListing) → Known text l → Holds m tests rows c l → Marked filter l
+    → After m (stepSuite m n at l line) r tests′ rows′ × MarkedAfter filter′ (stepSuite m n at l line)
 
-pub record Stepped (text : Bytes) (m n at : ℕ) (line : Bytes) (c : ℕ) (tests rows : List ℕ) (r : Read) (tests′ rows′ : List ℕ) : Type 0 where
-  pub steps : Steps text m n at line c tests rows r tests′ rows′
+pub record Stepped (text : Bytes) (m n at : ℕ) (line : Bytes) (c : ℕ) (filter tests rows : List ℕ) (r : Read) (filter′ tests′ rows′ : List ℕ) : Type 0 where
+  pub steps : Steps text m n at line c filter tests rows r filter′ tests′ rows′
   pub few : r .count ≤ 200
 
 -- ---- a text

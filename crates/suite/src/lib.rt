@@ -2,14 +2,15 @@
 ghost use mathlib.Core.Path.{_≡_};
 ghost use mathlib.Core.Bool.{true};
 ghost use mathlib.Core.List.{_∷_, []};
-ghost use Prim.Native.Nat.{_+_, _/_, _≤_};
+ghost use Prim.Native.Nat.{_+_, _*_, _/_, _%_, _≤_, _<_};
 ghost use lib.Count.{ones as onesOf, trailingZeros};
-ghost use lib.ListN.{drop, getD, length, set as setAt};
+ghost use lib.ListN.{drop, getD, length, set as setAt, take};
 ghost use Rattle.laws.specs.Bits.{wordOf};
+ghost use Rattle.laws.specs.BitSets.{withBit};
 ghost use Rattle.rules.specs.Text.{allBytes};
-ghost use Rattle.rules.specs.SuiteFile.{bitsOf, hexByte, noneSet, rowFine};
-ghost use Rattle.suite.specs.Reading.{Added, LinesRead, Stepped, TestsRead, beginsTest, nameAt, nameIn};
-ghost use Rattle.suite.specs.Rows.{edgeBit, rowCommon, rowOnes, storedRow, storedTest};
+ghost use Rattle.rules.specs.SuiteFile.{bitsOf, hexByte, hexValue, noneSet, rowFine};
+ghost use Rattle.suite.specs.Reading.{Added, LinesRead, Stepped, TestsRead, beginsTest, commaIn, nameAt, nameHash, nameIn, nameMet};
+ghost use Rattle.suite.specs.Rows.{edgeBit, itself, number, rowCommon, rowOnes, storedRow, storedTest, turn};
 
 // What was read: a refusal by number and place, where the number is not 0, or how many tests there are.
 pub struct Read {
@@ -53,65 +54,89 @@ fn zeros_below(w: u64) -> usize
     u64::trailing_zeros(w) as usize
 }
 
-// The four bits of the digits 0 to f, the highest bit of each lowest; those of 0 stand lowest.
-const NIBBLES: u64 = 0xf7b3d591e6a2c480;
+// The number of eight bytes, the first lowest.
+fn join(a: u8, b: u8, c: u8, d: u8, e: u8, f: u8, g: u8, h: u8) -> u64
+    ensures { λ r. ⌜ r ≡ number 256 itself (a ∷ (b ∷ (c ∷ (d ∷ (e ∷ (f ∷ (g ∷ (h ∷ [])))))))) ⌝ }
+{
+    let low = a as u64 + b as u64 * 256 + c as u64 * 65536 + d as u64 * 16777216;
+    let high = e as u64 + f as u64 * 256 + g as u64 * 65536 + h as u64 * 16777216;
+    low + high * 4294967296
+}
 
-// The four bits of a digit, its highest bit first.
-fn nibble(x: u8) -> u64
+// The number of eight digits to the base 16, the first lowest: their values in a byte each, then two, four and all of them together.
+fn eight(a: u8, b: u8, c: u8, d: u8, e: u8, f: u8, g: u8, h: u8) -> u64
+    requires { ⌜ allBytes hexByte (a ∷ (b ∷ (c ∷ (d ∷ (e ∷ (f ∷ (g ∷ (h ∷ [])))))))) ≡ true ⌝ }
+    ensures { λ r. ⌜ r ≡ number 16 hexValue (a ∷ (b ∷ (c ∷ (d ∷ (e ∷ (f ∷ (g ∷ (h ∷ [])))))))) ⌝ }
+{
+    let x = join(a, b, c, d, e, f, g, h);
+    let one = (x & 0x0f0f0f0f0f0f0f0f) + 9 * ((x & 0x4040404040404040) / 64);
+    let two = (one & 0x000f000f000f000f) + (one & 0x0f000f000f000f00) / 16;
+    let four = (two & 0x000000ff000000ff) + (two & 0x00ff000000ff0000) / 256;
+    four % 65536 + four / 65536
+}
+
+// The number of the eight digits from i on.
+fn eight_at(s: &[u8], i: usize) -> u64
+    requires { ⌜ (i ≤ 8) × (length (now s) ≡ 16) × (allBytes hexByte (now s) ≡ true) ⌝ }
+    ensures { λ r. ⌜ r ≡ number 16 hexValue (take 8 (drop i (now (s .entry)))) ⌝ }
+{
+    eight(
+        s[i],
+        s[i + 1],
+        s[i + 2],
+        s[i + 3],
+        s[i + 4],
+        s[i + 5],
+        s[i + 6],
+        s[i + 7],
+    )
+}
+
+// The value of a digit.
+fn value(x: u8) -> u64
     requires { ⌜ hexByte x ≡ true ⌝ }
-    ensures { λ r. ⌜ r ≡ wordOf (bitsOf (x ∷ [])) ⌝ }
+    ensures { λ r. ⌜ r ≡ hexValue x ⌝ }
 {
-    let shift = 4 * (x % 16 + 9 * (x / 64));
-    (NIBBLES >> shift) % 16
+    (x % 16 + 9 * (x / 64)) as u64
 }
 
-// The word of two digits.
-fn two(a: u8, b: u8) -> u64
-    requires { ⌜ (hexByte a ≡ true) × (hexByte b ≡ true) ⌝ }
-    ensures { λ r. ⌜ r ≡ wordOf (bitsOf (a ∷ (b ∷ []))) ⌝ }
-{
-    nibble(b) * 16 + nibble(a)
-}
-
-// The word of four digits.
-fn four(a: u8, b: u8, c: u8, d: u8) -> u64
-    requires { ⌜ (hexByte a ≡ true) × (hexByte b ≡ true) × (hexByte c ≡ true) × (hexByte d ≡ true) ⌝ }
-    ensures { λ r. ⌜ r ≡ wordOf (bitsOf (a ∷ (b ∷ (c ∷ (d ∷ []))))) ⌝ }
-{
-    two(c, d) * 256 + two(a, b)
-}
-
-// The word of at most 16 digits, where `last` is that of the digits from n on.
-fn pack_front(s: &[u8], n: usize, last: u64) -> u64
+// The number of at most 16 digits to the base 16, one at a time from the last.
+fn few(s: &[u8]) -> u64
     requires { ⌜ (length (now s) ≤ 16) × (allBytes hexByte (now s) ≡ true) ⌝ }
-    requires { ⌜ (n ≤ length (now s)) × (last ≡ wordOf (bitsOf (drop n (now s)))) ⌝ }
-    ensures { λ r. ⌜ r ≡ wordOf (bitsOf (now (s .entry))) ⌝ }
+    ensures { λ r. ⌜ r ≡ number 16 hexValue (now (s .entry)) ⌝ }
 {
-    let mut w = last;
-    let mut i = n;
+    let mut w: u64 = 0;
+    let mut i = s.len();
     while 0 < i {
         let j = i - 1;
-        let d = nibble(s[j]);
+        let d = value(s[j]);
         w = w * 16 + d;
         i = j;
     }
     w
 }
 
-// The word of at most 16 digits, four at a time from the last.
+// The number with the four bits of each digit to the base 16 turned round: a digit of a row has its highest bit first.
+fn turned(w: u64) -> u64
+    ensures { λ r. ⌜ r ≡ turn w ⌝ }
+{
+    (w & 0x1111111111111111) * 8
+        + (w & 0x2222222222222222) * 2
+        + (w & 0x4444444444444444) / 2
+        + (w & 0x8888888888888888) / 8
+}
+
+// The word of at most 16 digits: where there are 16, eight at a time.
 fn pack(s: &[u8]) -> u64
     requires { ⌜ (length (now s) ≤ 16) × (allBytes hexByte (now s) ≡ true) ⌝ }
     ensures { λ r. ⌜ r ≡ wordOf (bitsOf (now (s .entry))) ⌝ }
 {
-    let mut w: u64 = 0;
-    let mut i = s.len();
-    while 4 <= i {
-        let j = i - 4;
-        let d = four(s[j], s[j + 1], s[j + 2], s[j + 3]);
-        w = w * 65536 + d;
-        i = j;
+    if s.len() == 16 {
+        let low = eight_at(s, 0);
+        let high = eight_at(s, 8);
+        return turned(high * 4294967296 + low);
     }
-    pack_front(s, i, w)
+    turned(few(s))
 }
 
 // Makes the row of a test that of the digits.
@@ -169,6 +194,43 @@ fn name_seen(text: &[u8], tests: &[usize], count: usize, name: &[u8]) -> bool
     false
 }
 
+// The hash h of some bytes, with a byte more.
+fn hash_with(h: usize, x: u8) -> usize
+    requires { ⌜ h < 4096 ⌝ }
+    ensures { λ r. ⌜ r ≡ (h * 31 + x) % 4096 ⌝ }
+{
+    (h * 31 + x as usize) % 4096
+}
+
+// A number below 4,096 for a name.
+fn hash(name: &[u8]) -> usize
+    ensures { λ r. ⌜ r ≡ nameHash (now (name .entry)) ⌝ }
+{
+    let mut h = 0;
+    let mut i = 0;
+    while i < name.len() {
+        h = hash_with(h, name[i]);
+        i += 1;
+    }
+    h
+}
+
+// Whether one of the first `count` tests has the name, where the filter has the bits of their hashes: names are compared only if it has that of
+// the name's, which it has afterwards.
+fn name_met(text: &[u8], tests: &[usize], count: usize, name: &[u8], filter: &mut [usize]) -> bool
+    requires { ⌜ count ≤ 200 ⌝ }
+    ensures { λ r. ⌜ r ≡ nameMet (now (text .entry)) (now (tests .entry)) count (now (filter .entry)) (now (name .entry)) ⌝ }
+    ensures { λ _. ⌜ now (filter .exit) ≡ withBit (now (filter .entry)) (nameHash (now (name .entry))) ⌝ }
+{
+    let h = hash(name);
+    let maybe = text::bit_at(filter, h);
+    text::set_bit(filter, h);
+    if maybe {
+        return name_seen(text, tests, count, name);
+    }
+    false
+}
+
 // Whether the bits of a row past its edges are 0.
 fn spare_clear(edges: usize, row: &[u8]) -> bool
     requires { ⌜ (length (now row) ≤ edges / 4 + 1) × (allBytes hexByte (now row) ≡ true) ⌝ }
@@ -178,7 +240,7 @@ fn spare_clear(edges: usize, row: &[u8]) -> bool
     if row.len() <= i {
         return true;
     }
-    let d = nibble(row[i]);
+    let d = turned(value(row[i]));
     let shift = edges % 4;
     d >> shift == 0
 }
@@ -195,10 +257,20 @@ fn row_fine(edges: usize, row: &[u8]) -> bool
     if digits < row.len() {
         return false;
     }
-    if text::all_in(4, row) {
+    if text::all_in(3, row) {
         return spare_clear(edges, row);
     }
     false
+}
+
+// Whether a row has a comma; one that is fine has none.
+fn comma_in(fine: bool, row: &[u8]) -> bool
+    ensures { λ r. ⌜ r ≡ commaIn fine (now (row .entry)) ⌝ }
+{
+    if fine {
+        return false;
+    }
+    text::find(row, 44) < row.len()
 }
 
 // Notes where the name of the test i stands, and how long it is.
@@ -220,12 +292,13 @@ fn add_test(
     row: &[u8],
     fine: bool,
     count: usize,
+    filter: &mut [usize],
     tests: &mut [usize],
     rows: &mut [u64],
 ) -> Read
     requires { ⌜ fine ≡ rowFine edges (now row) ⌝ }
-    requires { ⌜ (edges ≤ 1024) × (at ≤ 65536) × (count ≤ 200) × (400 ≤ length (now tests)) × (3200 ≤ length (now rows)) ⌝ }
-    ensures { λ r. ⌜ Added (now (text .entry)) edges n at (now (name .entry)) (now (row .entry)) count (now (tests .entry)) (now (rows .entry)) r (now (tests .exit)) (now (rows .exit)) ⌝ }
+    requires { ⌜ (edges ≤ 1024) × (at ≤ 65536) × (count ≤ 200) × (64 ≤ length (now filter)) × (400 ≤ length (now tests)) × (3200 ≤ length (now rows)) ⌝ }
+    ensures { λ r. ⌜ Added (now (text .entry)) edges n at (now (name .entry)) (now (row .entry)) count (now (filter .entry)) (now (tests .entry)) (now (rows .entry)) r (now (filter .exit)) (now (tests .exit)) (now (rows .exit)) ⌝ }
 {
     if 200 <= count {
         return Read {
@@ -234,7 +307,7 @@ fn add_test(
             count: 0,
         };
     }
-    let seen = name_seen(text, tests, count, name);
+    let seen = name_met(text, tests, count, name, filter);
     if seen {
         return Read {
             number: 5,
@@ -277,23 +350,34 @@ fn step(
     at: usize,
     line: &[u8],
     count: usize,
+    filter: &mut [usize],
     tests: &mut [usize],
     rows: &mut [u64],
 ) -> Read
-    requires { ⌜ (edges ≤ 1024) × (at ≤ 65536) × (count ≤ 200) × (400 ≤ length (now tests)) × (3200 ≤ length (now rows)) ⌝ }
-    ensures { λ r. ⌜ Stepped (now (text .entry)) edges n at (now (line .entry)) count (now (tests .entry)) (now (rows .entry)) r (now (tests .exit)) (now (rows .exit)) ⌝ }
+    requires { ⌜ (edges ≤ 1024) × (at ≤ 65536) × (count ≤ 200) × (64 ≤ length (now filter)) × (400 ≤ length (now tests)) × (3200 ≤ length (now rows)) ⌝ }
+    ensures { λ r. ⌜ Stepped (now (text .entry)) edges n at (now (line .entry)) count (now (filter .entry)) (now (tests .entry)) (now (rows .entry)) r (now (filter .exit)) (now (tests .exit)) (now (rows .exit)) ⌝ }
 {
     if begins_test(line) {
         let rest = text::after(line, 2);
         let name = text::first_short(rest, 44);
         let row = text::after(rest, name.len() + 1);
-        if row_fine(edges, row) {
-            return add_test(text, edges, n, at, name, row, true, count, tests, rows);
-        }
-        if text::find(row, 44) < row.len() {
+        let fine = row_fine(edges, row);
+        if comma_in(fine, row) {
             return malformed(n);
         }
-        return add_test(text, edges, n, at, name, row, false, count, tests, rows);
+        return add_test(
+            text,
+            edges,
+            n,
+            at,
+            name,
+            row,
+            fine,
+            count,
+            filter,
+            tests,
+            rows,
+        );
     }
     malformed(n)
 }
@@ -301,8 +385,14 @@ fn step(
 // ---- a text
 
 // Reads the lines of a text.
-fn read_lines(text: &[u8], edges: usize, tests: &mut [usize], rows: &mut [u64]) -> Read
-    requires { ⌜ (length (now text) ≤ 65536) × (edges ≤ 1024) × (400 ≤ length (now tests)) × (3200 ≤ length (now rows)) ⌝ }
+fn read_lines(
+    text: &[u8],
+    edges: usize,
+    filter: &mut [usize],
+    tests: &mut [usize],
+    rows: &mut [u64],
+) -> Read
+    requires { ⌜ (length (now text) ≤ 65536) × (edges ≤ 1024) × (64 ≤ length (now filter)) × (400 ≤ length (now tests)) × (3200 ≤ length (now rows)) ⌝ }
     ensures { λ r. ⌜ LinesRead edges (now (text .entry)) r (now (tests .exit)) (now (rows .exit)) ⌝ }
 {
     let mut at = 0;
@@ -319,7 +409,7 @@ fn read_lines(text: &[u8], edges: usize, tests: &mut [usize], rows: &mut [u64]) 
             };
         }
         let line = text::front(rest, len);
-        let r = step(text, edges, n, at, line, count, tests, rows);
+        let r = step(text, edges, n, at, line, count, filter, tests, rows);
         let number = r.number;
         if number != 0 {
             return r;
@@ -347,7 +437,8 @@ pub fn read_tests(text: &[u8], edges: usize, tests: &mut [usize], rows: &mut [u6
             count: 0,
         };
     }
-    read_lines(text, edges, tests, rows)
+    let mut filter = [0usize; 64];
+    read_lines(text, edges, &mut filter, tests, rows)
 }
 
 // ---- what the row of a test says

@@ -6,13 +6,15 @@ use Prim.Native.Nat.{ℕ, zero, suc, _+_, _-_, _*_, _/_, _%_, _^_, _≤_, _<_, m
 use native.Mathlib.Nat.{add-sub-cancel-left}
 use native.Mathlib.Omega.{arith}
 use lib.Dec.{eqb, leb}
-use lib.ListN.{length, getD, take, drop, set, replicate, length-drop, length-append, List·getD-eq-default}
+use lib.ListN.{length, getD, take, drop, set, replicate, length-drop, length-append, take-append-drop, List·getD-eq-default}
 use lib.Seq.{drop-drop, length-take-le, take-all, take-nil, set-out, sets, set-getD, getD-set-same}
 use borrow.Author.Fill.{fill-more}
 use borrow.Author.Tests.{eq-eqb, ne-eqb, le-leb, lt-leb}
 use Rattle.laws.specs.Tests.{_and_, _or_, isnt, choose, has}
-use Rattle.laws.specs.TestLaws.{and-assoc, and-ends, and-right, or-assoc, or-ends, or-left, or-right, false-isnt, fails, both-ways}
+use Rattle.laws.specs.TestLaws.{and-assoc, and-ends, and-right, same-test, or-assoc, or-ends, or-left, or-right, false-isnt, fails, both-ways}
 use Rattle.laws.specs.Slices.{below-or, drop-at, drop-end, take-more, sets-more, sets-out, getD-sets-before}
+use Rattle.laws.specs.Bits.{bitAt, bitIn}
+use Rattle.laws.specs.BitSets.{bit-in, bit-out}
 use Rattle.rules.specs.Text.{Bytes, same, between, allBytes, nameByte, labelByte, wordByte, digitByte, isName, isLabel, isWord, isNumber, valueFrom, decimal}
 use Rattle.rules.specs.SuiteFile.{hexByte}
 use Rattle.rules.specs.Proofs.TextLaws.{decimal-small, decimal-more, same-of, same-self, same-true}
@@ -31,7 +33,7 @@ unfolding _or_
 either true b = refl
 either false b = refl
 
--- ---- `find_from`, `block_has`, `find`
+-- ---- `find_from`, `block_has`, `find`, `find_short`
 
 module _ (b : ℕ) (s : Bytes) (n i : ℕ) (inv : n + span b (drop n s) ≡ i + span b (drop i s)) where
   pub find-hit : i < length s → getD s i 0 ≡ b → i ≡ n + span b (drop n s)
@@ -83,7 +85,7 @@ module _ (b : ℕ) (s : Bytes) (i : ℕ) (inv : span b s ≡ i + span b (drop i 
 
 pub ruleset finds = (find-hit, find-on, find-end, has-start, has-on, has-done, find-past, find-here)
 
--- ---- `same`
+-- ---- `same_short`, `same_block`, `same_half`, `same_rest`, `same`
 
 pub same-sized : (a b : Bytes) → (length a ≡ length b → ⊥) → false ≡ same a b
 same-sized a b h = sym (fails _ (λ y. h (ap length (same-true a b y))))
@@ -107,7 +109,64 @@ same-done a b i inv h =
     let q : i ≡ 0 = omega arith in
     sym (same-of (ap (λ (n : ℕ). drop n a) (sym q) ∙ inv ∙ ap (λ (n : ℕ). drop n b) q))
 
-pub ruleset sames = (same-sized, same-start, same-on, same-not, same-done)
+pub block-same : (a b : Bytes) → same a b ≡ (true and same a b)
+unfolding _and_
+block-same a b = refl
+
+module _ (a b : Bytes) (i : ℕ) (all : Bool) (inv : same a b ≡ (all and same (drop i a) (drop i b))) where
+  pub block-more : i < length a → i < length b → same a b ≡ ((all && eqb (getD a i 0) (getD b i 0)) and same (drop (i + 1) a) (drop (i + 1) b))
+  unfolding same
+  block-more h k =
+      let rest = same (drop (i + 1) a) (drop (i + 1) b) in
+      let t = eqb (getD a i 0) (getD b i 0) in
+      inv
+      ∙ ap₂ (λ (x y : Bytes). all and same x y) (drop-at a i 0 h) (drop-at b i 0 k)
+      ∙ and-assoc all t rest
+      ∙ ap (λ (u : Bool). u and rest) (sym (also all t))
+
+  pub block-whole : (n : ℕ) → length a ≡ n → length b ≡ n → n ≤ i → all ≡ same a b
+  unfolding same
+  block-whole n h k l =
+      sym (and-ends all)
+      ∙ sym (inv ∙ ap₂ (λ (x y : Bytes). all and same x y) (drop-end a i (omega arith)) (drop-end b i (omega arith)))
+
+-- Bytes are the same where the first n and the rest of them are.
+join-same : (n : ℕ) (a b : Bytes) → take n a ≡ take n b → drop n a ≡ drop n b → a ≡ b
+join-same n a b p q = sym (take-append-drop n a) ∙ ap₂ (λ (x y : Bytes). x ++ y) p q ∙ take-append-drop n b
+
+-- The first n, where the rest from i on is the same, and is behind or among them.
+rest-same : (a b : Bytes) (i n : ℕ) (t : Bool) → drop i a ≡ drop i b → i ≤ n → t ≡ same (take n a) (take n b) → t ≡ same a b
+rest-same a b i n t inv h e =
+    let q : i + (n - i) ≡ n = omega arith in
+    let d : (s : Bytes) → drop (n - i) (drop i s) ≡ drop n s = λ s. drop-drop (n - i) i s ∙ ap (λ (m : ℕ). drop m s) q in
+    e ∙ same-test _ _
+    (λ y. same-of (join-same n a b (same-true _ _ y) (sym (d a) ∙ ap (drop (n - i)) inv ∙ d b)))
+    (λ y. same-of (ap (take n) (same-true a b y)))
+
+pub rest-short : (a b : Bytes) (i : ℕ) (t : Bool) → drop i a ≡ drop i b → i ≤ 8 → t ≡ same (take 8 a) (take 8 b) → t ≡ same a b
+rest-short a b i t inv h e = rest-same a b i 8 t inv h e
+
+-- The w bytes before the place i.
+module _ (a b : Bytes) (i w : ℕ) (t : Bool) (h : w < i) (e : t ≡ same (take (i - (i - w)) (drop (i - w) a)) (take (i - (i - w)) (drop (i - w) b))) where
+  pub before-on : drop i a ≡ drop i b → t ≡ true → drop (i - w) a ≡ drop (i - w) b
+  before-on inv y =
+      let n = i - (i - w) in
+      let q : i - w + n ≡ i = omega arith in
+      let d : (s : Bytes) → drop n (drop (i - w) s) ≡ drop i s = λ s. drop-drop n (i - w) s ∙ ap (λ (m : ℕ). drop m s) q in
+      join-same n (drop (i - w) a) (drop (i - w) b) (same-true _ _ (sym e ∙ y)) (d a ∙ inv ∙ sym (d b))
+
+  pub before-not : t ≡ false → false ≡ same a b
+  before-not y =
+      sym (fails _ (λ z. both-ways (same-of (ap (λ (s : Bytes). take (i - (i - w)) (drop (i - w) s)) (same-true a b z))) (sym e ∙ y)))
+
+  pub before-rest : (u : Bool) → drop i a ≡ drop i b → t ≡ true → i ≤ w + w → u ≡ same (take w a) (take w b) → u ≡ same a b
+  before-rest u inv y k f = rest-same a b (i - w) w u (before-on inv y) (omega arith) f
+
+-- The first n of the second, by the length of the first.
+pub front-long : (n : ℕ) (a b : Bytes) → length a ≡ length b → n ≤ length a → length (take n b) ≡ n
+front-long n a b e h = length-take-le n b (omega arith)
+
+pub ruleset sames = (same-sized, same-start, same-on, same-not, same-done, block-same, block-more, block-whole, rest-short, before-on, before-not, before-rest, front-long)
 
 -- ---- `part`, `run`, `front`, `after`
 
@@ -134,18 +193,19 @@ module _ (s : List ℕ) (n : ℕ) where
 pub first-is : (b : ℕ) (s r : Bytes) (n : ℕ) → n ≡ span b s → r ≡ take n s → r ≡ take (span b s) s
 first-is b s r n e q = q ∙ ap (λ (m : ℕ). take m s) e
 
-pub first-short : (b : ℕ) (s r : Bytes) (n : ℕ) → n ≡ 0 + span b (drop 0 s) → r ≡ take n s → r ≡ take (span b s) s
-first-short b s r n e q = first-is b s r n (omega arith) q
+pub ruleset parts = (part-out, part-rest, part-in, front-all, after-out, after-in, first-is, length-take-le)
 
-pub ruleset parts = (part-out, part-rest, part-in, front-all, after-out, after-in, first-is, first-short, length-take-le)
-
--- ---- `get`, `put`, `clear`, `copy`
+-- ---- `get`, `put`, `bit_at`, `set_bit`, `clear`, `copy`
 
 pub get-out : (s : List ℕ) (i : ℕ) → length s ≤ i → 0 ≡ getD s i 0
 get-out s i h = sym (List·getD-eq-default s 0 h)
 
 pub put-out : (s : List ℕ) (i v : ℕ) → length s ≤ i → s ≡ set s i v
 put-out s i v h = sym (set-out s i v h)
+
+pub bit-read : (s : List ℕ) (i n : ℕ) → n ≡ getD s (i / 64) 0 → eqb (n / 2 ^ (i % 64) % 2) 1 ≡ bitIn s i
+unfolding bitIn bitAt
+bit-read s i n e = ap (λ (x : ℕ). eqb (x / 2 ^ (i % 64) % 2) 1) e
 
 module _ (s₀ s : List ℕ) (i : ℕ) (inv : s ≡ replicate i 0 ++ drop i s₀) (l : length s ≡ length s₀) where
   pub clear-on : i < length s → set s i 0 ≡ replicate (i + 1) 0 ++ drop (i + 1) s₀
@@ -166,7 +226,7 @@ module _ (d₀ d s : List ℕ) (at k i : ℕ) (inv : sets d₀ at s ≡ sets d k
   pub copy-done : length s ≤ i → d ≡ sets d₀ at s
   copy-done h = sym (inv ∙ simp (drop-end s i h))
 
-pub ruleset stores = (get-out, put-out, clear-on, clear-done, copy-on, copy-full, copy-done)
+pub ruleset stores = (get-out, put-out, bit-read, bit-out, bit-in, clear-on, clear-done, copy-on, copy-full, copy-done)
 
 -- ---- `same_run`
 
@@ -241,13 +301,9 @@ module _ (k x : ℕ) (r : Bool) where
   unfolding classByte choose wordByte plainByte
   class-word h e = e ∙ sym (simp h)
 
-  pub class-digit : k ≡ 3 → r ≡ between 48 57 x → r ≡ classByte k x
-  unfolding classByte choose digitByte
-  class-digit h e = e ∙ sym (simp h)
-
-  pub class-hex : (k ≡ 0 → ⊥) → (k ≡ 1 → ⊥) → (k ≡ 2 → ⊥) → (k ≡ 3 → ⊥) → r ≡ hexByte x → r ≡ classByte k x
+  pub class-hex : (k ≡ 0 → ⊥) → (k ≡ 1 → ⊥) → (k ≡ 2 → ⊥) → r ≡ hexByte x → r ≡ classByte k x
   unfolding classByte choose
-  class-hex a b c d e = e ∙ sym (simp (ne-eqb k 0 a, ne-eqb k 1 b, ne-eqb k 2 c, ne-eqb k 3 d))
+  class-hex a b c e = e ∙ sym (simp (ne-eqb k 0 a, ne-eqb k 1 b, ne-eqb k 2 c))
 
 module _ (x : ℕ) (r : Bool) (e : r ≡ between 48 57 x) where
   pub hex-low : r ≡ true → true ≡ hexByte x
@@ -258,7 +314,7 @@ module _ (x : ℕ) (r : Bool) (e : r ≡ between 48 57 x) where
   unfolding hexByte _or_
   hex-high t y f = f ∙ sym (simp (← e, y))
 
-pub ruleset classes = (under, from, name-upper, name-lower, name-digit, name-other, plain-comma, plain-other, class-name, class-label, class-word, class-digit, class-hex, hex-low, hex-high)
+pub ruleset classes = (under, from, name-upper, name-lower, name-digit, name-other, plain-comma, plain-other, class-name, class-label, class-word, class-hex, hex-low, hex-high)
 
 -- ---- `all_from`, `label_block`, `hex_block`, `block_in`, `all_in`
 
@@ -294,13 +350,13 @@ module _ (f : ℕ → Bool) (s : Bytes) (i : ℕ) (all : Bool) (inv : allBytes f
   unfolding allBytes
   block-done l h = sym (and-ends all) ∙ sym (inv ∙ ap (λ (l : Bytes). all and allBytes f l) (drop-end s i (omega arith)))
 
-hex-class : (k x : ℕ) → 3 < k → hexByte x ≡ classByte k x
+hex-class : (k x : ℕ) → 2 < k → hexByte x ≡ classByte k x
 unfolding classByte choose
 hex-class k x h =
-    let n : (j : ℕ) → j < 4 → eqb k j ≡ false = λ j l. ne-eqb k j (λ e. let z : ⊥ = omega arith in z) in
-    sym (simp (n 0 (omega arith), n 1 (omega arith), n 2 (omega arith), n 3 (omega arith)))
+    let n : (j : ℕ) → j < 3 → eqb k j ≡ false = λ j l. ne-eqb k j (λ e. let z : ⊥ = omega arith in z) in
+    sym (simp (n 0 (omega arith), n 1 (omega arith), n 2 (omega arith)))
 
-hex-all : (k : ℕ) → 3 < k → (s : Bytes) → allBytes hexByte s ≡ allBytes (classByte k) s
+hex-all : (k : ℕ) → 2 < k → (s : Bytes) → allBytes hexByte s ≡ allBytes (classByte k) s
 unfolding allBytes
 hex-all k h [] = refl
 hex-all k h (x ∷ s) = ap₂ (λ (a b : Bool). a and b) (hex-class k x h) (hex-all k h s)
@@ -310,7 +366,7 @@ module _ (k : ℕ) (s : Bytes) (r : Bool) where
   unfolding classByte choose labelByte plainByte
   block-label h e = e ∙ sym (simp h)
 
-  pub block-hex : 3 < k → r ≡ allBytes hexByte s → r ≡ allBytes (classByte k) s
+  pub block-hex : 2 < k → r ≡ allBytes hexByte s → r ≡ allBytes (classByte k) s
   block-hex h e = e ∙ hex-all k h s
 
   pub block-other : r ≡ allBytes (classByte k) (drop 0 s) → r ≡ allBytes (classByte k) s
@@ -322,6 +378,9 @@ unfolding allBytes _and_
 all-part f zero s = refl
 all-part f (suc n) [] = refl
 all-part f (suc n) (x ∷ s) = ap (λ (b : Bool). f x and b) (all-part f n s) ∙ and-assoc (f x) (allBytes f (take n s)) (allBytes f (drop n s))
+
+all-drop : (f : ℕ → Bool) (n : ℕ) (s : Bytes) → allBytes f s ≡ true → allBytes f (drop n s) ≡ true
+all-drop f n s y = and-right _ _ (sym (all-part f n s) ∙ y)
 
 module _ (k : ℕ) (s : Bytes) (i : ℕ) (inv : allBytes (classByte k) s ≡ allBytes (classByte k) (drop i s)) where
   module _ (block : Bytes) (t : Bool) (eb : block ≡ take 16 (drop i s)) (et : t ≡ allBytes (classByte k) block) where
@@ -338,14 +397,29 @@ module _ (k : ℕ) (s : Bytes) (i : ℕ) (inv : allBytes (classByte k) s ≡ all
     unfolding _and_
     parts-not y = sym (parted ∙ ap (λ (b : Bool). b and allBytes (classByte k) (drop (i + 16) s)) y)
 
-  pub parts-done : (t : Bool) → t ≡ allBytes (classByte k) (drop i s) → t ≡ allBytes (classByte k) s
-  parts-done t e = e ∙ sym inv
+  -- The last 16 bytes, where no more are left from the place i on.
+  pub parts-done : (block : Bytes) (t : Bool) → length s - i ≤ 16 → 16 ≤ length s → i ≤ length s → block ≡ take 16 (drop (length s - 16) s) → t ≡ allBytes (classByte k) block
+      → t ≡ allBytes (classByte k) s
+  parts-done block t l g h eb et =
+      let n = length s - 16 in
+      let q : n + (i - n) ≡ i = omega arith in
+      let e : t ≡ allBytes (classByte k) (drop n s) =
+      et ∙ ap (allBytes (classByte k)) (eb ∙ take-all 16 (drop n s) (omega (arith, length-drop n s))) in
+      e ∙ same-test _ _
+      (λ y. inv ∙ ap (λ (m : ℕ). allBytes (classByte k) (drop m s)) (sym q) ∙ ap (allBytes (classByte k)) (sym (drop-drop (i - n) n s)) ∙ all-drop (classByte k) (i - n) (drop n s) y)
+      (λ y. all-drop (classByte k) n s y)
 
 -- A block is 16 bytes long.
 pub block-long : (s block : Bytes) (i : ℕ) → block ≡ take 16 (drop i s) → 16 ≤ length s - i → length block ≡ 16
 block-long s block i e h = ap length e ∙ length-take-le 16 (drop i s) (omega (arith, length-drop i s))
 
-pub ruleset alls = (all-on, all-not, all-done, block-start, block-on, block-done, block-label, block-hex, block-other, parts-on, parts-not, parts-done, block-long)
+pub block-longer : (s block : Bytes) (i : ℕ) → block ≡ take 16 (drop i s) → 16 < length s - i → length block ≡ 16
+block-longer s block i e h = block-long s block i e (omega arith)
+
+pub block-last : (s block : Bytes) → block ≡ take 16 (drop (length s - 16) s) → 16 ≤ length s → length block ≡ 16
+block-last s block e h = block-long s block (length s - 16) e (omega arith)
+
+pub ruleset alls = (all-on, all-not, all-done, block-start, block-on, block-done, block-label, block-hex, block-other, parts-on, parts-not, parts-done, block-long, block-longer, block-last)
 
 -- ---- `sized` and the three that it serves
 
@@ -377,41 +451,6 @@ module _ (s : Bytes) (r : Bool) where
 
 pub ruleset sizes = (sized-none, sized-long, sized-all, sized-name, sized-label, sized-word)
 
--- ---- `is_number`
-
--- A digit that is not 0 is from 1 to 9.
-lead-digit : (d : ℕ) → (d ≡ 48 → ⊥) → digitByte d ≡ between 49 57 d
-unfolding digitByte between _and_
-lead-digit d h =
-    below-or d 48
-    (λ l. simp (lt-leb 48 d l, lt-leb 49 d (omega arith)))
-    (λ l. simp (le-leb 48 d l, le-leb 49 d (omega arith)))
-
-pub number-none : (s : Bytes) → length s < 1 → false ≡ isNumber s
-unfolding isNumber
-number-none [] h = refl
-number-none (d ∷ ds) h = absurd (let z : ⊥ = omega arith in z)
-
-pub number-one : (s : Bytes) (t : Bool) → 1 ≤ length s → length s < 2 → t ≡ allBytes (classByte 3) s → t ≡ isNumber s
-unfolding isNumber allBytes classByte choose
-number-one [] t g h e = absurd (let z : ⊥ = omega arith in z)
-number-one (d ∷ []) t g h e = e ∙ and-ends (digitByte d)
-number-one (d ∷ x ∷ ds) t g h e = absurd (let z : ⊥ = omega arith in z)
-
-pub number-zero : (s : Bytes) → 2 ≤ length s → getD s 0 0 ≡ 48 → false ≡ isNumber s
-unfolding isNumber between _and_
-number-zero [] g h = absurd (let z : ⊥ = omega arith in z)
-number-zero (d ∷ []) g h = absurd (let z : ⊥ = omega arith in z)
-number-zero (d ∷ x ∷ ds) g h = sym (simp h)
-
-pub number-more : (s : Bytes) (t : Bool) → 2 ≤ length s → (getD s 0 0 ≡ 48 → ⊥) → t ≡ allBytes (classByte 3) s → t ≡ isNumber s
-unfolding isNumber allBytes classByte choose
-number-more [] t g h e = absurd (let z : ⊥ = omega arith in z)
-number-more (d ∷ []) t g h e = absurd (let z : ⊥ = omega arith in z)
-number-more (d ∷ x ∷ ds) t g h e = e ∙ ap (λ (u : Bool). u and allBytes digitByte (x ∷ ds)) (lead-digit d h)
-
-pub ruleset numbers = (number-none, number-one, number-zero, number-more)
-
 -- ---- `value`
 
 value-step : (n : ℕ) (s : Bytes) (i : ℕ) → i < length s → valueFrom n (drop i s) ≡ valueFrom (n * 10 + (getD s i 0 - 48)) (drop (i + 1) s)
@@ -428,22 +467,100 @@ unfolding valueFrom
 value-grows [] n = omega arith
 value-grows (d ∷ ds) n = omega (arith, value-grows ds (n * 10 + (d - 48)))
 
-value-capped : (w : ℕ) (ds : Bytes) → 65536 ≤ w → min (valueFrom w ds) 65536 ≡ min (valueFrom 65536 ds) 65536
-value-capped w ds h = omega (arith, value-grows ds w, value-grows ds 65536)
+value-capped : (w : ℕ) (ds : Bytes) → min (valueFrom w ds) 65536 ≡ min (valueFrom (min w 65536) ds) 65536
+value-capped w ds =
+    below-or w 65536
+    (λ h. let q : w ≡ min w 65536 = omega arith in ap (λ (n : ℕ). min (valueFrom n ds) 65536) q)
+    (λ h. let q : 65536 ≡ min w 65536 = omega arith in omega (arith, value-grows ds w, value-grows ds 65536, ap (λ (n : ℕ). valueFrom n ds) q))
+
+-- One digit more.
+value-next : (s : Bytes) (v i w : ℕ) → i < length s → w ≡ min (v * 10 + (getD s i 0 - 48)) 65536 → min (valueFrom v (drop i s)) 65536 ≡ min (valueFrom w (drop (i + 1) s)) 65536
+value-next s v i w h e =
+    ap (λ (n : ℕ). min n 65536) (value-step v s i h) ∙ value-capped (v * 10 + (getD s i 0 - 48)) (drop (i + 1) s)
+    ∙ ap (λ (n : ℕ). min (valueFrom n (drop (i + 1) s)) 65536) (sym e)
 
 module _ (s : Bytes) (v i : ℕ) (inv : min (valueFrom 0 s) 65536 ≡ min (valueFrom v (drop i s)) 65536) where
-  pub value-on : (d w : ℕ) → i < length s → d ≡ getD s i 0 - 48 → w ≡ v * 10 + d → min (valueFrom 0 s) 65536 ≡ min (valueFrom w (drop (i + 1) s)) 65536
-  value-on d w h e f =
-      let q : v * 10 + (getD s i 0 - 48) ≡ w = omega arith in
-      inv ∙ ap (λ (n : ℕ). min n 65536) (value-step v s i h ∙ ap (λ (n : ℕ). valueFrom n (drop (i + 1) s)) q)
-
-  pub value-over : (d w : ℕ) → i < length s → d ≡ getD s i 0 - 48 → w ≡ v * 10 + d → 65536 ≤ w → min (valueFrom 0 s) 65536 ≡ min (valueFrom 65536 (drop (i + 1) s)) 65536
-  value-over d w h e f l = value-on d w h e f ∙ value-capped w (drop (i + 1) s) l
+  pub value-on : (w : ℕ) → i < length s → w ≡ min (v * 10 + (getD s i 0 - 48)) 65536 → min (valueFrom 0 s) 65536 ≡ min (valueFrom w (drop (i + 1) s)) 65536
+  value-on w h e = inv ∙ value-next s v i w h e
 
   pub value-done : length s ≤ i → v ≤ 65536 → v ≡ min (valueFrom 0 s) 65536
   value-done h l = omega (arith, ap (λ (n : ℕ). min n 65536) (value-end v s i h))
 
-pub ruleset values = (value-on, value-over, value-done)
+pub ruleset values = (value-on, value-done)
+
+-- ---- `number`
+
+-- A digit that is not 0 is from 1 to 9.
+lead-digit : (d : ℕ) → (d ≡ 48 → ⊥) → digitByte d ≡ between 49 57 d
+unfolding digitByte between _and_
+lead-digit d h =
+    below-or d 48
+    (λ l. simp (lt-leb 48 d l, lt-leb 49 d (omega arith)))
+    (λ l. simp (le-leb 48 d l, le-leb 49 d (omega arith)))
+
+number-none : (s : Bytes) → length s < 1 → false ≡ isNumber s
+unfolding isNumber
+number-none [] h = refl
+number-none (d ∷ ds) h = absurd (let z : ⊥ = omega arith in z)
+
+-- Where the first is not 0, all bytes are digits.
+digits-only : (s : Bytes) → 1 ≤ length s → (getD s 0 0 ≡ 48 → ⊥) → isNumber s ≡ allBytes digitByte s
+unfolding isNumber allBytes
+digits-only [] g h = absurd (let z : ⊥ = omega arith in z)
+digits-only (d ∷ []) g h = sym (and-ends (digitByte d))
+digits-only (d ∷ x ∷ ds) g h = ap (λ (u : Bool). u and allBytes digitByte (x ∷ ds)) (sym (lead-digit d h))
+
+number-zero : (s : Bytes) → 2 ≤ length s → getD s 0 0 ≡ 48 → false ≡ isNumber s
+unfolding isNumber between _and_
+number-zero [] g h = absurd (let z : ⊥ = omega arith in z)
+number-zero (d ∷ []) g h = absurd (let z : ⊥ = omega arith in z)
+number-zero (d ∷ x ∷ ds) g h = sym (simp h)
+
+abbrev numberOf : Bytes → ℕ
+numberOf s = choose (isNumber s) (min (valueFrom 0 s) 65536) 65537
+
+pub spelled-none : (s : Bytes) → length s < 1 → 65537 ≡ numberOf s
+unfolding choose
+spelled-none s h = ap (λ (t : Bool). choose t (min (valueFrom 0 s) 65536) 65537) (number-none s h)
+
+pub spelled-zeros : (s : Bytes) → getD s 0 0 ≡ 48 → 1 < length s → 65537 ≡ numberOf s
+unfolding choose
+spelled-zeros s h g = ap (λ (t : Bool). choose t (min (valueFrom 0 s) 65536) 65537) (number-zero s g h)
+
+pub spelled-zero : (s : Bytes) → 1 ≤ length s → getD s 0 0 ≡ 48 → length s ≤ 1 → 0 ≡ numberOf s
+unfolding choose isNumber valueFrom digitByte between _and_
+spelled-zero [] g e h = absurd (let z : ⊥ = omega arith in z)
+spelled-zero (d ∷ []) g e h = sym (simp e)
+spelled-zero (d ∷ x ∷ ds) g e h = absurd (let z : ⊥ = omega arith in z)
+
+pub spelled-start : (s : Bytes) → 1 ≤ length s → (getD s 0 0 ≡ 48 → ⊥) → numberOf s ≡ choose (allBytes digitByte s) (min (valueFrom 0 s) 65536) 65537
+spelled-start s g h = ap (λ (t : Bool). choose t (min (valueFrom 0 s) 65536) 65537) (digits-only s g h)
+
+module _ (s : Bytes) (x v i : ℕ) (inv : x ≡ choose (allBytes digitByte (drop i s)) (min (valueFrom v (drop i s)) 65536) 65537) where
+  module _ (t : Bool) (h : i < length s) (e : t ≡ between 48 57 (getD s i 0)) where
+    spelled-step : x ≡ choose (t and allBytes digitByte (drop (i + 1) s)) (min (valueFrom v (drop i s)) 65536) 65537
+    unfolding allBytes digitByte
+    spelled-step =
+        inv ∙ ap (λ (l : Bytes). choose (allBytes digitByte l) (min (valueFrom v (drop i s)) 65536) 65537) (drop-at s i 0 h)
+        ∙ ap (λ (u : Bool). choose (u and allBytes digitByte (drop (i + 1) s)) (min (valueFrom v (drop i s)) 65536) 65537) (sym e)
+
+    pub spelled-not : t ≡ false → 65537 ≡ x
+    unfolding choose _and_
+    spelled-not y = sym (spelled-step ∙ ap (λ (u : Bool). choose (u and allBytes digitByte (drop (i + 1) s)) (min (valueFrom v (drop i s)) 65536) 65537) y)
+
+    pub spelled-on : (w : ℕ) → t ≡ true → w ≡ min (v * 10 + (getD s i 0 - 48)) 65536 → x ≡ choose (allBytes digitByte (drop (i + 1) s)) (min (valueFrom w (drop (i + 1) s)) 65536) 65537
+    unfolding _and_
+    spelled-on w y q =
+        spelled-step
+        ∙ ap₂ (λ (u : Bool) (n : ℕ). choose (u and allBytes digitByte (drop (i + 1) s)) n 65537) y (value-next s v i w h q)
+
+  pub spelled-done : length s ≤ i → v ≤ 65536 → v ≡ x
+  unfolding choose allBytes valueFrom
+  spelled-done h l =
+      let q : v ≡ min v 65536 = omega arith in
+      q ∙ sym (inv ∙ ap (λ (l : Bytes). choose (allBytes digitByte l) (min (valueFrom v l) 65536) 65537) (drop-end s i h))
+
+pub ruleset spelled = (spelled-none, spelled-zeros, spelled-zero, spelled-start, spelled-not, spelled-on, spelled-done)
 
 -- ---- `put_byte`, `put_bytes`, `put_decimal`
 
@@ -483,6 +600,10 @@ module _ (at x : ℕ) (l : at + length (decimal x) < 2 ^ 64) where
   pub room-last : (o o₁ : List ℕ) (r : ℕ) → 10 ≤ x → Puts o at (decimal (x / 10)) r o₁ → r + 1 < 2 ^ 64
   room-last o o₁ r h p = omega (arith, decimal-length x h, p .next)
 
+-- Three digits are more than one.
+pub over-ten : (x : ℕ) → 100 ≤ x → 10 ≤ x
+over-ten x h = omega arith
+
 pub ruleset writes = (byte-past, bytes-none, bytes-room, bytes-on, bytes-done, decimal-one, decimal-on, room-one, room-before, room-last, puts-length)
 
-pub ruleset all = (finds, sames, parts, stores, runs, classes, alls, sizes, numbers, fields, values, writes)
+pub ruleset all = (finds, sames, parts, stores, runs, classes, alls, sizes, fields, values, spelled, writes)

@@ -1,3 +1,4 @@
 pub mod Scans
 pub mod SplitLaws
 pub mod Puts
+pub mod NumberLaws

@@ -5,7 +5,7 @@ use Prim.Native.Nat.{ℕ, suc}
 use lib.Dec.{eqb}
 use lib.ListN.{length}
 use Rattle.laws.specs.Tests.{_and_, isnt, choose}
-use Rattle.rules.specs.Text.{Bytes, between, allBytes, nameByte, labelByte, wordByte, digitByte}
+use Rattle.rules.specs.Text.{Bytes, between, allBytes, nameByte, labelByte, wordByte}
 use Rattle.rules.specs.SuiteFile.{hexByte}
 
 -- How many bytes stand before the first b: all of them, where there is none.
@@ -17,13 +17,12 @@ span b (x ∷ s) = choose (eqb x b) 0 (suc (span b s))
 unfoldable pub plainByte : ℕ → ℕ → Bool
 plainByte a x = between a 126 x and isnt (eqb x 44)
 
--- The byte x is of the class k: 0 of a name, 1 of a label, 2 of a word, 3 a decimal digit, and else a lower-case hexadecimal digit.
+-- The byte x is of the class k: 0 of a name, 1 of a label, 2 of a word, and else a lower-case hexadecimal digit.
 unfoldable pub classByte : ℕ → ℕ → Bool
 classByte k x =
     choose (eqb k 0) (nameByte x)
     (choose (eqb k 1) (labelByte x)
-    (choose (eqb k 2) (wordByte x)
-    (choose (eqb k 3) (digitByte x) (hexByte x))))
+    (choose (eqb k 2) (wordByte x) (hexByte x)))
 
 -- From 1 to `most` bytes, all of the class k.
 unfoldable pub sized : ℕ → ℕ → Bytes → Bool

@@ -92,6 +92,31 @@ module _ (b : ℕ) (s rest : Bytes) (at n : ℕ) (er : rest ≡ drop at s) (e : 
   cut-at f h ef =
       ap (split b) (sym er) ∙ cut b rest f (drop (n + 1) rest) n e h ef refl ∙ ap (λ (r : Bytes). f ∷ split b r) (drop-next s rest at n er)
 
+-- What a function F gives of the pieces, by where the first separators stand: f, a and b are the first pieces, and rest, more and c what stands behind them.
+module _ {A : Type 0} (F : List Bytes → A) (z : ℕ) (s f : Bytes) (ef : f ≡ take (span z s) s) where
+  pub one-piece : (r : A) → length s ≤ length f → r ≡ F (s ∷ []) → r ≡ F (split z s)
+  one-piece r h g = g ∙ sym (ap F (first-last z s f ef h))
+
+  module _ (rest a : Bytes) (h : length f < length s) (er : rest ≡ drop (length f + 1) s) (ea : a ≡ take (span z rest) rest) where
+    pub two-pieces : (r : A) → length rest ≤ length a → (split z s ≡ f ∷ rest ∷ [] → r ≡ F (f ∷ rest ∷ [])) → r ≡ F (split z s)
+    two-pieces r k g = let e : split z s ≡ f ∷ rest ∷ [] = simp (first-more z s f ef rest h er, first-last z rest a ea k) in g e ∙ sym (ap F e)
+
+    module _ (more b : Bytes) (k : length a < length rest) (em : more ≡ drop (length a + 1) rest) (eb : b ≡ take (span z more) more) where
+      pub three-pieces : (r : A) → length more ≤ length b → r ≡ F (f ∷ a ∷ more ∷ []) → r ≡ F (split z s)
+      three-pieces r i g = g ∙ sym (simp (first-more z s f ef rest h er, first-more z rest a ea more k em, first-last z more b eb i))
+
+      module _ (c : Bytes) (i : length b < length more) (ec : c ≡ drop (length b + 1) more) (n : ℕ) (en : n ≡ span z c) where
+        pieces : split z s ≡ f ∷ a ∷ b ∷ split z c
+        pieces = simp (first-more z s f ef rest h er, first-more z rest a ea more k em, first-more z more b eb c i ec)
+
+        pub four-pieces : (r : A) → length c ≤ n → r ≡ F (f ∷ a ∷ b ∷ c ∷ []) → r ≡ F (split z s)
+        four-pieces r j g = g ∙ sym (simp (pieces, uncut z c n en j))
+
+        pub more-pieces : (r : A) → n < length c → ((p q : Bytes) (ps : List Bytes) → r ≡ F (f ∷ a ∷ b ∷ p ∷ q ∷ ps)) → r ≡ F (split z s)
+        more-pieces r j g =
+            let t = split-cons z (drop (n + 1) c) in
+            g (take n c) (t .0) (t .1) ∙ sym (simp (pieces, cut z c (take n c) (drop (n + 1) c) n en j refl refl, t .2))
+
 -- The first piece ends where the first separator stands.
 pub first-piece : (b : ℕ) (s : Bytes) → getD (split b s) 0 [] ≡ take (span b s) s
 first-piece b s =

@@ -3,7 +3,7 @@
 // only that the next place can be counted.
 ghost use mathlib.Core.Path.{_≡_};
 ghost use mathlib.Core.List.{List, _∷_, []};
-ghost use Prim.Native.Nat.{_+_, _-_, _%_, _^_, _≤_, _<_, min};
+ghost use Prim.Native.Nat.{_+_, _-_, _*_, _%_, _^_, _≤_, _<_, min};
 ghost use lib.ListN.{take, drop, getD, set, length, replicate};
 ghost use lib.Seq.{sets};
 ghost use Rattle.rules.specs.Text.{
@@ -20,7 +20,9 @@ ghost use Rattle.rules.specs.Text.{
   split,
   value as valueOf,
 };
-ghost use Rattle.laws.specs.Tests.{has};
+ghost use Rattle.laws.specs.Tests.{choose, has};
+ghost use Rattle.laws.specs.Bits.{bitIn};
+ghost use Rattle.laws.specs.BitSets.{withBit};
 ghost use Rattle.rules.specs.SuiteFile.{hexByte};
 ghost use Rattle.text.specs.Puts.{Puts};
 ghost use Rattle.text.specs.Scans.{classByte, plainByte, sized as isSized, span};
@@ -57,13 +59,18 @@ pub fn find(s: &[u8], b: u8) -> usize
     find_from(s, i, b)
 }
 
-// Whether the two hold the same bytes. The last is compared first: names and labels often differ by a number at their end.
-pub fn same(a: &[u8], b: &[u8]) -> bool
+// The same, byte by byte: the quicker where the first b is not far.
+pub fn find_short(s: &[u8], b: u8) -> usize
+    ensures { λ r. ⌜ r ≡ span b (now (s .entry)) ⌝ }
+{
+    find_from(s, 0, b)
+}
+
+// Whether the two, of one length, hold the same bytes, byte by byte: the last is compared first.
+fn same_short(a: &[u8], b: &[u8]) -> bool
+    requires { ⌜ length (now a) ≡ length (now b) ⌝ }
     ensures { λ r. ⌜ r ≡ sameBytes (now (a .entry)) (now (b .entry)) ⌝ }
 {
-    if a.len() != b.len() {
-        return false;
-    }
     let mut i = a.len();
     while 0 < i {
         let j = i - 1;
@@ -73,6 +80,44 @@ pub fn same(a: &[u8], b: &[u8]) -> bool
         i = j;
     }
     true
+}
+
+// Whether the two, of one length, hold the same bytes, where that is known from i on and 16 are left at most: the last 8 of these, then the
+// first 8, although some may have been compared before.
+fn same_rest(a: &[u8], b: &[u8], i: usize) -> bool
+    requires { ⌜ (length (now a) ≡ length (now b)) × (8 ≤ length (now a)) × (i ≤ length (now a)) × (i ≤ 16) × (drop i (now a) ≡ drop i (now b)) ⌝ }
+    ensures { λ r. ⌜ r ≡ sameBytes (now (a .entry)) (now (b .entry)) ⌝ }
+{
+    if i <= 8 {
+        return same_half(&a[..8], &b[..8]);
+    }
+    let j = i - 8;
+    if same_half(&a[j..i], &b[j..i]) {
+        return same_half(&a[..8], &b[..8]);
+    }
+    false
+}
+
+// Whether the two hold the same bytes. The last are compared first: names and labels often differ by a number at their end.
+pub fn same(a: &[u8], b: &[u8]) -> bool
+    ensures { λ r. ⌜ r ≡ sameBytes (now (a .entry)) (now (b .entry)) ⌝ }
+{
+    if a.len() != b.len() {
+        return false;
+    }
+    if a.len() < 8 {
+        return same_short(a, b);
+    }
+    let mut i = a.len();
+    while 16 < i {
+        let j = i - 16;
+        if same_block(&a[j..i], &b[j..i]) {
+            i = j;
+        } else {
+            return false;
+        }
+    }
+    same_rest(a, b, i)
 }
 
 // The part of s from start, len bytes long, cut at the end of s.
@@ -125,6 +170,27 @@ pub fn put(s: &mut [usize], i: usize, v: usize)
 {
     if i < s.len() {
         s[i] = v;
+    }
+}
+
+// Whether the bit i of the words is set.
+pub fn bit_at(s: &[usize], i: usize) -> bool
+    ensures { λ r. ⌜ r ≡ bitIn (now (s .entry)) i ⌝ }
+{
+    let word = get(s, i / 64);
+    let shift = i % 64;
+    (word >> shift) % 2 == 1
+}
+
+// Sets the bit i of the words.
+pub fn set_bit(s: &mut [usize], i: usize)
+    ensures { λ _. ⌜ now (s .exit) ≡ withBit (now (s .entry)) i ⌝ }
+{
+    let k = i / 64;
+    let shift = i % 64;
+    if k < s.len() {
+        let bit: usize = 1 << shift;
+        s[k] = s[k] | bit;
     }
 }
 
@@ -287,7 +353,7 @@ fn hex_byte(x: u8) -> bool
     between(97, 102, x)
 }
 
-// Whether x is of the class k: 0 of a name, 1 of a label, 2 of a word, 3 a decimal digit, else a lower-case hexadecimal digit.
+// Whether x is of the class k: 0 of a name, 1 of a label, 2 of a word, else a lower-case hexadecimal digit.
 fn in_class(k: u8, x: u8) -> bool
     ensures { λ r. ⌜ r ≡ classByte k x ⌝ }
 {
@@ -299,9 +365,6 @@ fn in_class(k: u8, x: u8) -> bool
     }
     if k == 2 {
         return plain_byte(33, x);
-    }
-    if k == 3 {
-        return between(48, 57, x);
     }
     hex_byte(x)
 }
@@ -335,6 +398,34 @@ fn block_has(block: &[u8], b: u8) -> bool
         i += 1;
     }
     hit
+}
+
+// Whether two blocks hold the same bytes.
+fn same_block(a: &[u8], b: &[u8]) -> bool
+    requires { ⌜ (length (now a) ≡ 16) × (length (now b) ≡ 16) ⌝ }
+    ensures { λ r. ⌜ r ≡ sameBytes (now (a .entry)) (now (b .entry)) ⌝ }
+{
+    let mut all = true;
+    let mut i = 0;
+    while i < 16 {
+        all = all & (a[i] == b[i]);
+        i += 1;
+    }
+    all
+}
+
+// The same of half a block.
+fn same_half(a: &[u8], b: &[u8]) -> bool
+    requires { ⌜ (length (now a) ≡ 8) × (length (now b) ≡ 8) ⌝ }
+    ensures { λ r. ⌜ r ≡ sameBytes (now (a .entry)) (now (b .entry)) ⌝ }
+{
+    let mut all = true;
+    let mut i = 0;
+    while i < 8 {
+        all = all & (a[i] == b[i]);
+        i += 1;
+    }
+    all
 }
 
 // Whether the bytes of a block are all of a label.
@@ -373,25 +464,28 @@ fn block_in(k: u8, block: &[u8]) -> bool
     if k == 1 {
         return label_block(block);
     }
-    if 3 < k {
+    if 2 < k {
         return hex_block(block);
     }
     all_from(k, block, 0)
 }
 
-// Whether every byte is of the class k.
+// Whether every byte is of the class k. The last 16 are looked at whole, although some may have been looked at before.
 pub fn all_in(k: u8, s: &[u8]) -> bool
     ensures { λ r. ⌜ r ≡ allBytes (classByte k) (now (s .entry)) ⌝ }
 {
+    if s.len() < 16 {
+        return all_from(k, s, 0);
+    }
     let mut i = 0;
-    while 16 <= s.len() - i {
+    while 16 < s.len() - i {
         if block_in(k, part(s, i, 16)) {
             i += 16;
         } else {
             return false;
         }
     }
-    all_from(k, s, i)
+    block_in(k, part(s, s.len() - 16, 16))
 }
 
 // Whether there are from 1 to `most` bytes, all of the class k.
@@ -431,22 +525,6 @@ pub fn is_word(s: &[u8]) -> bool
     sized(2, 8, s)
 }
 
-// Whether the bytes are a number: digits, of which the first is 0 only where it is the only one.
-pub fn is_number(s: &[u8]) -> bool
-    ensures { λ r. ⌜ r ≡ isNumber (now (s .entry)) ⌝ }
-{
-    if s.len() < 1 {
-        return false;
-    }
-    if s.len() < 2 {
-        return all_from(3, s, 0);
-    }
-    if s[0] == 48 {
-        return false;
-    }
-    all_from(3, s, 0)
-}
-
 // What stands before the first b: the first field between the bytes b.
 pub fn first(s: &[u8], b: u8) -> &[u8]
     ensures { λ r. ⌜ now r ≡ take (span b (now (s .entry))) (now (s .entry)) ⌝ }
@@ -458,7 +536,7 @@ pub fn first(s: &[u8], b: u8) -> &[u8]
 pub fn first_short(s: &[u8], b: u8) -> &[u8]
     ensures { λ r. ⌜ now r ≡ take (span b (now (s .entry))) (now (s .entry)) ⌝ }
 {
-    front(s, find_from(s, 0, b))
+    front(s, find_short(s, b))
 }
 
 // The field k between the bytes b, empty where there are not so many.
@@ -492,6 +570,18 @@ fn digit(b: u8) -> usize
     0
 }
 
+// v with the digit b behind it, or 65536 where that is more.
+fn with_digit(v: usize, b: u8) -> usize
+    requires { ⌜ v ≤ 65536 ⌝ }
+    ensures { λ r. ⌜ r ≡ min (v * 10 + (b - 48)) 65536 ⌝ }
+{
+    let w = v * 10 + digit(b);
+    if w < 65536 {
+        return w;
+    }
+    65536
+}
+
 // The number that the digits spell, or 65536 where it is more.
 pub fn value(s: &[u8]) -> usize
     ensures { λ r. ⌜ r ≡ min (valueOf (now (s .entry))) 65536 ⌝ }
@@ -499,14 +589,35 @@ pub fn value(s: &[u8]) -> usize
     let mut v: usize = 0;
     let mut i = 0;
     while i < s.len() {
-        let d = digit(s[i]);
-        let w = v * 10 + d;
-        if w < 65536 {
-            v = w;
+        v = with_digit(v, s[i]);
+        i += 1;
+    }
+    v
+}
+
+// The number that the bytes are, or 65536 where it is more; 65537 where they are no number: digits, of which the first is 0 only where it is
+// the only one.
+pub fn number(s: &[u8]) -> usize
+    ensures { λ r. ⌜ r ≡ choose (isNumber (now (s .entry))) (min (valueOf (now (s .entry))) 65536) 65537 ⌝ }
+{
+    if s.len() < 1 {
+        return 65537;
+    }
+    if s[0] == 48 {
+        if 1 < s.len() {
+            return 65537;
+        }
+        return 0;
+    }
+    let mut v: usize = 0;
+    let mut i = 0;
+    while i < s.len() {
+        let b = s[i];
+        if between(48, 57, b) {
+            v = with_digit(v, b);
             i += 1;
         } else {
-            v = 65536;
-            i += 1;
+            return 65537;
         }
     }
     v
@@ -545,14 +656,57 @@ fn last_digit(x: usize) -> u8
     48 + (x % 10) as u8
 }
 
-// Stores x in decimal from the place `at` on, as far as out goes; the place behind it.
+// Stores x, one digit, at the place `at`, if that is inside out; the next place either way.
+fn put_one(out: &mut [u8], at: usize, x: usize) -> usize
+    requires { ⌜ (x < 10) × (at + length (decimal x) < 2 ^ 64) ⌝ }
+    ensures { λ r. ⌜ Puts (now (out .entry)) at (decimal x) r (now (out .exit)) ⌝ }
+{
+    put_byte(out, at, last_digit(x))
+}
+
+// Stores x, two digits.
+fn put_two(out: &mut [u8], at: usize, x: usize) -> usize
+    requires { ⌜ (10 ≤ x) × (x < 100) × (at + length (decimal x) < 2 ^ 64) ⌝ }
+    ensures { λ r. ⌜ Puts (now (out .entry)) at (decimal x) r (now (out .exit)) ⌝ }
+{
+    let next = put_one(out, at, x / 10);
+    put_byte(out, next, last_digit(x))
+}
+
+// Stores x, three digits.
+fn put_three(out: &mut [u8], at: usize, x: usize) -> usize
+    requires { ⌜ (100 ≤ x) × (x < 1000) × (at + length (decimal x) < 2 ^ 64) ⌝ }
+    ensures { λ r. ⌜ Puts (now (out .entry)) at (decimal x) r (now (out .exit)) ⌝ }
+{
+    let next = put_two(out, at, x / 10);
+    put_byte(out, next, last_digit(x))
+}
+
+// Stores x, any number of digits.
+fn put_digits(out: &mut [u8], at: usize, x: usize) -> usize
+    requires { ⌜ at + length (decimal x) < 2 ^ 64 ⌝ }
+    ensures { λ r. ⌜ Puts (now (out .entry)) at (decimal x) r (now (out .exit)) ⌝ }
+{
+    if x < 10 {
+        return put_one(out, at, x);
+    }
+    let next = put_digits(out, at, x / 10);
+    put_byte(out, next, last_digit(x))
+}
+
+// Stores x in decimal from the place `at` on, as far as out goes; the place behind it. Few numbers have more than three digits.
 pub fn put_decimal(out: &mut [u8], at: usize, x: usize) -> usize
     requires { ⌜ at + length (decimal x) < 2 ^ 64 ⌝ }
     ensures { λ r. ⌜ Puts (now (out .entry)) at (decimal x) r (now (out .exit)) ⌝ }
 {
     if x < 10 {
-        return put_byte(out, at, last_digit(x));
+        return put_one(out, at, x);
     }
-    let next = put_decimal(out, at, x / 10);
-    put_byte(out, next, last_digit(x))
+    if x < 100 {
+        return put_two(out, at, x);
+    }
+    if x < 1000 {
+        return put_three(out, at, x);
+    }
+    put_digits(out, at, x)
 }

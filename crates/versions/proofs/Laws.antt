@@ -10,7 +10,7 @@ use borrow.Author.Tests.{eqb-true, eq-eqb, ne-eqb}
 use Rattle.laws.specs.Tests.{_and_, _⇒_, found, listed}
 use Rattle.laws.specs.TestLaws.{and-both, and-left, and-right, both-ways, fails}
 use Rattle.rules.specs.Text.{Bytes, same}
-use Rattle.rules.specs.Graph.{C, Kind, E, S, X, called, calleeAt, edgeCount, edgeTaken, entry, exit, filled, kindAt, kindNumber, labelAt, nodeCount, sameKind, sourceAt}
+use Rattle.rules.specs.Graph.{C, Kind, E, S, X, called, calleeAt, edgeCount, entry, exit, filled, kindAt, kindNumber, labelAt, nodeCount, sameKind, sourceAt, wordAt}
 use Rattle.rules.specs.Closing.{alike, bothCall, goesOn, sameCallee, sameLabel, sameWord}
 use Rattle.rules.specs.ProgramFile.{Listing}
 use Rattle.rules.specs.Proofs.ClosingLaws.{alike-parts, bare-callees, same-word, sameCallee-is, sameLabel-is, taken-same}
@@ -21,7 +21,7 @@ use Rattle.graph.specs.Lookups.{EdgeTaken}
 use Rattle.graph.specs.Reads.{partAt, past, part-past}
 use Rattle.pairset.specs.Store.{Has, pairsIn}
 use Rattle.versions.specs.Memory.{InMemory, memory}
-use Rattle.versions.specs.MemoryLaws.{kind-is, label-is, callee-is, name-is, entry-is, exit-is, word-is, edges-in, well-formed}
+use Rattle.versions.specs.MemoryLaws.{kind-is, label-is, callee-is, name-is, entry-is, exit-is, key-is, edges-in, sound, well-formed}
 use Rattle.versions.specs.Found.{found-at}
 use Rattle.versions.specs.Claims.{Alike, BothCall, Entered, GoesOn, Taken}
 
@@ -53,10 +53,7 @@ module _ (t : List ℕ) (i : ℕ) (h : length t ≤ i) where
     pub name-past : r ≡ partAt text t (procBase i)
     name-past = e ∙ part-past text t i (procBase i) h (omega arith)
 
-    pub word-past : r ≡ partAt text t (edgeBase i + 1)
-    word-past = e ∙ part-past text t i (edgeBase i + 1) h (omega arith)
-
-pub ruleset reads = (kind-past, callee-past, entry-past, exit-past, source-past, target-past, label-past, name-past, word-past)
+pub ruleset reads = (kind-past, callee-past, entry-past, exit-past, source-past, target-past, label-past, name-past)
 
 -- ---- `same_label`, `same_name`
 
@@ -136,20 +133,19 @@ pub ruleset alikes = (alike-kinds, alike-labels, alike-bare, alike-calls)
 
 -- ---- `taken`
 
-pub taken-is : (ot ol nt nl word : List ℕ) (e m r : ℕ) → word ≡ partAt ot ol (edgeBase e + 1) → EdgeTaken nt nl m word r → Taken ot ol nt nl e m r
+pub taken-is : (ol nl : List ℕ) (k e m r : ℕ) → k ≡ getD ol (edgeBase e + 2) 0 → EdgeTaken nl m k r → Taken ol nl e m r
 unfolding Taken EdgeTaken
-taken-is ot ol nt nl word e m r ew t on nn o p h g i j =
-    t p (edges-in _ p g) j
-    ∙ ap found (ap (λ (x : Bytes). edgeTaken (p .program) m x) (ew ∙ word-is _ o h e i) ∙ taken-same (o .program) (p .program) e m)
+taken-is ol nl k e m r ek t ot on nt nn o p h g i j =
+    t p (wordAt (o .program) e) (edges-in _ p g) j (sound _ o h .wordForms e i) (ek ∙ key-is _ o h e i) ∙ ap found (taken-same (o .program) (p .program) e m)
 
-module _ (ot on ol nt nn nl : List ℕ) (e m t : ℕ) (et : Taken ot ol nt nl e m t) (d : t ≡ 0 → ⊥) where
+module _ (ot on ol nt nn nl : List ℕ) (e m t : ℕ) (et : Taken ol nl e m t) (d : t ≡ 0 → ⊥) where
   -- The edge taken is one of the new node with the word of the old edge, and there is no other.
   pub one-taken : (o p : Listing) → InMemory (memory ot on ol) o → InMemory (memory nt nn nl) p → e < edgeCount (o .program) → m < nodeCount (p .program)
       → (t - 1 < edgeCount (p .program)) × (sourceAt (p .program) (t - 1) ≡ m) × (sameWord (o .program) (p .program) e (t - 1) ≡ true)
       × ((f : ℕ) → f < edgeCount (p .program) → sourceAt (p .program) f ≡ m → sameWord (o .program) (p .program) e f ≡ true → f ≡ t - 1)
   unfolding Taken
   one-taken o p h g i j =
-      let q = et on nn o p h g i j in
+      let q = et ot on nt nn o p h g i j in
       let r = found-at (λ f. eqb (sourceAt (p .program) f) m and sameWord (o .program) (p .program) e f) (edgeCount (p .program)) (omega arith) in
       let l : t - 1 < edgeCount (p .program) = omega (arith, r .0) in
       let y : (eqb (sourceAt (p .program) (t - 1)) m and sameWord (o .program) (p .program) e (t - 1)) ≡ true

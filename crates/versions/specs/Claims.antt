@@ -18,9 +18,9 @@ Alike v v′ n m r =
     (o p : Listing) → InMemory v o → InMemory v′ p → n < nodeCount (o .program) → m < nodeCount (p .program) → r ≡ alike (o .program) (p .program) n m
 
 -- `taken`: 1 + the edge that the new node m takes for the word of the old edge e, or 0.
-unfoldable pub Taken : Bytes → List ℕ → Bytes → List ℕ → ℕ → ℕ → ℕ → Type 0
-Taken ot ol nt nl e m r =
-    (on nn : List ℕ) (o p : Listing) → InMemory (memory ot on ol) o → InMemory (memory nt nn nl) p → e < edgeCount (o .program) → m < nodeCount (p .program)
+unfoldable pub Taken : List ℕ → List ℕ → ℕ → ℕ → ℕ → Type 0
+Taken ol nl e m r =
+    (ot on nt nn : List ℕ) (o p : Listing) → InMemory (memory ot on ol) o → InMemory (memory nt nn nl) p → e < edgeCount (o .program) → m < nodeCount (p .program)
     → r ≡ found (first (edgeCount (p .program)) (λ f. eqb (sourceAt (p .program) f) m and sameWord (o .program) (p .program) e f))
 
 -- `both_call`: both nodes are calls.

@@ -1,11 +1,11 @@
 -- What `found` says of the first number that passes: 0 where none does, and else 1 + it.
 use mathlib.Core.Path.{_≡_, refl}
-use mathlib.Core.Bool.{Bool, true, false}
+use mathlib.Core.Bool.{Bool, true}
 use mathlib.Core.Option.{Option, none, some}
 use Prim.Native.Nat.{ℕ, _-_, _<_}
 use native.Mathlib.Omega.{arith}
-use Rattle.laws.specs.Tests.{any, first, found}
-use Rattle.laws.specs.TestLaws.{any-at, any-of, fails, first-at, first-none}
+use Rattle.laws.specs.Tests.{first, found}
+use Rattle.laws.specs.TestLaws.{first-at, first-none}
 
 module _ (f : ℕ → Bool) (n : ℕ) where
   -- One is found: it is below n and passes.
@@ -19,9 +19,6 @@ module _ (f : ℕ → Bool) (n : ℕ) where
           let q : i ≡ found (some i) - 1 = omega arith in
           rw (← q) (r .0, r .1)
 
-  pub found-any : 0 < found (first n f) → any n f ≡ true
-  found-any h = let r = found-at h in any-of f n _ (r .0) (r .1)
-
   -- None is found.
   pub found-none : found (first n f) ≡ 0 → (i : ℕ) → i < n → f i ≡ true → ⊥
   found-none h i l p = go (first n f) refl h
@@ -30,10 +27,7 @@ module _ (f : ℕ → Bool) (n : ℕ) where
       go none e z = first-none f n e i l p
       go (some j) e z = omega arith
 
-  pub found-not : found (first n f) ≡ 0 → any n f ≡ false
-  found-not h = fails _ (λ t. let r = any-at f n t in found-none h (r .0) (r .1) (r .2))
-
-  -- None passes: 0 is found. One passes and no other: it is found.
+  -- None passes: 0 is found.
   pub none-found : ((i : ℕ) → i < n → f i ≡ true → ⊥) → found (first n f) ≡ 0
   none-found h = go (first n f) refl
     where

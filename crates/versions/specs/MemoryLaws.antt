@@ -16,6 +16,7 @@ use Rattle.rules.specs.Proofs.Places.{listing-placed, part-is}
 use Rattle.rules.specs.Proofs.ProgramLaws.{Sound, read-sound, read-well-formed}
 use Rattle.rules.specs.Proofs.TextLaws.{then-passes}
 use Rattle.graph.specs.Table.{edgeBase, headBase, nodeBase, procBase}
+use Rattle.graph.specs.Keys.{wordKey}
 use Rattle.graph.specs.Lookups.{Edges, in-table}
 use Rattle.graph.specs.Reads.{partAt, upTo}
 use Rattle.reader.specs.declared.Count.{Count}
@@ -78,11 +79,8 @@ module _ (m : Memory) (s : Listing) (h : InMemory m s) where
     pub source-is : getD (m .links) (edgeBase e) 0 ≡ sourceAt (s .program) e
     source-is = ap (λ (k : ℕ). getD (m .links) k 0) (sym (add-zero (edgeBase e))) ∙ h .edges e l 0 (omega arith)
 
-    pub word-is : partAt (m .text) (m .links) (edgeBase e + 1) ≡ wordAt (s .program) e
-    unfolding partAt
-    word-is =
-        ap₂ (λ (a b : ℕ). take a (drop b (m .text))) (ap (λ (k : ℕ). getD (m .links) k 0) (add-assoc (edgeBase e) 1 1) ∙ h .edges e l 2 (omega arith)) (h .edges e l 1 (omega arith))
-        ∙ part-is (m .text) _ _ (placed .words .parts e l)
+    pub key-is : getD (m .links) (edgeBase e + 2) 0 ≡ wordKey (wordAt (s .program) e)
+    key-is = h .edges e l 2 (omega arith)
 
     pub target-is : getD (m .links) (edgeBase e + 3) 0 ≡ targetAt (s .program) e
     target-is = h .edges e l 3 (omega arith)
@@ -98,12 +96,12 @@ module _ (m : Memory) (s : Listing) (h : InMemory m s) where
       record { top = h .heads; link = λ e l. choose-yes _ 0 (le-leb _ e (link-le raw e l)) ∙ h .edges e l 4 (omega arith) }
 
   -- What the look-ups of edges by a word ask.
-  pub edges-in : Edges (m .text) (in-table (m .links)) s
+  pub edges-in : Edges (in-table (m .links)) s
   edges-in =
       record {
         sources = well-formed .sources;
         rows = h .edges;
         heads = h .heads;
-        words = placed .words .parts;
+        words = sound .wordForms;
         once = well-formed .words;
       }

@@ -81,16 +81,6 @@ pub fn source(links: &[usize], e: usize) -> usize
     text::get(links, 448 + 5 * e)
 }
 
-// The word of the edge e.
-pub fn word<'a>(text: &'a [u8], links: &[usize], e: usize) -> &'a [u8]
-    ensures { λ r. ⌜ now r ≡ partAt (now (text .entry)) (now (links .entry)) (edgeBase e + 1) ⌝ }
-{
-    if links.len() <= e {
-        return graph::part_at(text, links, e);
-    }
-    graph::part_at(text, links, 448 + 5 * e + 1)
-}
-
 // The node that the edge e ends on.
 pub fn target(links: &[usize], e: usize) -> usize
     ensures { λ r. ⌜ r ≡ getD (now (links .entry)) (edgeBase e + 3) 0 ⌝ }
@@ -165,11 +155,11 @@ pub fn alike(
 }
 
 // 1 + the edge that the new node m takes for the word of the old edge e, or 0.
-pub fn taken(ot: &[u8], ol: &[usize], nt: &[u8], nl: &[usize], e: usize, m: usize) -> usize
-    ensures { λ r. ⌜ Taken (now (ot .entry)) (now (ol .entry)) (now (nt .entry)) (now (nl .entry)) e m r ⌝ }
+pub fn taken(ol: &[usize], nl: &[usize], e: usize, m: usize) -> usize
+    ensures { λ r. ⌜ Taken (now (ol .entry)) (now (nl .entry)) e m r ⌝ }
 {
-    let w = word(ot, ol, e);
-    graph::edge_taken(nt, nl, m, w)
+    let key = graph::word_key(ol, e);
+    graph::edge_taken(nl, m, key)
 }
 
 // Whether the old node n and the new node m are calls.

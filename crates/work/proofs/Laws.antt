@@ -13,8 +13,10 @@ use Rattle.rules.specs.Graph.{Program, edgeCount}
 use Rattle.rules.specs.ProgramFile.{Listing}
 use Rattle.rules.specs.SuiteFile.{coverageAt, readTests, testCount}
 use Rattle.rules.specs.Closing.{pairs}
-use Rattle.rules.specs.Job.{Given, Outcome, outputAfter, recordBytes, refusal, sheetBytes, writing}
+use Rattle.rules.specs.Job.{Given, recordBytes, refusal, sheetBytes, writing}
 use Rattle.rules.specs.Proofs.ReadBack.{selected-short}
+use Rattle.answer.specs.declared.Answer.{Answer}
+use Rattle.answer.specs.Outcomes.{Told, refusal-told, told-as}
 use Rattle.versions.specs.Memory.{InMemory, Memory}
 use Rattle.versions.specs.MemoryLaws.{sound}
 use Rattle.closure.specs.Claims.{Closes, Found, Sized}
@@ -23,8 +25,7 @@ use Rattle.selection.specs.Marks.{Finds, MarksFound}
 use Rattle.selection.specs.MarkLaws.{marks-front}
 use Rattle.suite.specs.Rows.{Holds}
 use Rattle.suite.specs.RowLaws.{suite-read}
-use Rattle.writer.specs.declared.Answer.{Answer}
-use Rattle.writer.specs.Sheets.{RecordWrites, RecordWritten, SheetWrites, SheetWritten, Told, selection, writing-written}
+use Rattle.writer.specs.Sheets.{RecordWrites, RecordWritten, SheetWrites, SheetWritten, selection, writing-written}
 use Rattle.writer.specs.Sheets as writer
 use Rattle.intake.specs.declared.Texts.{Texts}
 use Rattle.intake.specs.Ready.{Few, Ready}
@@ -32,16 +33,16 @@ use Rattle.work.specs.Work.{Chosen, Done, RecordDone, RecordFrom, Select
 
 -- ---- `select`
 
-module _ (v v′ : Memory) (edges : ℕ) (w w′ : List ℕ) (c : ℕ) (h : Sized w w′ (Closes v v′ 4096 w w′ c)) where
-  found : (o p : Listing) → InMemory v o → InMemory v′ p → 16896 ≤ length w → Found (o .program) (p .program) 4096 w′ c
+module _ (v v′ : Memory) (w w′ : List ℕ) (c : ℕ) (h : Sized w w′ (Closes v v′ 4096 w w′ c)) where
+  found : (o p : Listing) → InMemory v o → InMemory v′ p → 16912 ≤ length w → Found (o .program) (p .program) 4096 w′ c
   unfolding Closes
   found o p io ip l = h .claim o p io ip (omega arith)
 
-  pub select-many : (set : List ℕ) → 4096 < c → Selected v v′ edges w w′ set set c
+  pub select-many : (set : List ℕ) → 4096 < c → Selected v v′ w w′ set set c
   unfolding Selects
   select-many set m =
       record {
-        selects = λ o p io ip e l k. record {
+        selects = λ o p io ip l k. record {
           answer = found o p io ip l .answer;
           held = λ f. absurd (let z : ⊥ = omega arith in z);
           marked = λ f. absurd (let z : ⊥ = omega arith in z);
@@ -50,25 +51,18 @@ module _ (v v′ : Memory) (edges : ℕ) (w w′ : List ℕ) (c : ℕ) (h : Size
         set-size = refl;
       }
 
-  pub select-few : (set set′ : List ℕ) → c ≤ 4096 → DangersMarked v v′ w′ edges set set′ → Selected v v′ edges w w′ set set′ c
+  pub select-few : (set set′ : List ℕ) → c ≤ 4096 → DangersMarked w′ set set′ → Selected v v′ w w′ set set′ c
   unfolding Selects Marks
   select-few set set′ m d =
       record {
-        selects = λ o p io ip e l k.
+        selects = λ o p io ip l k.
             let f = found o p io ip l in
-            record { answer = f .answer; held = f .held; marked = λ n. d .marks o p c (record { old-in = io; new-in = ip; held = f .held m }) e k };
+            record { answer = f .answer; held = f .held; marked = λ n. d .marks (o .program) (p .program) (f .marked m) k };
         size = h .size;
         set-size = d .size;
       }
 
 -- ---- answers
-
-refusal-told : (k q : ℕ) (out : Bytes) → Told (refusal k q) (record { number = k; place = q }) out out
-unfolding outputAfter
-refusal-told k q out = record { numbered = refl; placed = refl; output = refl }
-
-told-as : {x y : Outcome} {r : Answer} {out out′ : Bytes} → x ≡ y → Told y r out out′ → Told x r out out′
-told-as {r = r} {out = out} {out′ = out′} e t = subst (λ (z : Outcome). Told z r out out′) (sym e) t
 
 -- More than 4,096 pairs: 15.
 too-many : (old new : Program) (w set : List ℕ) (c : ℕ) → Chosen old new w set c → 4096 < c → maxPairs < length (pairs old new)
@@ -91,10 +85,10 @@ module _ (v v′ : Memory) (tt tests rows : List ℕ) (had : Texts) (w : List �
   abbrev giving : (g : Given) → Ready v v′ tt tests rows had g → Given
   giving g y = record { old = y .o .program; new = y .p .program; suite = y .l .suite }
 
-  chosen : (w′ set set′ : List ℕ) (c : ℕ) → Selected v v′ (had .«old_edges») w w′ set set′ c → length set ≡ 16 → (g : Given) (y : Ready v v′ tt tests rows had g) → 16896 ≤ length w
+  chosen : (w′ set set′ : List ℕ) (c : ℕ) → Selected v v′ w w′ set set′ c → length set ≡ 16 → (g : Given) (y : Ready v v′ tt tests rows had g) → 16912 ≤ length w
       → Chosen (y .o .program) (y .p .program) w′ set′ c
   unfolding Selects
-  chosen w′ set set′ c s k g y l = s .selects (y .o) (y .p) (y .old-in) (y .new-in) (y .old-edges-n) l (omega arith)
+  chosen w′ set set′ c s k g y l = s .selects (y .o) (y .p) (y .old-in) (y .new-in) l (omega arith)
 
   held-few : (g : Given) (y : Ready v v′ tt tests rows had g) (w′ set′ : List ℕ) (c : ℕ) → Chosen (y .o .program) (y .p .program) w′ set′ c → c ≤ 4096
       → length (pairs (y .o .program) (y .p .program)) ≤ maxPairs
@@ -102,7 +96,7 @@ module _ (v v′ : Memory) (tt tests rows : List ℕ) (had : Texts) (w : List �
 
   -- ---- `write_sheet`
 
-  pub sheet-many : (w′ set set′ : List ℕ) (c : ℕ) → Selected v v′ (had .«old_edges») w w′ set set′ c → length set ≡ 16 → 4096 < c
+  pub sheet-many : (w′ set set′ : List ℕ) (c : ℕ) → Selected v v′ w w′ set set′ c → length set ≡ 16 → 4096 < c
       → Done w w′ out out (SheetDone v v′ tt tests rows had w out (record { number = 15; place = 0 }) out)
   unfolding SheetDone
   sheet-many w′ set set′ c s k m =
@@ -115,7 +109,7 @@ module _ (v v′ : Memory) (tt tests rows : List ℕ) (had : Texts) (w : List �
         room = refl;
       }
 
-  pub sheet-few : (w′ set set′ : List ℕ) (c : ℕ) → Selected v v′ (had .«old_edges») w w′ set set′ c → length set ≡ 16 → c ≤ 4096 → (r : Answer) (out′ : Bytes)
+  pub sheet-few : (w′ set set′ : List ℕ) (c : ℕ) → Selected v v′ w w′ set set′ c → length set ≡ 16 → c ≤ 4096 → (r : Answer) (out′ : Bytes)
       → SheetWritten (selection w′ c (had .«old_nodes») (had .«new_nodes») set′ (had .«old_edges») tt tests rows (had .tests)) out r out′
       → Done w w′ out out′ (SheetDone v v′ tt tests rows had w out r out′)
   unfolding SheetDone SheetWrites sheetBytes
@@ -144,7 +138,7 @@ module _ (v v′ : Memory) (tt tests rows : List ℕ) (had : Texts) (w : List �
   -- ---- `record_from`
 
   pub record-put : (set marks marks′ : List ℕ) (i : ℕ) (again : Bool) (r : Answer) (out′ : Bytes) → Few had → Repeats rows i set again → length marks ≡ 1024
-      → MarksFound v v′ w rows i (had .«old_edges») (had .«new_edges») again marks marks′ → RecordWritten tt tests rows i marks′ (had .«new_edges») out r out′
+      → MarksFound (v .nodes) (v .links) (v′ .nodes) (v′ .links) w rows i (had .«old_edges») (had .«new_edges») again marks marks′ → RecordWritten tt tests rows i marks′ (had .«new_edges») out r out′
       → Done w w out out′ (RecordFrom v v′ tt tests rows had i w set out r out′)
   unfolding RecordFrom Repeats Finds RecordWrites recordBytes
   record-put set marks marks′ i again r out′ few rep long f h =
@@ -158,7 +152,7 @@ module _ (v v′ : Memory) (tt tests rows : List ℕ) (had : Texts) (w : List �
             let few-new : edgeCount new ≤ 1024 = omega (arith, y .new-edges-n, few .few-new-edges) in
             let row = y .tests-in .row i below in
             let meets-is = rep old new coverage few-old row (x .marked m) in
-            let found = f .finds (y .o) (y .p) c coverage (record { old-in = y .old-in; new-in = y .new-in; held = x .held m }) row (y .old-edges-n) (y .new-edges-n) meets-is (omega arith) in
+            let found = f .finds (y .o) (y .p) c coverage (record { old-text = v .text; new-text = v′ .text; old-in = y .old-in; new-in = y .new-in; held = x .held m }) row (y .old-edges-n) (y .new-edges-n) meets-is (omega arith) in
             let t = h .writes old new (y .l)
             (record {
               few = few-old;
@@ -187,7 +181,7 @@ module _ (v v′ : Memory) (tt tests rows : List ℕ) (had : Texts) (w : List �
         room = refl;
       }
 
-  pub record-many : (w′ set set′ : List ℕ) (c i : ℕ) → i < had .tests → Selected v v′ (had .«old_edges») w w′ set set′ c → length set ≡ 16 → 4096 < c
+  pub record-many : (w′ set set′ : List ℕ) (c i : ℕ) → i < had .tests → Selected v v′ w w′ set set′ c → length set ≡ 16 → 4096 < c
       → Done w w′ out out (RecordDone v v′ tt tests rows had i w out (record { number = 15; place = 0 }) out)
   unfolding RecordDone
   record-many w′ set set′ c i below s k m =
@@ -203,7 +197,7 @@ module _ (v v′ : Memory) (tt tests rows : List ℕ) (had : Texts) (w : List �
         room = refl;
       }
 
-  pub record-few : (w′ set set′ : List ℕ) (c i : ℕ) → i < had .tests → Selected v v′ (had .«old_edges») w w′ set set′ c → length set ≡ 16 → c ≤ 4096 → (r : Answer) (out′ : Bytes)
+  pub record-few : (w′ set set′ : List ℕ) (c i : ℕ) → i < had .tests → Selected v v′ w w′ set set′ c → length set ≡ 16 → c ≤ 4096 → (r : Answer) (out′ : Bytes)
       → Done w′ w′ out out′ (RecordFrom v v′ tt tests rows had i w′ set′ out r out′) → Done w w′ out out′ (RecordDone v v′ tt tests rows had i w out r out′)
   unfolding RecordDone RecordFrom
   record-few w′ set set′ c i below s k m r out′ h =

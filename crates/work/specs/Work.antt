@@ -6,16 +6,16 @@ use lib.Dec.{leb, ltb}
 use lib.ListN.{length}
 use Rattle.laws.specs.Tests.{choose}
 use Rattle.rules.specs.Text.{Bytes, maxPairs}
-use Rattle.rules.specs.Graph.{Program, edgeCount}
+use Rattle.rules.specs.Graph.{Program}
 use Rattle.rules.specs.ProgramFile.{Listing}
 use Rattle.rules.specs.SuiteFile.{testCount}
 use Rattle.rules.specs.Closing.{pairs}
 use Rattle.rules.specs.Job.{Given, Outcome, recordBytes, refusal, sheetBytes, writing}
+use Rattle.answer.specs.declared.Answer.{Answer}
+use Rattle.answer.specs.Outcomes.{Told}
 use Rattle.versions.specs.Memory.{InMemory, Memory}
 use Rattle.versions.specs.Held.{PairsHeld}
 use Rattle.selection.specs.Dangers.{DangerSet}
-use Rattle.writer.specs.declared.Answer.{Answer}
-use Rattle.writer.specs.Sheets.{Told}
 use Rattle.intake.specs.declared.Texts.{Texts}
 use Rattle.intake.specs.Ready.{Ready}
 
@@ -26,12 +26,12 @@ pub record Chosen (old new : Program) (w set : List ℕ) (r : ℕ) : Type 0 wher
   pub marked : r ≤ maxPairs → DangerSet old new set
 
 -- `select`: the pairs and the dangerous edges of two versions.
-unfoldable pub Selects : Memory → Memory → ℕ → List ℕ → List ℕ → List ℕ → List ℕ → ℕ → Type 0
-Selects v v′ edges w w′ set set′ r =
-    (o p : Listing) → InMemory v o → InMemory v′ p → edges ≡ edgeCount (o .program) → 16896 ≤ length w → 16 ≤ length set → Chosen (o .program) (p .program) w′ set′ r
+unfoldable pub Selects : Memory → Memory → List ℕ → List ℕ → List ℕ → List ℕ → ℕ → Type 0
+Selects v v′ w w′ set set′ r =
+    (o p : Listing) → InMemory v o → InMemory v′ p → 16912 ≤ length w → 16 ≤ length set → Chosen (o .program) (p .program) w′ set′ r
 
-pub record Selected (v v′ : Memory) (edges : ℕ) (w w′ set set′ : List ℕ) (r : ℕ) : Type 0 where
-  pub selects : Selects v v′ edges w w′ set set′ r
+pub record Selected (v v′ : Memory) (w w′ set set′ : List ℕ) (r : ℕ) : Type 0 where
+  pub selects : Selects v v′ w w′ set set′ r
   pub size : length w′ ≡ length w
   pub set-size : length set′ ≡ length set
 
@@ -42,7 +42,7 @@ recording g i room = choose (ltb i (testCount (g .suite))) (writing g room (reco
 -- `write_sheet`: the sheet, 15 or 16.
 unfoldable pub SheetDone : Memory → Memory → Bytes → List ℕ → List ℕ → Texts → List ℕ → Bytes → Answer → Bytes → Type 0
 SheetDone v v′ tt tests rows had w out r out′ =
-    (g : Given) → Ready v v′ tt tests rows had g → 16896 ≤ length w → Told (writing g (length out) (sheetBytes g)) r out out′
+    (g : Given) → Ready v v′ tt tests rows had g → 16912 ≤ length w → Told (writing g (length out) (sheetBytes g)) r out out′
 
 -- `record_from`: the record line of a test, from the pairs and the dangerous edges.
 unfoldable pub RecordFrom : Memory → Memory → Bytes → List ℕ → List ℕ → Texts → ℕ → List ℕ → List ℕ → Bytes → Answer → Bytes → Type 0
@@ -52,7 +52,7 @@ RecordFrom v v′ tt tests rows had i w set out r out′ =
 -- `write_record`: the record line of a test, 6, 15 or 16.
 unfoldable pub RecordDone : Memory → Memory → Bytes → List ℕ → List ℕ → Texts → ℕ → List ℕ → Bytes → Answer → Bytes → Type 0
 RecordDone v v′ tt tests rows had i w out r out′ =
-    (g : Given) → Ready v v′ tt tests rows had g → 16896 ≤ length w → Told (recording g i (length out)) r out out′
+    (g : Given) → Ready v v′ tt tests rows had g → 16912 ≤ length w → Told (recording g i (length out)) r out out′
 
 -- A claim of what was written, with the lengths of the output and of the table.
 pub record Done (w w′ out out′ : List ℕ) (X : Type 0) : Type 0 where

@@ -1,10 +1,9 @@
 // The work of a job whose texts were read: the selection, the sheet, the record lines. Programs and tests are in memory, as reading them
-// leaves them; `w` is the table of the pairs, of 16,896 numbers.
+// leaves them; `w` is the table of the pairs, of 16,912 numbers.
+use answer::Answer;
 use intake::Texts;
-use writer::Answer;
 ghost use mathlib.Core.Path.{_≡_};
 ghost use Prim.Native.Nat.{_≤_};
-ghost use lib.ListN.{length};
 ghost use Rattle.intake.specs.Ready.{Few};
 ghost use Rattle.versions.specs.Memory.{memory};
 ghost use Rattle.work.specs.Work.{Done, RecordDone, RecordFrom, Selected, SheetDone};
@@ -17,17 +16,16 @@ pub fn select(
     nt: &[u8],
     nn: &[usize],
     nl: &[usize],
-    edges: usize,
     w: &mut [usize],
     set: &mut [u64],
 ) -> usize
-    ensures { λ r. ⌜ Selected (memory (now (ot .entry)) (now (on .entry)) (now (ol .entry))) (memory (now (nt .entry)) (now (nn .entry)) (now (nl .entry))) edges (now (w .entry)) (now (w .exit)) (now (set .entry)) (now (set .exit)) r ⌝ }
+    ensures { λ r. ⌜ Selected (memory (now (ot .entry)) (now (on .entry)) (now (ol .entry))) (memory (now (nt .entry)) (now (nn .entry)) (now (nl .entry))) (now (w .entry)) (now (w .exit)) (now (set .entry)) (now (set .exit)) r ⌝ }
 {
     let c = closure::close(ot, on, ol, nt, nn, nl, 4096, w);
     if 4096 < c {
         return c;
     }
-    selection::mark_dangers(ot, on, ol, nt, nn, nl, w, edges, set);
+    selection::mark_dangers(w, set);
     c
 }
 
@@ -50,14 +48,14 @@ pub fn write_sheet(
     ensures { λ r. ⌜ Done (now (w .entry)) (now (w .exit)) (now (out .entry)) (now (out .exit)) (SheetDone (memory (now (ot .entry)) (now (on .entry)) (now (ol .entry))) (memory (now (nt .entry)) (now (nn .entry)) (now (nl .entry))) (now (tt .entry)) (now (tests .entry)) (now (rows .entry)) had (now (w .entry)) (now (out .entry)) r (now (out .exit))) ⌝ }
 {
     let mut set = [0u64; 16];
-    let edges = had.old_edges;
-    let c = select(ot, on, ol, nt, nn, nl, edges, w, &mut set);
+    let c = select(ot, on, ol, nt, nn, nl, w, &mut set);
     if 4096 < c {
         return Answer {
             number: 15,
             place: 0,
         };
     }
+    let edges = had.old_edges;
     let olds = had.old_nodes;
     let news = had.new_nodes;
     let count = had.tests;
@@ -89,21 +87,7 @@ pub fn record_from(
     let olds = had.old_edges;
     let news = had.new_edges;
     let again = selection::repeated(rows, i, set);
-    selection::find_marks(
-        ot,
-        on,
-        ol,
-        nt,
-        nn,
-        nl,
-        w,
-        rows,
-        i,
-        olds,
-        news,
-        again,
-        &mut marks,
-    );
+    selection::find_marks(on, ol, nn, nl, w, rows, i, olds, news, again, &mut marks);
     writer::write_record(tt, tests, rows, i, &marks, news, out)
 }
 
@@ -134,8 +118,7 @@ pub fn write_record(
         };
     }
     let mut set = [0u64; 16];
-    let edges = had.old_edges;
-    let c = select(ot, on, ol, nt, nn, nl, edges, w, &mut set);
+    let c = select(ot, on, ol, nt, nn, nl, w, &mut set);
     if 4096 < c {
         return Answer {
             number: 15,

@@ -17,8 +17,9 @@ use Rattle.rules.specs.Graph.{Program, edgeCount, nodeCount}
 use Rattle.rules.specs.Closing.{dangers, dangerous, holds, meets, pairs, repeated}
 use Rattle.rules.specs.SuiteFile.{TestListing, coverageAt, readTests, testCount, testName}
 use Rattle.rules.specs.Sheet.{Sheet, crossed, dLine, endLine, headLine, mLine, rLine, recordText, selected, sheetLines, sheetText, vLine}
-use Rattle.rules.specs.Job.{Outcome, outputAfter, refusal, wrote}
+use Rattle.rules.specs.Job.{outputAfter, refusal, wrote}
 use Rattle.rules.specs.Proofs.Closure.{dangers-inside, pairs-ascend, pairs-inside}
+use Rattle.answer.specs.Outcomes.{Told, refusal-told, told-as}
 use Rattle.text.specs.Puts.{Puts, puts-front, puts-length, puts-measure, puts-then}
 use Rattle.pairset.specs.Store.{newAt, oldAt, pairsIn}
 use Rattle.pairset.specs.StoreLaws.{listed-of}
@@ -29,7 +30,7 @@ use Rattle.writer.specs.Laws.{asc-same, text-append, text-more, those-ma
 use Rattle.writer.specs.Writes.{Writes, writes-length}
 use Rattle.writer.specs.Texts.{dangerText, pairText, repeatText, rowMeets, shortName, tableText}
 use Rattle.writer.specs.Claims.{NewBelow, Pairs, PairsPut}
-use Rattle.writer.specs.Sheets.{Marked, RecordWrites, RecordWritten, Selection, Selects, SheetPut, SheetPuts, SheetWrites, SheetWritten, Told, recordLine, recordOf, sheetOf, written}
+use Rattle.writer.specs.Sheets.{Marked, RecordWrites, RecordWritten, Selection, Selects, SheetPut, SheetPuts, SheetWrites, SheetWritten, recordLine, recordOf, sheetOf, written}
 
 -- ---- the tests that were read
 
@@ -184,14 +185,14 @@ told-put : (o : List ℕ) {vs o₂ : List ℕ} {k : ℕ} → length vs ≤ lengt
 unfolding written outputAfter
 told-put o {vs} {o₂} {k} h w =
     let q : written (length o) vs ≡ wrote vs = choose-no _ _ (le-ltb (length o) (length vs) h) in
-    subst (λ (x : Outcome). Told x (record { number = 0; place = k }) o o₂) (sym q) (record { numbered = refl; placed = omega (arith, w .next); output = puts-front w h })
+    told-as q (record { answered = record { number-is = refl; place-is = omega (arith, w .next) }; output-is = puts-front w h })
 
 module _ {vs o₁ : List ℕ} {n : ℕ} (o : List ℕ) (p : Puts [] 0 vs n o₁) where
   told-short : length o < n → Told (written (length o) vs) (record { number = 16; place = 0 }) o o
-  unfolding written outputAfter
+  unfolding written
   told-short h =
       let q : written (length o) vs ≡ refusal 16 0 = choose-yes _ _ (lt-ltb (length o) (length vs) (omega (arith, puts-measure p .0))) in
-      subst (λ (x : Outcome). Told x (record { number = 16; place = 0 }) o o) (sym q) (record { numbered = refl; placed = refl; output = refl })
+      told-as q (refusal-told 16 0 o)
 
   told-written : {o₂ : List ℕ} {k : ℕ} → n ≤ length o → Puts o 0 vs k o₂ → Told (written (length o) vs) (record { number = 0; place = n }) o o₂
   told-written {o₂} {k} h w =

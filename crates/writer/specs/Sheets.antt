@@ -13,11 +13,12 @@ use Rattle.rules.specs.Graph.{Program, edgeCount, nodeCount}
 use Rattle.rules.specs.Closing.{dangers, pairs}
 use Rattle.rules.specs.SuiteFile.{TestListing, coverageAt, readTests, testCount, testName}
 use Rattle.rules.specs.Sheet.{marksOf, recordText, selected, sheetText, vLine}
-use Rattle.rules.specs.Job.{Given, Outcome, numberOf, outputAfter, placeOf, refusal, writing, wrote}
+use Rattle.rules.specs.Job.{Given, Outcome, refusal, writing, wrote}
+use Rattle.answer.specs.declared.Answer.{Answer}
+use Rattle.answer.specs.Outcomes.{Told}
 use Rattle.text.specs.Puts.{Puts}
 use Rattle.suite.specs.Rows.{Holds, rowOnes}
 use Rattle.versions.specs.Held.{PairsHeld}
-use Rattle.writer.specs.declared.Answer.{Answer}
 use Rattle.writer.specs.Texts.{shortName}
 
 -- ---- answers
@@ -30,12 +31,6 @@ written room b = choose (ltb room (length b)) (refusal 16 0) (wrote b)
 pub writing-written : (g : Given) (room : ℕ) (b : Bytes) → length (pairs (g .old) (g .new)) ≤ maxPairs → writing g room b ≡ written room b
 unfolding writing written
 writing-written g room b h = choose-no _ _ (le-ltb maxPairs (length (pairs (g .old) (g .new))) h)
-
--- An answer, and the output before and after it, are those of an outcome.
-pub record Told (x : Outcome) (r : Answer) (o o′ : Bytes) : Type 0 where
-  pub numbered : r .number ≡ numberOf x
-  pub placed : r .place ≡ placeOf x
-  pub output : o′ ≡ outputAfter x o
 
 -- ---- the sheet
 

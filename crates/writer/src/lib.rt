@@ -1,5 +1,6 @@
 // Sheets and record lines, written into a lent output. A writer stores only inside its output and answers the place behind what it writes, so
 // that writing into no bytes measures.
+use answer::Answer;
 ghost use mathlib.Core.Path.{_≡_};
 ghost use mathlib.Core.List.{_∷_, []};
 ghost use Prim.Native.Nat.{_≤_, _*_, _^_};
@@ -12,12 +13,6 @@ ghost use Rattle.writer.specs.Claims.{PairsPut, PartnersPut};
 ghost use Rattle.writer.specs.Sheets.{RecordWritten, SheetPut, SheetWritten, selection};
 ghost use Rattle.writer.specs.Texts.{dangerText, repeatText, rowMeets, shortName};
 ghost use Rattle.writer.specs.Writes.{Writes};
-
-// What a call answers: 0 and the bytes written, or a refusal by number and place.
-pub struct Answer {
-    pub number: usize,
-    pub place: usize,
-}
 
 // ---- lines
 

@@ -6,10 +6,10 @@ use Rattle.checker.proofs.all_kept.Statement.{statement}
 use Rattle.checker.proofs.all_kept.Tie as tie
 
 abbrev Inv-loop : tie.InvT-loop
-Inv-loop ot ol nt nl w sets n k place₀ place = KeptFrom ot ol nt nl w sets n k place
+Inv-loop ol nl w sets n k place₀ place = KeptFrom ol nl w sets n k place
 
 abbrev μ-loop : tie.MeasureT-loop
-μ-loop ot ol nt nl w sets n k place₀ place = place
+μ-loop ol nl w sets n k place₀ place = place
 
 last-edge-requires : tie.Need-last-edge-requires Inv-loop μ-loop
 last-edge-requires c κs = search (all, needs)

@@ -6,6 +6,12 @@ use Rattle.closure.proofs.try_edge.Tie as tie
 taken-requires : tie.Need-taken-requires
 taken-requires c κs = search needs
 
+mark-danger-requires : tie.Need-mark-danger-requires
+mark-danger-requires c κs = search needs
+
+same-length : tie.Need-same-length
+same-length c = search needs
+
 returns : tie.Need-returns
 returns c = search (all, needs)
 
@@ -21,8 +27,8 @@ target-requires-2 c κs = search needs
 has-requires : tie.Need-has-requires
 has-requires c κs = search needs
 
-same-length : tie.Need-same-length
-same-length c = search needs
+same-length-2 : tie.Need-same-length-2
+same-length-2 c = search needs
 
 returns-2 : tie.Need-returns-2
 returns-2 c = search (all, needs)
@@ -33,14 +39,17 @@ alike-requires c κs = search needs
 grow-requires : tie.Need-grow-requires
 grow-requires c κs = search needs
 
-same-length-2 : tie.Need-same-length-2
-same-length-2 c = search needs
+same-length-3 : tie.Need-same-length-3
+same-length-3 c = search needs
 
 returns-3 : tie.Need-returns-3
 returns-3 c = search (all, needs)
 
-same-length-3 : tie.Need-same-length-3
-same-length-3 c = search needs
+mark-danger-requires-2 : tie.Need-mark-danger-requires-2
+mark-danger-requires-2 c κs = search needs
+
+same-length-4 : tie.Need-same-length-4
+same-length-4 c = search needs
 
 returns-4 : tie.Need-returns-4
 returns-4 c = search (all, needs)
@@ -50,16 +59,19 @@ try-edge-spec =
     tie.close
     (tie.spec
     taken-requires
+    mark-danger-requires
+    same-length
     returns
     target-requires
     sub-target
     target-requires-2
     has-requires
-    same-length
+    same-length-2
     returns-2
     alike-requires
     grow-requires
-    same-length-2
-    returns-3
     same-length-3
+    returns-3
+    mark-danger-requires-2
+    same-length-4
     returns-4)

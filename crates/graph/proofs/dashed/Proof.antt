@@ -5,10 +5,10 @@ use Rattle.graph.proofs.dashed.Statement.{statement}
 use Rattle.graph.proofs.dashed.Tie as tie
 
 abbrev Inv-loop : tie.InvT-loop
-Inv-loop text links n place₀ t6 place = DashedBelow text links n place
+Inv-loop links n place₀ place = DashedBelow links n place
 
 abbrev μ-loop : tie.MeasureT-loop
-μ-loop text links n place₀ t6 place = place
+μ-loop links n place₀ place = place
 
 head-requires : tie.Need-head-requires Inv-loop μ-loop
 head-requires c κs = search (all, needs)
@@ -19,11 +19,8 @@ loop-holds c = search (all, needs)
 sub-e : tie.Need-sub-e Inv-loop μ-loop
 sub-e c = search (all, needs)
 
-slice-aggregate-word-is : tie.Need-slice-aggregate-word-is Inv-loop μ-loop
-slice-aggregate-word-is c = search (all, needs)
-
-word-is-requires : tie.Need-word-is-requires Inv-loop μ-loop
-word-is-requires c κs = search (all, needs)
+word-key-requires : tie.Need-word-key-requires Inv-loop μ-loop
+word-key-requires c κs = search (all, needs)
 
 before-requires : tie.Need-before-requires Inv-loop μ-loop
 before-requires c κs = search (all, needs)
@@ -49,8 +46,7 @@ dashed-spec =
     head-requires
     loop-holds
     sub-e
-    slice-aggregate-word-is
-    word-is-requires
+    word-key-requires
     before-requires
     loop-less
     loop-again

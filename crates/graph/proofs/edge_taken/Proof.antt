@@ -5,10 +5,10 @@ use Rattle.graph.proofs.edge_taken.Statement.{statement}
 use Rattle.graph.proofs.edge_taken.Tie as tie
 
 abbrev Inv-loop : tie.InvT-loop
-Inv-loop text links n word place₀ place = TakenBelow text links n word place
+Inv-loop links n key place₀ place = TakenBelow links n key place
 
 abbrev μ-loop : tie.MeasureT-loop
-μ-loop text links n word place₀ place = place
+μ-loop links n key place₀ place = place
 
 head-requires : tie.Need-head-requires Inv-loop μ-loop
 head-requires c κs = search (all, needs)
@@ -19,8 +19,8 @@ loop-holds c = search (all, needs)
 sub-e : tie.Need-sub-e Inv-loop μ-loop
 sub-e c = search (all, needs)
 
-word-is-requires : tie.Need-word-is-requires Inv-loop μ-loop
-word-is-requires c κs = search (all, needs)
+word-key-requires : tie.Need-word-key-requires Inv-loop μ-loop
+word-key-requires c κs = search (all, needs)
 
 returns : tie.Need-returns Inv-loop μ-loop
 returns c = search (all, needs)
@@ -46,7 +46,7 @@ edge-taken-spec =
     head-requires
     loop-holds
     sub-e
-    word-is-requires
+    word-key-requires
     returns
     before-requires
     loop-less

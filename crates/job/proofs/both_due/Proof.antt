@@ -1,5 +1,4 @@
 use borrow.Author.Needs.{needs}
-use Rattle.job.proofs.All.{all}
 use mathlib.Core.Path.{refl}
 use Rattle.job.proofs.TestsLaws.{old-gone, new-version-gone, both-none, both-job}
 use Rattle.job.proofs.both_due.Statement.{statement}

@@ -6,8 +6,8 @@ use Rattle.job.proofs.tests_due.Tie as tie
 returns : tie.Need-returns
 returns c = search (all, needs)
 
-wide-enough-requires : tie.Need-wide-enough-requires
-wide-enough-requires c κs = search needs
+long-enough-requires : tie.Need-long-enough-requires
+long-enough-requires c κs = search needs
 
 both-due-requires : tie.Need-both-due-requires
 both-due-requires c κs = search needs
@@ -20,4 +20,4 @@ returns-3 c = search (all, needs)
 
 pub tests-due-spec : {M : Type 1} → statement M
 tests-due-spec =
-    tie.close (tie.spec returns wide-enough-requires both-due-requires returns-2 returns-3)
+    tie.close (tie.spec returns long-enough-requires both-due-requires returns-2 returns-3)

@@ -1,7 +1,5 @@
 use borrow.Author.Needs.{needs}
-use native.Mathlib.Omega.{arith}
 use Prim.Native.Nat.{_-_}
-use lib.ListN.{length}
 use Rattle.job_vectors.proofs.all_cases.Statement.{statement}
 use Rattle.job_vectors.proofs.all_cases.Tie as tie
 

@@ -20,8 +20,8 @@ slice-aggregate-ry-sheet c = sym (length-take-le _ _ (omega arith))
 ry-sheet-requires : tie.Need-ry-sheet-requires
 ry-sheet-requires c κs = search needs
 
-kept-requires : tie.Need-kept-requires
-kept-requires c κs = search needs
+untouched-requires : tie.Need-untouched-requires
+untouched-requires c κs = search needs
 
 print-room-requires : tie.Need-print-room-requires
 print-room-requires c κs = search needs
@@ -41,7 +41,7 @@ one-room-spec =
     slice-relend-prefix-ry-sheet
     slice-aggregate-ry-sheet
     ry-sheet-requires
-    kept-requires
+    untouched-requires
     print-room-requires
     same-length
     returns-2)

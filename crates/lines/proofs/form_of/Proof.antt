@@ -1,5 +1,6 @@
 use borrow.Author.Needs.{needs}
-use Rattle.lines.proofs.Laws.{all}
+use Rattle.text.specs.SplitLaws.{one-piece, two-pieces, three-pieces, four-pieces, more-pieces}
+use Rattle.lines.proofs.Laws.{the-form, wholes}
 use Rattle.lines.proofs.form_of.Statement.{statement}
 use Rattle.lines.proofs.form_of.Tie as tie
 
@@ -7,7 +8,7 @@ first-short-requires : tie.Need-first-short-requires
 first-short-requires c κs = search needs
 
 returns : tie.Need-returns
-returns c = search (all, needs)
+returns c = search (one-piece the-form, wholes, needs)
 
 add-after : tie.Need-add-after
 add-after c = search needs
@@ -22,7 +23,7 @@ two-requires : tie.Need-two-requires
 two-requires c κs = search needs
 
 returns-2 : tie.Need-returns-2
-returns-2 c = search (all, needs)
+returns-2 c = search (two-pieces the-form, needs)
 
 add-after-2 : tie.Need-add-after-2
 add-after-2 c = search needs
@@ -34,7 +35,7 @@ first-requires : tie.Need-first-requires
 first-requires c κs = search needs
 
 returns-3 : tie.Need-returns-3
-returns-3 c = search (all, needs)
+returns-3 c = search (three-pieces the-form, wholes, needs)
 
 add-after-3 : tie.Need-add-after-3
 add-after-3 c = search needs
@@ -42,17 +43,17 @@ add-after-3 c = search needs
 after-requires-3 : tie.Need-after-requires-3
 after-requires-3 c κs = search needs
 
-find-requires : tie.Need-find-requires
-find-requires c κs = search needs
+find-short-requires : tie.Need-find-short-requires
+find-short-requires c κs = search needs
 
 returns-4 : tie.Need-returns-4
-returns-4 c = search (all, needs)
+returns-4 c = search (more-pieces the-form, wholes, needs)
 
 four-requires : tie.Need-four-requires
 four-requires c κs = search needs
 
 returns-5 : tie.Need-returns-5
-returns-5 c = search (all, needs)
+returns-5 c = search (four-pieces the-form, needs)
 
 pub form-of-spec : {M : Type 1} → statement M
 form-of-spec =
@@ -71,7 +72,7 @@ form-of-spec =
     returns-3
     add-after-3
     after-requires-3
-    find-requires
+    find-short-requires
     returns-4
     four-requires
     returns-5)

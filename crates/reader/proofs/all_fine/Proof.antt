@@ -8,10 +8,10 @@ use Rattle.reader.proofs.all_fine.Statement.{statement}
 use Rattle.reader.proofs.all_fine.Tie as tie
 
 abbrev Inv-loop : tie.InvT-loop
-Inv-loop text work first nodes n₀ n = (first ≤ n) × (n ≤ nodes) × FineTo text work first nodes n
+Inv-loop work first nodes n₀ n = (first ≤ n) × (n ≤ nodes) × FineTo work first nodes n
 
 abbrev μ-loop : tie.MeasureT-loop
-μ-loop text work first nodes n₀ n = nodes - n
+μ-loop work first nodes n₀ n = nodes - n
 
 returns : tie.Need-returns Inv-loop μ-loop
 returns c = search (all, needs)

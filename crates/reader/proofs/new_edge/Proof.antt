@@ -6,6 +6,9 @@ use Rattle.reader.proofs.new_edge.Tie as tie
 part-requires : tie.Need-part-requires
 part-requires c κs = search needs
 
+key-requires : tie.Need-key-requires
+key-requires c κs = search needs
+
 links-requires : tie.Need-links-requires
 links-requires c κs = search needs
 
@@ -21,8 +24,8 @@ returns c = search (all, needs)
 store-edge-requires : tie.Need-store-edge-requires
 store-edge-requires c κs = search needs
 
-add-t21 : tie.Need-add-t21
-add-t21 c = search needs
+add-t22 : tie.Need-add-t22
+add-t22 c = search needs
 
 same-length-2 : tie.Need-same-length-2
 same-length-2 c = search needs
@@ -35,11 +38,12 @@ new-edge-spec =
     tie.close
     (tie.spec
     part-requires
+    key-requires
     links-requires
     edge-taken-requires
     same-length
     returns
     store-edge-requires
-    add-t21
+    add-t22
     same-length-2
     returns-2)

@@ -30,7 +30,7 @@ use Rattle.rules.specs.Proofs.TextLaws.{same-true, unless-accepted, acce
 
 -- ---- the forms of a sheet's lines
 
-abbrev SheetFormed : List Bytes → SheetLine → Type 0
+abbrev pub SheetFormed : List Bytes → SheetLine → Type 0
 SheetFormed fs head-line = fs ≡ bytes "sheet" ∷ bytes "1" ∷ []
 SheetFormed fs (m-line a b) = (fs ≡ bytes "M" ∷ a ∷ b ∷ []) × (isNumber a ≡ true) × (isNumber b ≡ true)
 SheetFormed fs (d-line a) = (fs ≡ bytes "D" ∷ a ∷ []) × (isNumber a ≡ true)
@@ -62,7 +62,7 @@ formed-four f a b c true p = (
 )
 formed-four f a b c false p = tt
 
-sheet-formed : (fs : List Bytes) → SheetFormed fs (sheetForm fs)
+pub sheet-formed : (fs : List Bytes) → SheetFormed fs (sheetForm fs)
 unfolding sheetForm
 sheet-formed [] = tt
 sheet-formed (f ∷ []) = tt

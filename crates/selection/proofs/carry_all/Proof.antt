@@ -3,16 +3,15 @@ use Rattle.selection.proofs.All.{all}
 use mathlib.Core.Path.{_≡_}
 use Prim.Native.Nat.{_≤_, _-_}
 use lib.ListN.{length}
-use Rattle.versions.specs.Memory.{memory}
 use Rattle.selection.specs.Marks.{AllCarried}
 use Rattle.selection.proofs.carry_all.Statement.{statement}
 use Rattle.selection.proofs.carry_all.Tie as tie
 
 abbrev Inv-loop : tie.InvT-loop
-Inv-loop ot on ol nt nn nl w rows test edges marks₀ e₀ marks e = (e ≤ edges) × (length marks ≡ length marks₀) × AllCarried (memory ot on ol) (memory nt nn nl) w rows test edges e marks₀ marks
+Inv-loop on ol nn nl w rows test edges marks₀ e₀ marks e = (e ≤ edges) × (length marks ≡ length marks₀) × AllCarried on ol nn nl w rows test edges e marks₀ marks
 
 abbrev μ-loop : tie.MeasureT-loop
-μ-loop ot on ol nt nn nl w rows test edges marks₀ e₀ marks e = edges - e
+μ-loop on ol nn nl w rows test edges marks₀ e₀ marks e = edges - e
 
 loop-holds : tie.Need-loop-holds Inv-loop μ-loop
 loop-holds c = search (all, needs)

@@ -1,30 +1,27 @@
 use borrow.Author.Needs.{needs}
+use Prim.Native.Nat.{_-_}
 use Rattle.selection.proofs.All.{all}
-use mathlib.Core.Path.{_≡_}
-use Prim.Native.Nat.{_≤_, _-_}
-use lib.ListN.{length}
-use Rattle.versions.specs.Memory.{memory}
-use Rattle.selection.proofs.Dangers.{MarkedTo}
+use Rattle.selection.proofs.Dangers.{CopiedTo}
 use Rattle.selection.proofs.mark_dangers.Statement.{statement}
 use Rattle.selection.proofs.mark_dangers.Tie as tie
 
 abbrev Inv-loop : tie.InvT-loop
-Inv-loop ot on ol nt nn nl w edges set₀ k₀ set k = (k ≤ 16) × (length set ≡ length set₀) × MarkedTo (memory ot on ol) (memory nt nn nl) w edges set₀ set k
+Inv-loop w set₀ k₀ set k = CopiedTo w set₀ set k
 
 abbrev μ-loop : tie.MeasureT-loop
-μ-loop ot on ol nt nn nl w edges set₀ k₀ set k = 16 - k
+μ-loop w set₀ k₀ set k = 16 - k
 
 loop-holds : tie.Need-loop-holds Inv-loop μ-loop
 loop-holds c = search (all, needs)
-
-danger-word-requires : tie.Need-danger-word-requires Inv-loop μ-loop
-danger-word-requires c κs = search (all, needs)
 
 same-length : tie.Need-same-length Inv-loop μ-loop
 same-length c = search (all, needs)
 
 returns : tie.Need-returns Inv-loop μ-loop
 returns c = search (all, needs)
+
+danger-word-requires : tie.Need-danger-word-requires Inv-loop μ-loop
+danger-word-requires c κs = search (all, needs)
 
 mul-set : tie.Need-mul-set Inv-loop μ-loop
 mul-set c = search (all, needs)
@@ -54,9 +51,9 @@ mark-dangers-spec =
     Inv-loop
     μ-loop
     loop-holds
-    danger-word-requires
     same-length
     returns
+    danger-word-requires
     mul-set
     slice-write-set
     add-k

@@ -1,15 +1,14 @@
 use borrow.Author.Needs.{needs}
 use Rattle.selection.proofs.All.{all}
-use Rattle.versions.specs.Memory.{memory}
 use Rattle.selection.proofs.Counterparts.{SeenTo}
 use Rattle.selection.proofs.only_counterpart.Statement.{statement}
 use Rattle.selection.proofs.only_counterpart.Tie as tie
 
 abbrev Inv-loop : tie.InvT-loop
-Inv-loop ot on ol nt nn nl w e n seen₀ place₀ seen place = SeenTo (memory ot on ol) (memory nt nn nl) w e n seen place
+Inv-loop on ol nn nl w e n seen₀ place₀ seen place = SeenTo on ol nn nl w e n seen place
 
 abbrev μ-loop : tie.MeasureT-loop
-μ-loop ot on ol nt nn nl w e n seen₀ place₀ seen place = place
+μ-loop on ol nn nl w e n seen₀ place₀ seen place = place
 
 source-requires : tie.Need-source-requires Inv-loop μ-loop
 source-requires c κs = search (all, needs)

@@ -2,16 +2,15 @@ use borrow.Author.Needs.{needs}
 use Rattle.selection.proofs.All.{all}
 use mathlib.Core.Path.{_≡_}
 use lib.ListN.{length}
-use Rattle.versions.specs.Memory.{memory}
 use Rattle.selection.proofs.Marks.{RaisedFrom}
 use Rattle.selection.proofs.raise_all.Statement.{statement}
 use Rattle.selection.proofs.raise_all.Tie as tie
 
 abbrev Inv-loop : tie.InvT-loop
-Inv-loop ot on ol nt nn nl w e marks₀ n place₀ marks place = (length marks ≡ length marks₀) × RaisedFrom (memory ot on ol) (memory nt nn nl) w e n marks₀ marks place
+Inv-loop on ol nn nl w e marks₀ n place₀ marks place = (length marks ≡ length marks₀) × RaisedFrom on ol nn nl w e n marks₀ marks place
 
 abbrev μ-loop : tie.MeasureT-loop
-μ-loop ot on ol nt nn nl w e marks₀ n place₀ marks place = place
+μ-loop on ol nn nl w e marks₀ n place₀ marks place = place
 
 source-requires : tie.Need-source-requires Inv-loop μ-loop
 source-requires c κs = search (all, needs)

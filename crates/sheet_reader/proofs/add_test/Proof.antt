@@ -3,23 +3,26 @@ use Rattle.sheet_reader.proofs.All.{all}
 use Rattle.sheet_reader.proofs.add_test.Statement.{statement}
 use Rattle.sheet_reader.proofs.add_test.Tie as tie
 
+test-from-requires : tie.Need-test-from-requires
+test-from-requires c κs = search needs
+
 refuse-requires : tie.Need-refuse-requires
 refuse-requires c κs = search needs
 
 returns : tie.Need-returns
 returns c = search (all, needs)
 
-test-fits-requires : tie.Need-test-fits-requires
-test-fits-requires c κs = search needs
+underway-requires : tie.Need-underway-requires
+underway-requires c κs = search needs
 
 add-set-bit : tie.Need-add-set-bit
-add-set-bit c = search needs
+add-set-bit c = search (all, needs)
 
 set-bit-requires : tie.Need-set-bit-requires
 set-bit-requires c κs = search needs
 
-add-t12 : tie.Need-add-t12
-add-t12 c = search needs
+add-t15 : tie.Need-add-t15
+add-t15 c = search needs
 
 same-length : tie.Need-same-length
 same-length c = search needs
@@ -37,12 +40,13 @@ pub add-test-spec : {M : Type 1} → statement M
 add-test-spec =
     tie.close
     (tie.spec
+    test-from-requires
     refuse-requires
     returns
-    test-fits-requires
+    underway-requires
     add-set-bit
     set-bit-requires
-    add-t12
+    add-t15
     same-length
     returns-2
     refuse-requires-2

@@ -21,8 +21,8 @@ loop-holds c = search (all, needs)
 after-requires : tie.Need-after-requires Inv-loop μ-loop
 after-requires c κs = search (all, needs)
 
-find-requires : tie.Need-find-requires Inv-loop μ-loop
-find-requires c κs = search (all, needs)
+find-short-requires : tie.Need-find-short-requires Inv-loop μ-loop
+find-short-requires c κs = search (all, needs)
 
 same-length : tie.Need-same-length Inv-loop μ-loop
 same-length c = search (all, needs)
@@ -84,7 +84,7 @@ read-lines-spec =
     nothing-read-requires
     loop-holds
     after-requires
-    find-requires
+    find-short-requires
     same-length
     same-length-2
     returns

@@ -1,7 +1,5 @@
 use borrow.Author.Needs.{needs}
 use Rattle.sheet_reader.proofs.All.{all}
-use Prim.Native.Nat.{_-_}
-use Rattle.sheet_reader.proofs.Turns.{test-low}
 use Rattle.sheet_reader.proofs.step.Statement.{statement}
 use Rattle.sheet_reader.proofs.step.Tie as tie
 
@@ -35,14 +33,11 @@ add-edge-requires c κs = search needs
 enum-told-3 : tie.Need-enum-told-3
 enum-told-3 c = search needs
 
-field-requires : tie.Need-field-requires
-field-requires c κs = search needs
-
-test-of-requires : tie.Need-test-of-requires
-test-of-requires c κs = search needs
+after-requires : tie.Need-after-requires
+after-requires c κs = search needs
 
 add-test-requires : tie.Need-add-test-requires
-add-test-requires c κs = (search needs, (search (test-low, needs), search needs))
+add-test-requires c κs = search needs
 
 enum-known-form-3 : tie.Need-enum-known-form-3
 enum-known-form-3 c = search needs
@@ -91,8 +86,7 @@ step-spec =
     enum-known-form-2
     add-edge-requires
     enum-told-3
-    field-requires
-    test-of-requires
+    after-requires
     add-test-requires
     enum-known-form-3
     end-requires

@@ -6,11 +6,14 @@ use Rattle.suite.proofs.add_test.Tie as tie
 returns : tie.Need-returns
 returns c = search (all, needs)
 
-name-seen-requires : tie.Need-name-seen-requires
-name-seen-requires c κs = search needs
+name-met-requires : tie.Need-name-met-requires
+name-met-requires c κs = search needs
 
 same-length : tie.Need-same-length
 same-length c = search needs
+
+same-length-2 : tie.Need-same-length-2
+same-length-2 c = search needs
 
 returns-2 : tie.Need-returns-2
 returns-2 c = search (all, needs)
@@ -24,20 +27,26 @@ put-test-requires c κs = search needs
 store-row-requires : tie.Need-store-row-requires
 store-row-requires c κs = search (all, needs)
 
-add-t19 : tie.Need-add-t19
-add-t19 c = search needs
-
-same-length-2 : tie.Need-same-length-2
-same-length-2 c = search needs
+add-t22 : tie.Need-add-t22
+add-t22 c = search needs
 
 same-length-3 : tie.Need-same-length-3
 same-length-3 c = search needs
 
+same-length-4 : tie.Need-same-length-4
+same-length-4 c = search needs
+
+same-length-5 : tie.Need-same-length-5
+same-length-5 c = search needs
+
 returns-3 : tie.Need-returns-3
 returns-3 c = search (all, needs)
 
-same-length-4 : tie.Need-same-length-4
-same-length-4 c = search needs
+same-length-6 : tie.Need-same-length-6
+same-length-6 c = search needs
+
+same-length-7 : tie.Need-same-length-7
+same-length-7 c = search needs
 
 returns-4 : tie.Need-returns-4
 returns-4 c = search (all, needs)
@@ -47,15 +56,18 @@ add-test-spec =
     tie.close
     (tie.spec
     returns
-    name-seen-requires
+    name-met-requires
     same-length
+    same-length-2
     returns-2
     add-put-test
     put-test-requires
     store-row-requires
-    add-t19
-    same-length-2
+    add-t22
     same-length-3
-    returns-3
     same-length-4
+    same-length-5
+    returns-3
+    same-length-6
+    same-length-7
     returns-4)

@@ -7,10 +7,10 @@ use Rattle.suite.proofs.read_lines.Statement.{statement}
 use Rattle.suite.proofs.read_lines.Tie as tie
 
 abbrev Inv-loop : tie.InvT-loop
-Inv-loop text edges tests₀ rows₀ at₀ n₀ count₀ tests rows at n count = Head edges text tests₀ rows₀ at n count tests rows
+Inv-loop text edges filter₀ tests₀ rows₀ at₀ n₀ count₀ filter tests rows at n count = Head edges text filter₀ tests₀ rows₀ at n count filter tests rows
 
 abbrev μ-loop : tie.MeasureT-loop
-μ-loop text edges tests₀ rows₀ at₀ n₀ count₀ tests rows at n count = length text - at
+μ-loop text edges filter₀ tests₀ rows₀ at₀ n₀ count₀ filter tests rows at n count = length text - at
 
 loop-holds : tie.Need-loop-holds Inv-loop μ-loop
 loop-holds c = search (all, needs)
@@ -27,6 +27,9 @@ same-length c = search (all, needs)
 same-length-2 : tie.Need-same-length-2 Inv-loop μ-loop
 same-length-2 c = search (all, needs)
 
+same-length-3 : tie.Need-same-length-3 Inv-loop μ-loop
+same-length-3 c = search (all, needs)
+
 returns : tie.Need-returns Inv-loop μ-loop
 returns c = search (all, needs)
 
@@ -36,11 +39,14 @@ front-requires c κs = search (all, needs)
 step-requires : tie.Need-step-requires Inv-loop μ-loop
 step-requires c κs = search (all, needs)
 
-same-length-3 : tie.Need-same-length-3 Inv-loop μ-loop
-same-length-3 c = search (all, needs)
-
 same-length-4 : tie.Need-same-length-4 Inv-loop μ-loop
 same-length-4 c = search (all, needs)
+
+same-length-5 : tie.Need-same-length-5 Inv-loop μ-loop
+same-length-5 c = search (all, needs)
+
+same-length-6 : tie.Need-same-length-6 Inv-loop μ-loop
+same-length-6 c = search (all, needs)
 
 returns-2 : tie.Need-returns-2 Inv-loop μ-loop
 returns-2 c = search (all, needs)
@@ -60,11 +66,14 @@ loop-less c = search (all, needs)
 loop-again : tie.Need-loop-again Inv-loop μ-loop
 loop-again c = search (all, needs)
 
-same-length-5 : tie.Need-same-length-5 Inv-loop μ-loop
-same-length-5 c = search (all, needs)
+same-length-7 : tie.Need-same-length-7 Inv-loop μ-loop
+same-length-7 c = search (all, needs)
 
-same-length-6 : tie.Need-same-length-6 Inv-loop μ-loop
-same-length-6 c = search (all, needs)
+same-length-8 : tie.Need-same-length-8 Inv-loop μ-loop
+same-length-8 c = search (all, needs)
+
+same-length-9 : tie.Need-same-length-9 Inv-loop μ-loop
+same-length-9 c = search (all, needs)
 
 returns-3 : tie.Need-returns-3 Inv-loop μ-loop
 returns-3 c = search (all, needs)
@@ -80,17 +89,20 @@ read-lines-spec =
     find-requires
     same-length
     same-length-2
+    same-length-3
     returns
     front-requires
     step-requires
-    same-length-3
     same-length-4
+    same-length-5
+    same-length-6
     returns-2
     add-at
     add-at-2
     add-n
     loop-less
     loop-again
-    same-length-5
-    same-length-6
+    same-length-7
+    same-length-8
+    same-length-9
     returns-3)

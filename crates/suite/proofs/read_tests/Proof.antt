@@ -6,6 +6,9 @@ use Rattle.suite.proofs.read_tests.Tie as tie
 returns : tie.Need-returns
 returns c = search (all, needs)
 
+slice-aggregate-read-lines : tie.Need-slice-aggregate-read-lines
+slice-aggregate-read-lines c = search needs
+
 read-lines-requires : tie.Need-read-lines-requires
 read-lines-requires c κs = search needs
 
@@ -20,4 +23,11 @@ returns-2 c = search (all, needs)
 
 pub read-tests-spec : {M : Type 1} → statement M
 read-tests-spec =
-    tie.close (tie.spec returns read-lines-requires same-length same-length-2 returns-2)
+    tie.close
+    (tie.spec
+    returns
+    slice-aggregate-read-lines
+    read-lines-requires
+    same-length
+    same-length-2
+    returns-2)

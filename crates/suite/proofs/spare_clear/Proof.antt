@@ -6,11 +6,14 @@ use Rattle.suite.proofs.spare_clear.Tie as tie
 returns : tie.Need-returns
 returns c = search (all, needs)
 
-shared-slice-read-nibble : tie.Need-shared-slice-read-nibble
-shared-slice-read-nibble c = search needs
+shared-slice-read-value : tie.Need-shared-slice-read-value
+shared-slice-read-value c = search needs
 
-nibble-requires : tie.Need-nibble-requires
-nibble-requires c κs = search (all, needs)
+value-requires : tie.Need-value-requires
+value-requires c κs = search (all, needs)
+
+turned-requires : tie.Need-turned-requires
+turned-requires c κs = search needs
 
 shr-result : tie.Need-shr-result
 shr-result c = search needs
@@ -20,4 +23,5 @@ returns-2 c = search (all, needs)
 
 pub spare-clear-spec : {M : Type 1} → statement M
 spare-clear-spec =
-    tie.close (tie.spec returns shared-slice-read-nibble nibble-requires shr-result returns-2)
+    tie.close
+    (tie.spec returns shared-slice-read-value value-requires turned-requires shr-result returns-2)

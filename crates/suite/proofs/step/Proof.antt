@@ -1,65 +1,55 @@
 use borrow.Author.Needs.{needs}
 use Rattle.suite.proofs.All.{all}
-use Rattle.suite.proofs.Stores.{said-fine, said-unfit}
 use Rattle.suite.proofs.step.Statement.{statement}
 use Rattle.suite.proofs.step.Tie as tie
 
 begins-test-requires : tie.Need-begins-test-requires
-begins-test-requires c κs = search (all, needs)
+begins-test-requires c κs = search needs
 
 after-requires : tie.Need-after-requires
-after-requires c κs = search (all, needs)
+after-requires c κs = search needs
 
 first-short-requires : tie.Need-first-short-requires
-first-short-requires c κs = search (all, needs)
+first-short-requires c κs = search needs
 
 add-after : tie.Need-add-after
-add-after c = search (all, needs)
+add-after c = search needs
 
 after-requires-2 : tie.Need-after-requires-2
-after-requires-2 c κs = search (all, needs)
+after-requires-2 c κs = search needs
 
 row-fine-requires : tie.Need-row-fine-requires
-row-fine-requires c κs = search (all, needs)
+row-fine-requires c κs = search needs
 
-add-test-requires : tie.Need-add-test-requires
-add-test-requires c κs = (search said-fine, search needs)
+comma-in-requires : tie.Need-comma-in-requires
+comma-in-requires c κs = search needs
 
-same-length : tie.Need-same-length
-same-length c = search (all, needs)
-
-same-length-2 : tie.Need-same-length-2
-same-length-2 c = search (all, needs)
+malformed-requires : tie.Need-malformed-requires
+malformed-requires c κs = search needs
 
 returns : tie.Need-returns
 returns c = search (all, needs)
 
-find-requires : tie.Need-find-requires
-find-requires c κs = search (all, needs)
+add-test-requires : tie.Need-add-test-requires
+add-test-requires c κs = search needs
 
-malformed-requires : tie.Need-malformed-requires
-malformed-requires c κs = search (all, needs)
+same-length : tie.Need-same-length
+same-length c = search needs
+
+same-length-2 : tie.Need-same-length-2
+same-length-2 c = search needs
+
+same-length-3 : tie.Need-same-length-3
+same-length-3 c = search needs
 
 returns-2 : tie.Need-returns-2
 returns-2 c = search (all, needs)
 
-add-test-requires-2 : tie.Need-add-test-requires-2
-add-test-requires-2 c κs = (search said-unfit, search needs)
-
-same-length-3 : tie.Need-same-length-3
-same-length-3 c = search (all, needs)
-
-same-length-4 : tie.Need-same-length-4
-same-length-4 c = search (all, needs)
+malformed-requires-2 : tie.Need-malformed-requires-2
+malformed-requires-2 c κs = search needs
 
 returns-3 : tie.Need-returns-3
 returns-3 c = search (all, needs)
-
-malformed-requires-2 : tie.Need-malformed-requires-2
-malformed-requires-2 c κs = search (all, needs)
-
-returns-4 : tie.Need-returns-4
-returns-4 c = search (all, needs)
 
 pub step-spec : {M : Type 1} → statement M
 step-spec =
@@ -71,16 +61,13 @@ step-spec =
     add-after
     after-requires-2
     row-fine-requires
+    comma-in-requires
+    malformed-requires
+    returns
     add-test-requires
     same-length
     same-length-2
-    returns
-    find-requires
-    malformed-requires
-    returns-2
-    add-test-requires-2
     same-length-3
-    same-length-4
-    returns-3
+    returns-2
     malformed-requires-2
-    returns-4)
+    returns-3)

@@ -3,8 +3,8 @@ use Rattle.text.proofs.Laws.{all}
 use Rattle.text.proofs.first_short.Statement.{statement}
 use Rattle.text.proofs.first_short.Tie as tie
 
-find-from-requires : tie.Need-find-from-requires
-find-from-requires c κs = search needs
+find-short-requires : tie.Need-find-short-requires
+find-short-requires c κs = search needs
 
 front-requires : tie.Need-front-requires
 front-requires c κs = search needs
@@ -13,4 +13,4 @@ returns : tie.Need-returns
 returns c = search (all, needs)
 
 pub first-short-spec : {M : Type 1} → statement M
-first-short-spec = tie.close (tie.spec find-from-requires front-requires returns)
+first-short-spec = tie.close (tie.spec find-short-requires front-requires returns)

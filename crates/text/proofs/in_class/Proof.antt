@@ -21,17 +21,11 @@ plain-byte-requires-2 c κs = search needs
 returns-3 : tie.Need-returns-3
 returns-3 c = search (all, needs)
 
-between-requires : tie.Need-between-requires
-between-requires c κs = search needs
-
-returns-4 : tie.Need-returns-4
-returns-4 c = search (all, needs)
-
 hex-byte-requires : tie.Need-hex-byte-requires
 hex-byte-requires c κs = search needs
 
-returns-5 : tie.Need-returns-5
-returns-5 c = search (all, needs)
+returns-4 : tie.Need-returns-4
+returns-4 c = search (all, needs)
 
 pub in-class-spec : {M : Type 1} → statement M
 in-class-spec =
@@ -43,7 +37,5 @@ in-class-spec =
     returns-2
     plain-byte-requires-2
     returns-3
-    between-requires
-    returns-4
     hex-byte-requires
-    returns-5)
+    returns-4)

@@ -3,8 +3,8 @@ use Rattle.versions.proofs.Laws.{all}
 use Rattle.versions.proofs.taken.Statement.{statement}
 use Rattle.versions.proofs.taken.Tie as tie
 
-word-requires : tie.Need-word-requires
-word-requires c κs = search needs
+word-key-requires : tie.Need-word-key-requires
+word-key-requires c κs = search needs
 
 edge-taken-requires : tie.Need-edge-taken-requires
 edge-taken-requires c κs = search needs
@@ -13,4 +13,4 @@ returns : tie.Need-returns
 returns c = search (all, needs)
 
 pub taken-spec : {M : Type 1} → statement M
-taken-spec = tie.close (tie.spec word-requires edge-taken-requires returns)
+taken-spec = tie.close (tie.spec word-key-requires edge-taken-requires returns)

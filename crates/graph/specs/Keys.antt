@@ -1,0 +1,64 @@
+-- The key of a word: words are compared by their keys, each a number of 64 bits.
+use mathlib.Core.Path.{_≡_, refl, ap}
+use mathlib.Core.Bool.{true}
+use mathlib.Core.List.{[], _∷_}
+use Prim.Native.Nat.{ℕ, _+_, _*_, _^_, _≤_, _<_}
+use native.Mathlib.Nat.{pow-le-pow-right, pow-suc}
+use native.Mathlib.Omega.{arith}
+use lib.Dec.{eqb}
+use lib.ListN.{length, take}
+use lib.Seq.{take-all}
+use borrow.Author.Tests.{eqb-true, eq-eqb, leb-true}
+use Rattle.laws.specs.TestLaws.{and-left, and-right, same-test}
+use Rattle.rules.specs.Text.{Bytes, same, between, allBytes, wordByte, isWord}
+use Rattle.rules.specs.Proofs.TextLaws.{same-true, same-of}
+
+-- Its bytes as digits to the base 256, the first the lowest.
+unfoldable pub wordKey : Bytes → ℕ
+wordKey [] = 0
+wordKey (x ∷ w) = x + 256 * wordKey w
+
+-- A byte of a word is a digit, and not 0.
+digit-of : (x : ℕ) → wordByte x ≡ true → (0 < x) × (x < 256)
+unfolding wordByte between
+digit-of x h =
+    let a : 33 ≤ x = leb-true 33 x (and-left _ _ (and-left _ _ h)) in
+    let b : x ≤ 126 = leb-true x 126 (and-right _ _ (and-left _ _ h)) in
+    (omega arith, omega arith)
+
+spelt : (a b : Bytes) → allBytes wordByte a ≡ true → allBytes wordByte b ≡ true → wordKey a ≡ wordKey b → a ≡ b
+unfolding wordKey allBytes
+spelt [] [] p q e = refl
+spelt [] (y ∷ b) p q e = absurd (let z : ⊥ = omega (arith, digit-of y (and-left _ _ q) .0) in z)
+spelt (x ∷ a) [] p q e = absurd (let z : ⊥ = omega (arith, digit-of x (and-left _ _ p) .0) in z)
+spelt (x ∷ a) (y ∷ b) p q e =
+    let h : x < 256 = digit-of x (and-left _ _ p) .1 in
+    let i : y < 256 = digit-of y (and-left _ _ q) .1 in
+    let d : x ≡ y = omega arith in
+    let r : a ≡ b = spelt a b (and-right _ _ p) (and-right _ _ q) (omega arith) in
+    cc
+
+-- Words with one key are the same.
+pub key-spells : (a b : Bytes) → isWord a ≡ true → isWord b ≡ true → wordKey a ≡ wordKey b → a ≡ b
+unfolding isWord
+key-spells a b p q e = spelt a b (and-right _ _ p) (and-right _ _ q) e
+
+pub same-keys : (a b : Bytes) → isWord a ≡ true → isWord b ≡ true → same a b ≡ eqb (wordKey a) (wordKey b)
+same-keys a b p q = same-test _ _ (λ t. eq-eqb _ _ (ap wordKey (same-true a b t))) (λ t. same-of (key-spells a b p q (eqb-true _ _ t)))
+
+-- A word has at most 8 bytes.
+pub word-short : (w : Bytes) → isWord w ≡ true → take 8 w ≡ w
+unfolding isWord between
+word-short w h = take-all 8 w (leb-true (length w) 8 (and-right _ _ (and-left _ _ h)))
+
+digits-fit : (w : Bytes) → allBytes wordByte w ≡ true → wordKey w < 256 ^ length w
+unfolding wordKey allBytes
+digits-fit [] h = omega arith
+digits-fit (x ∷ w) h = rw (pow-suc 256 (length w)) (omega (arith, digit-of x (and-left _ _ h) .1, digits-fit w (and-right _ _ h)))
+
+-- Its key has 64 bits.
+pub key-fits : (w : Bytes) → isWord w ≡ true → wordKey w < 2 ^ 64
+unfolding isWord between
+key-fits w h =
+    let l : length w ≤ 8 = leb-true (length w) 8 (and-right _ _ (and-left _ _ h)) in
+    omega (arith, digits-fit w (and-right _ _ h), pow-le-pow-right {n = 256} (omega arith) l)
