@@ -14,7 +14,7 @@ use borrow.Author.Tests.{eqb-true, eq-eqb, ne-eqb, le-leb, lt-leb}
 use Rattle.laws.specs.Tests.{_and_, _⇒_, isnt, every, first, count, found}
 use Rattle.laws.specs.TestLaws.{first-least, first-only, first-skip, count-skip, count-more, every-skip, every-at, fails, implied, implies}
 use Rattle.laws.specs.Lists.{choose-yes, choose-no}
-use Rattle.laws.specs.Slices.{below-or, drop-at, getD-part}
+use Rattle.laws.specs.Slices.{below-or, drop-at}
 use Rattle.laws.specs.Chain.{Chained, Blind, Left, left-start, left-step, link-le}
 use Rattle.rules.specs.Text.{Bytes, same, between, allBytes, wordByte, isWord}
 use Rattle.rules.specs.Graph.{Program, nameAt, sourceAt, wordAt, procCount, nodeCount, edgeCount, dash, leaves, edgeTaken, degree}
@@ -28,13 +28,14 @@ use Rattle.graph.specs.Reads.{partAt, upTo, past, part-past}
 
 -- ---- `part_at`, `spells`, `name_is`
 
-pub part-at-is : (text links place part : List ℕ) (i start len : ℕ) → place ≡ take 2 (drop i links) → start ≡ getD place 0 0 → len ≡ getD place 1 0 → part ≡ take len (drop start text)
-    → part ≡ partAt text links i
-unfolding partAt
-part-at-is text links place part i start len p a b q =
-    let x : start ≡ getD links i 0 = a ∙ ap (λ (l : List ℕ). getD l 0 0) p ∙ getD-part links i 2 0 0 (omega arith) ∙ ap (λ (k : ℕ). getD links k 0) (add-zero i) in
-    let y : len ≡ getD links (i + 1) 0 = b ∙ ap (λ (l : List ℕ). getD l 1 0) p ∙ getD-part links i 2 1 0 (omega arith) in
-    q ∙ ap₂ (λ (n : ℕ) (m : ℕ). take n (drop m text)) y x
+module _ (text links part : List ℕ) (i : ℕ) where
+  pub part-none : length links ≤ i → part ≡ take 0 (drop 0 text) → part ≡ partAt text links i
+  unfolding partAt
+  part-none h q = q ∙ ap₂ (λ (n : ℕ) (m : ℕ). take n (drop m text)) (sym (past links i (i + 1) h (omega arith))) (sym (past links i i h (omega arith)))
+
+  pub part-at-is : (start len : ℕ) → start ≡ getD links i 0 → len ≡ getD links (i + 1) 0 → part ≡ take len (drop start text) → part ≡ partAt text links i
+  unfolding partAt
+  part-at-is start len x y q = q ∙ ap₂ (λ (n : ℕ) (m : ℕ). take n (drop m text)) y x
 
 module _ (text links bytes : List ℕ) (i : ℕ) (t : Bool) where
   pub spells-is : (part : List ℕ) → part ≡ partAt text links i → t ≡ same part bytes → t ≡ same (partAt text links i) bytes
@@ -65,7 +66,7 @@ module _ (links : List ℕ) (e : ℕ) where
     unfolding upTo
     before-out h = rw (← p) (sym (choose-no place 0 (lt-leb place e h)))
 
-pub ruleset reads = (part-at-is, spells-is, name-past, head-past, key-past, before-past, before-in, before-out)
+pub ruleset reads = (part-none, part-at-is, spells-is, name-past, head-past, key-past, before-past, before-in, before-out)
 
 -- ---- what the links of a program hold
 

@@ -13,9 +13,11 @@ ghost use Rattle.graph.specs.Lookups.{Dashed, Degree, EdgeTaken, ProcNam
 pub fn part_at<'a>(text: &'a [u8], table: &[usize], i: usize) -> &'a [u8]
     ensures { λ r. ⌜ now r ≡ partAt (now (text .entry)) (now (table .entry)) i ⌝ }
 {
-    let place = text::run(table, i, 2);
-    let start = text::get(place, 0);
-    let len = text::get(place, 1);
+    if table.len() <= i {
+        return text::part(text, 0, 0);
+    }
+    let start = table[i];
+    let len = text::get(table, i + 1);
     text::part(text, start, len)
 }
 

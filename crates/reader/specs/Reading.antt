@@ -9,7 +9,7 @@ use lib.ListN.{length, getD, take, drop, set}
 use lib.Seq.{sets}
 use Rattle.laws.specs.Tests.{_and_, _⇒_, every, first, count, choose}
 use Rattle.rules.specs.Text.{Bytes, isWord, value, Answer, refused, accepted, unless, readLines, linesOf as linesOfText}
-use Rattle.rules.specs.Graph.{Program, E, C, X, kindAt, labelAt, calleeAt, sourceAt, nodeCount, edgeCount, procCount, kindNumber, isOf, entry, exit, worded, wordAt, ownerAt}
+use Rattle.rules.specs.Graph.{Program, E, X, kindAt, labelAt, calleeAt, sourceAt, nodeCount, edgeCount, procCount, kindNumber, isOf, entry, exit, worded, wordAt, ownerAt}
 use Rattle.rules.specs.ProgramFile.{Line, Listing, current, complete, takeProc, takeLine, stepProgram, finishProgram, nothingRead, hasWord, withEdge, degreeFine, lost}
 use Rattle.rules.specs.Places.{Part}
 use Rattle.rules.specs.Proofs.ProgramLaws.{Sound}

@@ -7,9 +7,9 @@ use text::get;
 use text::part;
 use text::put;
 ghost use mathlib.Core.Path.{_≡_};
-ghost use mathlib.Core.List.{List, _∷_, []};
-ghost use Prim.Native.Nat.{ℕ, _+_, _-_, _*_, _≤_, _<_};
-ghost use lib.ListN.{length, getD, drop};
+ghost use mathlib.Core.List.{_∷_, []};
+ghost use Prim.Native.Nat.{_+_, _-_, _*_, _≤_, _<_};
+ghost use lib.ListN.{length};
 ghost use lib.Seq.{sets};
 ghost use Rattle.lines.specs.declared.Form.the-variants.{Malformed, Proc, Node, Edge};
 ghost use Rattle.reader.specs.Reading.{
@@ -33,7 +33,6 @@ ghost use Rattle.reader.specs.Reading.{
   spread,
   storedEdge,
   storedNode,
-  storedProc,
 };
 ghost use Rattle.reader.specs.Result.{DegreesOf, ReadInto, Small, linksOf};
 

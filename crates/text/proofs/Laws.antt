@@ -1,5 +1,5 @@
 -- The turns and the returns of this crate's functions, as `search` finds them: the premises are what the code holds there.
-use mathlib.Core.Path.{_≡_, refl, sym, ap, ap₂, _∙_}
+use mathlib.Core.Path.{_≡_, refl, sym, ap, ap₂, _∙_, subst}
 use mathlib.Core.Bool.{Bool, true, false, _&&_, _||_}
 use mathlib.Core.List.{List, [], _∷_, _++_, append-nil}
 use Prim.Native.Nat.{ℕ, zero, suc, _+_, _-_, _*_, _/_, _%_, _^_, _≤_, _<_, min}
@@ -85,7 +85,7 @@ module _ (b : ℕ) (s : Bytes) (i : ℕ) (inv : span b s ≡ i + span b (drop i 
 
 pub ruleset finds = (find-hit, find-on, find-end, has-start, has-on, has-done, find-past, find-here)
 
--- ---- `same_short`, `same_block`, `same_half`, `same_rest`, `same`
+-- ---- `same_short`, `same_block`, `same_half`, `same_rest`, `same_long`, `same`
 
 pub same-sized : (a b : Bytes) → (length a ≡ length b → ⊥) → false ≡ same a b
 same-sized a b h = sym (fails _ (λ y. h (ap length (same-true a b y))))
@@ -108,6 +108,14 @@ pub same-done : (a b : Bytes) (i : ℕ) → drop i a ≡ drop i b → i ≤ 0 �
 same-done a b i inv h =
     let q : i ≡ 0 = omega arith in
     sym (same-of (ap (λ (n : ℕ). drop n a) (sym q) ∙ inv ∙ ap (λ (n : ℕ). drop n b) q))
+
+pub same-empty : (a b : Bytes) → length a ≡ length b → length a < 1 → true ≡ same a b
+same-empty a b l h = same-done a b (length a) (same-start a b l) (omega arith)
+
+pub same-single : (a b : Bytes) (last : ℕ) → length a ≡ length b → 1 ≤ length a → last ≡ length a - 1 → last < 1 → getD a last 0 ≡ getD b last 0 → true ≡ same a b
+same-single a b last l h d s e =
+    let q : getD a (length a - 1) 0 ≡ getD b (length a - 1) 0 = subst (λ (n : ℕ). getD a n 0 ≡ getD b n 0) d e in
+    same-done a b (length a - 1) (same-on a b (length a) h (omega arith) l (same-start a b l) q) (omega arith)
 
 pub block-same : (a b : Bytes) → same a b ≡ (true and same a b)
 unfolding _and_
@@ -166,7 +174,7 @@ module _ (a b : Bytes) (i w : ℕ) (t : Bool) (h : w < i) (e : t ≡ same (take 
 pub front-long : (n : ℕ) (a b : Bytes) → length a ≡ length b → n ≤ length a → length (take n b) ≡ n
 front-long n a b e h = length-take-le n b (omega arith)
 
-pub ruleset sames = (same-sized, same-start, same-on, same-not, same-done, block-same, block-more, block-whole, rest-short, before-on, before-not, before-rest, front-long)
+pub ruleset sames = (same-sized, same-start, same-on, same-not, same-done, same-empty, same-single, block-same, block-more, block-whole, rest-short, before-on, before-not, before-rest, front-long)
 
 -- ---- `part`, `run`, `front`, `after`
 

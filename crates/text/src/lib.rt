@@ -2,7 +2,7 @@
 // any place: a part that goes past the end is cut there, a read past the end is 0, and a store past the end does nothing. A writer requires
 // only that the next place can be counted.
 ghost use mathlib.Core.Path.{_≡_};
-ghost use mathlib.Core.List.{List, _∷_, []};
+ghost use mathlib.Core.List.{_∷_, []};
 ghost use Prim.Native.Nat.{_+_, _-_, _*_, _%_, _^_, _≤_, _<_, min};
 ghost use lib.ListN.{take, drop, getD, set, length, replicate};
 ghost use lib.Seq.{sets};
@@ -98,13 +98,11 @@ fn same_rest(a: &[u8], b: &[u8], i: usize) -> bool
     false
 }
 
-// Whether the two hold the same bytes. The last are compared first: names and labels often differ by a number at their end.
-pub fn same(a: &[u8], b: &[u8]) -> bool
+// Whether the two, of one length, hold the same bytes: in blocks from the end, or byte by byte where they are few.
+fn same_long(a: &[u8], b: &[u8]) -> bool
+    requires { ⌜ length (now a) ≡ length (now b) ⌝ }
     ensures { λ r. ⌜ r ≡ sameBytes (now (a .entry)) (now (b .entry)) ⌝ }
 {
-    if a.len() != b.len() {
-        return false;
-    }
     if a.len() < 8 {
         return same_short(a, b);
     }
@@ -118,6 +116,26 @@ pub fn same(a: &[u8], b: &[u8]) -> bool
         }
     }
     same_rest(a, b, i)
+}
+
+// Whether the two hold the same bytes. The last is compared first: names and labels often differ by a number at their end.
+pub fn same(a: &[u8], b: &[u8]) -> bool
+    ensures { λ r. ⌜ r ≡ sameBytes (now (a .entry)) (now (b .entry)) ⌝ }
+{
+    if a.len() != b.len() {
+        return false;
+    }
+    if a.len() < 1 {
+        return true;
+    }
+    let last = a.len() - 1;
+    if a[last] != b[last] {
+        return false;
+    }
+    if last < 1 {
+        return true;
+    }
+    same_long(a, b)
 }
 
 // The part of s from start, len bytes long, cut at the end of s.

@@ -11,7 +11,7 @@ use Rattle.laws.specs.Tests.{_and_, _⇒_, found, listed}
 use Rattle.laws.specs.TestLaws.{and-both, and-left, and-right, both-ways, fails}
 use Rattle.rules.specs.Text.{Bytes, same}
 use Rattle.rules.specs.Graph.{C, Kind, E, S, X, called, calleeAt, edgeCount, entry, exit, filled, kindAt, kindNumber, labelAt, nodeCount, sameKind, sourceAt, wordAt}
-use Rattle.rules.specs.Closing.{alike, bothCall, goesOn, sameCallee, sameLabel, sameWord}
+use Rattle.rules.specs.Closing.{bothCall, goesOn, sameCallee, sameLabel, sameWord}
 use Rattle.rules.specs.ProgramFile.{Listing}
 use Rattle.rules.specs.Proofs.ClosingLaws.{alike-parts, bare-callees, same-word, sameCallee-is, sameLabel-is, taken-same}
 use Rattle.rules.specs.Proofs.GraphLaws.{called-below, called-name, sameKind-true}

@@ -2,7 +2,6 @@
 // leaves them; `w` is the table of the pairs, of 16,912 numbers.
 use answer::Answer;
 use intake::Texts;
-ghost use mathlib.Core.Path.{_≡_};
 ghost use Prim.Native.Nat.{_≤_};
 ghost use Rattle.intake.specs.Ready.{Few};
 ghost use Rattle.versions.specs.Memory.{memory};

@@ -1,9 +1,7 @@
 use borrow.Author.Needs.{needs}
 use Rattle.reader.proofs.All.{all}
 use Prim.Native.Nat.{_≤_, _-_}
-use mathlib.Core.Path.{_≡_, refl}
-use lib.ListN.{length, drop}
-use Rattle.reader.specs.Reading.{kindCount, FineTo}
+use Rattle.reader.specs.Reading.{FineTo}
 use Rattle.reader.proofs.all_fine.Statement.{statement}
 use Rattle.reader.proofs.all_fine.Tie as tie
 

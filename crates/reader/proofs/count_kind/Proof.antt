@@ -2,9 +2,8 @@ use borrow.Author.Needs.{needs}
 use Rattle.reader.proofs.All.{all}
 use Rattle.reader.proofs.Completeness.{kind-hit}
 use Prim.Native.Nat.{_≤_, _-_}
-use mathlib.Core.Path.{_≡_, refl}
-use lib.ListN.{length, drop}
-use Rattle.reader.specs.Reading.{kindCount, FineTo}
+use mathlib.Core.Path.{_≡_}
+use Rattle.reader.specs.Reading.{kindCount}
 use Rattle.reader.proofs.count_kind.Statement.{statement}
 use Rattle.reader.proofs.count_kind.Tie as tie
 

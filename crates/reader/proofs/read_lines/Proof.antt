@@ -1,9 +1,7 @@
 use borrow.Author.Needs.{needs}
 use Rattle.reader.proofs.All.{all}
-use Prim.Native.Nat.{_≤_, _-_}
-use mathlib.Core.Path.{_≡_, refl}
-use lib.ListN.{length, drop}
-use Rattle.reader.specs.Reading.{kindCount, FineTo}
+use Prim.Native.Nat.{_-_}
+use lib.ListN.{length}
 use Rattle.reader.proofs.Turns.{Head, spread-room}
 use Rattle.reader.proofs.read_lines.Statement.{statement}
 use Rattle.reader.proofs.read_lines.Tie as tie

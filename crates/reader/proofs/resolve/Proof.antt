@@ -1,9 +1,9 @@
 use borrow.Author.Needs.{needs}
 use Rattle.reader.proofs.All.{all}
 use Prim.Native.Nat.{_≤_, _-_}
-use mathlib.Core.Path.{_≡_, refl}
-use lib.ListN.{length, drop}
-use Rattle.reader.specs.Reading.{kindCount, FineTo, ResolvedTo}
+use mathlib.Core.Path.{_≡_}
+use lib.ListN.{length}
+use Rattle.reader.specs.Reading.{ResolvedTo}
 use Rattle.reader.proofs.resolve.Statement.{statement}
 use Rattle.reader.proofs.resolve.Tie as tie
 

@@ -1,9 +1,6 @@
 use borrow.Author.Needs.{needs}
 use Rattle.reader.proofs.All.{all}
-use Prim.Native.Nat.{_≤_, _-_}
-use mathlib.Core.Path.{_≡_, refl}
-use lib.ListN.{length, drop}
-use Rattle.reader.specs.Reading.{kindCount, FineTo}
+use Prim.Native.Nat.{_-_}
 use native.Mathlib.Omega.{arith}
 use Rattle.reader.proofs.Steps.{spread-node, spread-edge}
 use Rattle.reader.proofs.step.Statement.{statement}

@@ -30,6 +30,7 @@ use Rattle.rules.specs.Proofs.TextLaws.{same-true, unless-accepted, acce
 
 -- ---- the forms of a sheet's lines
 
+-- What the fields of a line are, by the form that they say.
 abbrev pub SheetFormed : List Bytes → SheetLine → Type 0
 SheetFormed fs head-line = fs ≡ bytes "sheet" ∷ bytes "1" ∷ []
 SheetFormed fs (m-line a b) = (fs ≡ bytes "M" ∷ a ∷ b ∷ []) × (isNumber a ≡ true) × (isNumber b ≡ true)

@@ -1,5 +1,5 @@
 use borrow.Author.Needs.{needs}
-use Rattle.work.proofs.Laws.{all, record-put}
+use Rattle.work.proofs.Laws.{record-put}
 use Rattle.work.proofs.record_from.Statement.{statement}
 use Rattle.work.proofs.record_from.Tie as tie
 
