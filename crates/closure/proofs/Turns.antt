@@ -6,7 +6,7 @@ use Prim.Native.Nat.{ℕ, _+_, _-_, _≤_, _<_}
 use native.Mathlib.Numerals.{add-one}
 use native.Mathlib.Omega.{arith}
 use borrow.Author.Tests.{le-leb, lt-leb}
-use lib.ListN.{length, getD, replicate, length-replicate}
+use lib.ListN.{length, getD}
 use Rattle.laws.specs.TestLaws.{both-ways}
 use Rattle.laws.specs.Lists.{choose-yes, choose-no}
 use Rattle.laws.specs.Slices.{below-or, same-or}
@@ -17,7 +17,7 @@ use Rattle.rules.specs.ProgramFile.{Listing}
 use Rattle.rules.specs.Proofs.Closure.{goesOn-at}
 use Rattle.graph.specs.Table.{edgeBase, headBase}
 use Rattle.graph.specs.Reads.{upTo}
-use Rattle.pairset.specs.Store.{dangerIn, newAt, oldAt, pairsIn}
+use Rattle.pairset.specs.Store.{Emptied, Empties, dangerIn, newAt, oldAt, pairsIn}
 use Rattle.pairset.specs.StoreLaws.{listed-at, listed-of}
 use Rattle.versions.specs.Memory.{InMemory, Memory, memory}
 use Rattle.versions.specs.MemoryLaws.{edges-chained}
@@ -348,12 +348,14 @@ module _ (a b : Memory) (limit : ℕ) (w₀ w : List ℕ) (c : ℕ) (v : List �
   pub repeat-settled : r ≤ limit → z ≡ true → Sized w₀ v (Finds a b limit w₀ v r)
   repeat-settled l e = ended l (λ o p t. t .step .done l e)
 
-pub close-done : (a b : Memory) (limit : ℕ) (w u v : List ℕ) (r : ℕ) → u ≡ replicate (length w) 0 → Sized u v (Finds a b limit u v r) → Sized w v (Closes a b limit w v r)
-unfolding Finds Closes
+pub close-done : (a b : Memory) (limit : ℕ) (w u v : List ℕ) (r : ℕ) → Emptied w u → Sized u v (Finds a b limit u v r) → Sized w v (Closes a b limit w v r)
+unfolding Finds Closes Empties
 close-done a b limit w u v r e x =
     record {
-      size = x .size ∙ ap length e ∙ length-replicate (length w) 0;
-      claim = λ o p h g l. x .claim o p h g (rw e (state-none (o .program) (p .program) limit (length w) l));
+      size = x .size ∙ e .size;
+      claim = λ o p h g l.
+          let y = e .empties (omega arith) in
+          x .claim o p h g (state-none (o .program) (p .program) limit u (omega (arith, e .size)) (y .0) (y .1));
     }
 
 pub ruleset repeats = (repeat-start, repeat-on, repeat-over, repeat-still, repeat-settled, close-done)

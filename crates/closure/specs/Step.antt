@@ -8,7 +8,7 @@ use native.Mathlib.Nat.{not-suc-le-zero}
 use native.Mathlib.Omega.{arith}
 use borrow.Author.Tests.{eq-eqb, eqb-true}
 use lib.Dec.{eqb}
-use lib.ListN.{length, getD, replicate, length-replicate}
+use lib.ListN.{length, getD}
 use Rattle.laws.specs.Tests.{_or_, listed}
 use Rattle.laws.specs.TestLaws.{and-both, both-ways, eqb-self, listed-append, listed-one, or-cases, or-left, or-right}
 use Rattle.laws.specs.Lists.{none-listed, snoc-length, snoc-new, snoc-old}
@@ -17,22 +17,22 @@ use Rattle.rules.specs.Graph.{Program, nodeCount}
 use Rattle.rules.specs.Closing.{Dangerous, Pair, pairs}
 use Rattle.rules.specs.Proofs.Closure.{pairs-complete, pairs-inside}
 use Rattle.pairset.specs.Store.{Appended, Appends, DangerMarked, MarksDanger, Store, dangerIn, newAt, oldAt, pairBase, pairsIn}
-use Rattle.pairset.specs.StoreLaws.{listed-at, listed-of, listed-snoc, no-dangers, no-pairs, pairs-agree, pairs-count, store-clear}
+use Rattle.pairset.specs.StoreLaws.{listed-at, listed-of, listed-snoc, no-pairs, pairs-agree, pairs-count}
 use Rattle.closure.specs.Once.{once-none, once-snoc, pigeonhole}
 use Rattle.closure.specs.State.{CallDone, Claim, EdgeDone, EdgesDone, EntriesDone, Formed, Kept, Lasts, OnDone, PairDone, PairFollowed, State, Step, Within}
 
 -- ---- nothing found yet
 
-pub state-none : (old new : Program) (limit n : ℕ) → pairBase + 3 * limit ≤ n → State old new limit (replicate n 0) 0
-state-none old new limit n h =
+pub state-none : (old new : Program) (limit : ℕ) (w : List ℕ) → pairBase + 3 * limit ≤ length w → Store w 0 → ((e : ℕ) → dangerIn w e ≡ false) → State old new limit w 0
+state-none old new limit w h s d =
     record {
-      wide = omega (arith, length-replicate {A = ℕ} n 0);
+      wide = h;
       few = omega arith;
       kept = λ _. record {
-        store = store-clear n (omega arith);
-        sound = λ a b t. absurd (none-listed a b (rw (no-pairs (replicate n 0)) at t));
-        once = rw (no-pairs (replicate n 0)) once-none;
-        dangerous = λ e t. absurd (both-ways t (no-dangers n e));
+        store = s;
+        sound = λ a b t. absurd (none-listed a b (rw (no-pairs w) at t));
+        once = rw (no-pairs w) once-none;
+        dangerous = λ e t. absurd (both-ways t (d e));
       };
       over = λ l. absurd (let z : ⊥ = omega arith in z);
     }

@@ -354,6 +354,6 @@ pub fn close(
         (memory (now (nt .entry)) (now (nn .entry)) (now (nl .entry)))
         limit (now (w .entry)) (now (w .exit)) r) ⌝ }
 {
-    text::clear(w);
+    pairset::empty(w);
     repeat(ot, on, ol, nt, nn, nl, limit, w)
 }

@@ -1,7 +1,7 @@
 -- The turns and the returns of this crate's functions, as `search` finds them: the premises are what the code holds there.
 use mathlib.Core.Path.{_≡_, refl, sym, ap, ap₂, _∙_}
 use mathlib.Core.Bool.{Bool, false}
-use mathlib.Core.List.{List, [], _∷_}
+use mathlib.Core.List.{List, [], _∷_, _++_}
 use mathlib.Core.Option.{none}
 use Prim.Native.Nat.{ℕ, suc, _+_, _-_, _*_, _/_, _%_, _^_, _≤_, _<_}
 use native.Mathlib.Nat.{div-mul-le-self, mod-eq-of-lt, zero-add}
@@ -9,8 +9,8 @@ use native.Mathlib.Omega.{arith}
 use borrow.Author.Tests.{lt-ltb, le-ltb, le-leb, lt-leb}
 use lib.Count.{trailingZeros, trailing-le}
 use lib.Dec.{leb}
-use lib.ListN.{length, getD, set, List·getD-eq-default}
-use lib.Seq.{sets}
+use lib.ListN.{length, getD, set, take, drop, replicate, length-append, length-drop, length-replicate, getD-replicate, List·getD-append, List·getD-eq-default}
+use lib.Seq.{sets, length-take-le}
 use Rattle.laws.specs.Tests.{_and_, first, found, listed}
 use Rattle.laws.specs.TestLaws.{and-right, fails, first-none}
 use Rattle.laws.specs.Lists.{choose-yes, choose-no}
@@ -18,8 +18,8 @@ use Rattle.laws.specs.Counting.{first-agree}
 use Rattle.laws.specs.Slices.{below-or, sets-three}
 use Rattle.laws.specs.Bits.{bitAt, bitIn, first-no-word, first-within, first-word}
 use Rattle.laws.specs.BitSets.{bit-from, withBit, word-bit}
-use Rattle.pairset.specs.Store.{dangerBit, dangerWord, pairBase, pairBit, oldAt, newAt, linkAt, pairsIn, Store, lastPair, pairBefore, Has, Appends, Appended, MarksDanger, DangerMarked, NextPartner, RowFrom}
-use Rattle.pairset.specs.StoreLaws.{danger-more, dangers-stay, listed-at, listed-inside, marked-length, more, more-length, new-stays, old-stays, pairs-more, store-marked, store-more}
+use Rattle.pairset.specs.Store.{dangerBit, dangerWord, pairBase, pairBit, oldAt, newAt, linkAt, pairsIn, Store, lastPair, pairBefore, Has, Appends, Appended, MarksDanger, DangerMarked, Empties, Emptied, NextPartner, RowFrom}
+use Rattle.pairset.specs.StoreLaws.{danger-more, dangers-stay, listed-at, listed-inside, marked-length, more, more-length, new-stays, no-dangers, old-stays, pairs-more, store-marked, store-more, store-none}
 
 -- ---- `old_of`, `new_of`, `danger_word`, `last_pair`, `pair_before`
 
@@ -58,6 +58,27 @@ module _ (w : List ℕ) (k : ℕ) where
     before-out h = rw (← p) (sym (choose-no place 0 (lt-leb place k h)))
 
 pub ruleset reads = (old-past, new-past, danger-past, last-in, last-out, before-past, before-in, before-out)
+
+-- ---- `empty`
+
+pub empty-short : (w : List ℕ) → length w < pairBase → Emptied w w
+unfolding Empties
+empty-short w h = record { empties = λ l. absurd (let z : ⊥ = omega arith in z); size = refl }
+
+module _ (w u : List ℕ) (h : pairBase ≤ length w) (e : u ≡ replicate (length (take pairBase w)) 0) where
+  long : length u ≡ pairBase
+  long = ap length e ∙ length-replicate (length (take pairBase w)) 0 ∙ length-take-le pairBase w h
+
+  zeros : (k : ℕ) → k < pairBase → getD (u ++ drop pairBase w) k 0 ≡ 0
+  zeros k l =
+      List·getD-append u (drop pairBase w) 0 k (omega (arith, long)) ∙ ap (λ (t : List ℕ). getD t k 0) e
+      ∙ getD-replicate (length (take pairBase w)) k 0 0 (omega (arith, length-take-le pairBase w h))
+
+  pub empty-done : Emptied w (u ++ drop pairBase w)
+  unfolding Empties
+  empty-done =
+      let size : length (u ++ drop pairBase w) ≡ length w = omega (arith, length-append u (drop pairBase w), long, length-drop pairBase w) in
+      record { empties = λ _. (store-none _ (omega arith) zeros, no-dangers _ (omega arith) zeros); size = size }
 
 -- ---- `has`
 

@@ -2,7 +2,7 @@
 -- nodes are paired with the old node; then 16 words, whose bits say which old edges were found dangerous; then three numbers a pair: the old node, the new node,
 -- and 1 + the pair before it of the same old node, or 0. How many pairs there are stands outside the table.
 use mathlib.Core.Path.{_≡_}
-use mathlib.Core.Bool.{Bool}
+use mathlib.Core.Bool.{Bool, false}
 use mathlib.Core.List.{List, [], _∷_, _++_}
 use Prim.Native.Nat.{ℕ, zero, suc, _+_, _*_, _≤_, _<_}
 use lib.Dec.{eqb, ltb, leb}
@@ -67,6 +67,14 @@ pairBefore w k = choose (leb (linkAt w k) k) (linkAt w k) 0
 -- `has`: whether (a, b) is one of the pairs, however many there are.
 unfoldable pub Has : List ℕ → ℕ → ℕ → Bool → Type 0
 Has w a b r = (c : ℕ) → Store w c → r ≡ listed (pairsIn w c) a b
+
+-- `empty`: no pairs and no dangerous edges, where there is room for them; the table stays as long as it was.
+unfoldable pub Empties : List ℕ → List ℕ → Type 0
+Empties w v = pairBase ≤ length w → Store v 0 × ((e : ℕ) → dangerIn v e ≡ false)
+
+pub record Emptied (w v : List ℕ) : Type 0 where
+  pub empties : Empties w v
+  pub size : length v ≡ length w
 
 -- `append`: one pair more, where there is room for it, and the dangerous edges stay; the table stays as long as it was.
 unfoldable pub Appends : List ℕ → ℕ → ℕ → ℕ → List ℕ → Type 0

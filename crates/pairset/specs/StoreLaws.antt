@@ -8,14 +8,14 @@ use native.Mathlib.Numerals.{add-one}
 use native.Mathlib.Omega.{arith}
 use borrow.Author.Tests.{eqb-true, eq-eqb, ne-eqb, lt-ltb, le-ltb, le-leb, lt-leb}
 use lib.Dec.{eqb, ltb}
-use lib.ListN.{length, getD, set, replicate, length-set, length-replicate, getD-replicate}
+use lib.ListN.{length, getD, set, length-set}
 use lib.Seq.{sets, length-sets, getD-set-same, getD-set-other}
 use Rattle.laws.specs.Tests.{_and_, _or_, every, any, listed, allPairs}
 use Rattle.laws.specs.TestLaws.{and-assoc, and-both, and-ends, and-left, and-not, and-right, any-at, any-of, fails, or-assoc, or-ends, or-swap}
 use Rattle.laws.specs.Lists.{choose-yes, choose-no, snoc-length}
 use Rattle.laws.specs.Slices.{below-or, same-or, getD-sets-before, getD-sets-in}
-use Rattle.laws.specs.Bits.{bitAt, bitIn}
-use Rattle.laws.specs.BitSets.{bit-with, clear-bits, withBit, word-bit}
+use Rattle.laws.specs.Bits.{bitAt, bitIn, bit-none}
+use Rattle.laws.specs.BitSets.{bit-with, withBit, word-bit}
 use Rattle.laws.specs.Chain.{latest, latest-agree, latest-none, Chained, chain-none, chain-more, link-le}
 use Rattle.pairset.specs.Store.{dangerBit, dangerIn, dangerWord, pairBase, pairBit, headAt, oldAt, newAt, linkAt, pairsIn, Store, lastPair, pairBefore}
 
@@ -108,24 +108,29 @@ listed-inside {w} {c} s a b e =
 
 -- ---- the empty table
 
-pub store-none : (w : List ℕ) → pairBase ≤ length w → ((a : ℕ) → a < 512 → headAt w a ≡ 0) → ((e : ℕ) → bitIn w e ≡ false) → Store w 0
-unfolding pairsIn listed
-store-none w h z b =
-    record {
-      room = omega arith;
-      inside = λ k l. absurd (not-suc-le-zero l);
-      new-inside = λ k l. absurd (not-suc-le-zero l);
-      chains = chain-none _ _ _ _ z;
-      bits = λ x y _ _. b (pairBit x y);
-    }
+-- A table whose heads and bits are 0.
+module _ (w : List ℕ) (h : pairBase ≤ length w) (z : (k : ℕ) → k < pairBase → getD w k 0 ≡ 0) where
+  zero-bit : (e : ℕ) → e < 64 * pairBase → bitIn w e ≡ false
+  unfolding bitIn
+  zero-bit e l = ap (λ (x : ℕ). bitAt x (e % 64)) (z (e / 64) (omega arith)) ∙ bit-none (e % 64)
 
-pub store-clear : (n : ℕ) → pairBase ≤ n → Store (replicate n 0) 0
-store-clear n h =
-    store-none (replicate n 0) (omega (arith, length-replicate {A = ℕ} n 0)) (λ a l. getD-replicate n a 0 0 (omega arith)) (clear-bits (replicate n 0) n refl)
+  pub store-none : Store w 0
+  unfolding pairsIn listed
+  store-none =
+      record {
+        room = omega arith;
+        inside = λ k l. absurd (not-suc-le-zero l);
+        new-inside = λ k l. absurd (not-suc-le-zero l);
+        chains = chain-none _ _ _ _ (λ a l. z a (omega arith));
+        bits = λ x y l m. zero-bit (pairBit x y) (omega arith);
+      }
 
-pub no-dangers : (n e : ℕ) → dangerIn (replicate n 0) e ≡ false
-unfolding dangerIn
-no-dangers n e = ap (λ (t : Bool). ltb e 1024 and t) (clear-bits (replicate n 0) n refl (dangerBit e)) ∙ and-not (ltb e 1024)
+  pub no-dangers : (e : ℕ) → dangerIn w e ≡ false
+  unfolding dangerIn _and_
+  no-dangers e =
+      below-or e 1024
+      (λ l. ap (λ (t : Bool). ltb e 1024 and t) (zero-bit (dangerBit e) (omega arith)) ∙ and-not (ltb e 1024))
+      (λ l. ap (λ (t : Bool). t and bitIn w (dangerBit e)) (le-ltb e 1024 l))
 
 pub no-pairs : (w : List ℕ) → pairsIn w 0 ≡ []
 unfolding pairsIn

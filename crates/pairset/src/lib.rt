@@ -5,7 +5,7 @@ ghost use mathlib.Core.List.{_∷_, []};
 ghost use Prim.Native.Nat.{_+_, _*_, _^_, _<_};
 ghost use lib.Count.{trailingZeros};
 ghost use lib.Seq.{sets};
-ghost use Rattle.pairset.specs.Store.{Appended, DangerMarked, Has, NextPartner, RowFrom, dangerWord, lastPair, newAt, oldAt, pairBefore};
+ghost use Rattle.pairset.specs.Store.{Appended, DangerMarked, Emptied, Has, NextPartner, RowFrom, dangerWord, lastPair, newAt, oldAt, pairBefore};
 
 // The old node of the pair k.
 pub fn old_of(w: &[usize], k: usize) -> usize
@@ -62,6 +62,16 @@ pub fn has(w: &[usize], a: usize, b: usize) -> bool
         return false;
     }
     text::bit_at(w, 64 * (512 + 8 * a) + b)
+}
+
+// Makes the table one of no pairs and no dangerous edges. What stands where pairs do stays: it is of no matter.
+pub fn empty(w: &mut [usize])
+    ensures { λ _. ⌜ Emptied (now (w .entry)) (now (w .exit)) ⌝ }
+{
+    if w.len() < 4624 {
+        return;
+    }
+    text::clear(&mut w[..4624]);
 }
 
 // Puts three numbers at `at`.

@@ -21,8 +21,8 @@ use Rattle.rules.specs.Proofs.SheetLayout.{SheetFormed, sheet-formed}
 use Rattle.rules.specs.Proofs.TextLaws.{join-split, split-cons}
 use Rattle.text.specs.Scans.{span}
 use Rattle.text.specs.SplitLaws.{cut-at, uncut-at}
-use Rattle.pairset.specs.Store.{Store}
-use Rattle.pairset.specs.StoreLaws.{no-pairs, store-clear}
+use Rattle.pairset.specs.Store.{Emptied, Empties}
+use Rattle.pairset.specs.StoreLaws.{no-pairs}
 use Rattle.sheet_reader.specs.declared.Form.{Form}
 use Rattle.sheet_reader.specs.declared.Form.the-variants.{Edge, End, Head as First, Nothing, Pair, Test}
 use Rattle.sheet_reader.specs.declared.State.{State}
@@ -336,18 +336,15 @@ pub ruleset turns = (head-start, no-end, turn-at, turn-next, turn-number, head-o
 
 -- ---- `read_sheet`
 
-pub clear-store : (w v : List ℕ) → v ≡ replicate (length w) 0 → 16912 ≤ length w → Store v 0
-clear-store w v e h = subst (λ (x : List ℕ). Store x 0) (sym e) (store-clear (length w) (omega arith))
-
 module _ (olds news edges : ℕ) (tt : Bytes) (table : List ℕ) (count : ℕ) (sheet : Bytes) (r : Result) (w′ sets′ : List ℕ) where
   pub sheet-long : 65536 < length sheet → r .number ≡ 1 → r .place ≡ 0 → Reads olds news edges tt table count sheet r w′ sets′
   unfolding Reads readSheet readText unless
   sheet-long h en ep old new suite for = simp (lt-ltb 65536 (length sheet) h) (en, ep, omega arith)
 
-  pub sheet-read : (w sets w₁ sets₁ : List ℕ) → length sheet ≤ 65536 → 16912 ≤ length w → w₁ ≡ replicate (length w) 0 → sets₁ ≡ replicate (length sets) 0
+  pub sheet-read : (w sets w₁ sets₁ : List ℕ) → length sheet ≤ 65536 → 16912 ≤ length w → Emptied w w₁ → sets₁ ≡ replicate (length sets) 0
       → Lines olds news edges tt table count sheet w₁ sets₁ r w′ sets′ → Reads olds news edges tt table count sheet r w′ sets′
-  unfolding Reads Lines readSheet readText unless
+  unfolding Reads Lines readSheet readText unless Empties
   sheet-read w sets w₁ sets₁ h k ew es a old new suite for =
-      simp (le-ltb 65536 (length sheet) h) (a old new suite for (record { store = clear-store w w₁ ew k; clear = clear-bits sets₁ (length sets) es }))
+      simp (le-ltb 65536 (length sheet) h) (a old new suite for (record { store = ew .empties (omega arith) .0; clear = clear-bits sets₁ (length sets) es }))
 
 pub ruleset texts = (sheet-long, sheet-read)

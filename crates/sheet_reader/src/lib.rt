@@ -572,7 +572,7 @@ pub fn read_sheet(
             pairs: 0,
         };
     }
-    text::clear(w);
+    pairset::empty(w);
     clear_words(sets);
     read_lines(sheet, olds, news, edges, tt, tests, count, w, sets)
 }

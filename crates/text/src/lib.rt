@@ -98,11 +98,13 @@ fn same_rest(a: &[u8], b: &[u8], i: usize) -> bool
     false
 }
 
-// Whether the two, of one length, hold the same bytes: in blocks from the end, or byte by byte where they are few.
-fn same_long(a: &[u8], b: &[u8]) -> bool
-    requires { ⌜ length (now a) ≡ length (now b) ⌝ }
+// Whether the two hold the same bytes: in blocks from the end, or byte by byte where they are few.
+pub fn same_long(a: &[u8], b: &[u8]) -> bool
     ensures { λ r. ⌜ r ≡ sameBytes (now (a .entry)) (now (b .entry)) ⌝ }
 {
+    if a.len() != b.len() {
+        return false;
+    }
     if a.len() < 8 {
         return same_short(a, b);
     }
@@ -118,7 +120,7 @@ fn same_long(a: &[u8], b: &[u8]) -> bool
     same_rest(a, b, i)
 }
 
-// Whether the two hold the same bytes. The last is compared first: names and labels often differ by a number at their end.
+// The same, by the last byte first: the quicker where they mostly differ, as names do by a number at their end.
 pub fn same(a: &[u8], b: &[u8]) -> bool
     ensures { λ r. ⌜ r ≡ sameBytes (now (a .entry)) (now (b .entry)) ⌝ }
 {

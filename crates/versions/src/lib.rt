@@ -113,7 +113,7 @@ fn same_label(ot: &[u8], on: &[usize], nt: &[u8], nn: &[usize], n: usize, m: usi
 {
     let a = label(ot, on, n);
     let b = label(nt, nn, m);
-    text::same(a, b)
+    text::same_long(a, b)
 }
 
 // Whether the old procedure q and the new procedure k have names that count as equal callees.

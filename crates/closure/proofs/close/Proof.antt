@@ -3,8 +3,8 @@ use Rattle.closure.proofs.All.{all}
 use Rattle.closure.proofs.close.Statement.{statement}
 use Rattle.closure.proofs.close.Tie as tie
 
-clear-requires : tie.Need-clear-requires
-clear-requires c κs = search needs
+empty-requires : tie.Need-empty-requires
+empty-requires c κs = search needs
 
 repeat-requires : tie.Need-repeat-requires
 repeat-requires c κs = search needs
@@ -16,4 +16,4 @@ returns : tie.Need-returns
 returns c = search (all, needs)
 
 pub close-spec : {M : Type 1} → statement M
-close-spec = tie.close (tie.spec clear-requires repeat-requires same-length returns)
+close-spec = tie.close (tie.spec empty-requires repeat-requires same-length returns)

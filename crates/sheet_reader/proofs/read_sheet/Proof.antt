@@ -6,8 +6,8 @@ use Rattle.sheet_reader.proofs.read_sheet.Tie as tie
 returns : tie.Need-returns
 returns c = search (all, needs)
 
-clear-requires : tie.Need-clear-requires
-clear-requires c κs = search needs
+empty-requires : tie.Need-empty-requires
+empty-requires c κs = search needs
 
 clear-words-requires : tie.Need-clear-words-requires
 clear-words-requires c κs = search needs
@@ -29,7 +29,7 @@ read-sheet-spec =
     tie.close
     (tie.spec
     returns
-    clear-requires
+    empty-requires
     clear-words-requires
     read-lines-requires
     same-length

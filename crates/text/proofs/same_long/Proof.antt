@@ -13,11 +13,14 @@ Inv-loop a b i₀ i = (i ≤ length a) × (length a ≡ length b) × (8 ≤ leng
 abbrev μ-loop : tie.MeasureT-loop
 μ-loop a b i₀ i = i
 
+returns : tie.Need-returns Inv-loop μ-loop
+returns c = search (all, needs)
+
 same-short-requires : tie.Need-same-short-requires Inv-loop μ-loop
 same-short-requires c κs = search (all, needs)
 
-returns : tie.Need-returns Inv-loop μ-loop
-returns c = search (all, needs)
+returns-2 : tie.Need-returns-2 Inv-loop μ-loop
+returns-2 c = search (all, needs)
 
 loop-holds : tie.Need-loop-holds Inv-loop μ-loop
 loop-holds c = search (all, needs)
@@ -52,14 +55,14 @@ loop-less c = search (all, needs)
 loop-again : tie.Need-loop-again Inv-loop μ-loop
 loop-again c = (search needs, search needs, search needs, before-on _ _ (c .before .before .before .before .before .loop .i) 16 _ (search) (c .before .same-block .ensures) (search) (search))
 
-returns-2 : tie.Need-returns-2 Inv-loop μ-loop
-returns-2 c = search (all, needs)
+returns-3 : tie.Need-returns-3 Inv-loop μ-loop
+returns-3 c = search (all, needs)
 
 same-rest-requires : tie.Need-same-rest-requires Inv-loop μ-loop
 same-rest-requires c κs = search (all, needs)
 
-returns-3 : tie.Need-returns-3 Inv-loop μ-loop
-returns-3 c = search (all, needs)
+returns-4 : tie.Need-returns-4 Inv-loop μ-loop
+returns-4 c = search (all, needs)
 
 pub same-long-spec : {M : Type 1} → statement M
 same-long-spec =
@@ -67,8 +70,9 @@ same-long-spec =
     (tie.spec
     Inv-loop
     μ-loop
-    same-short-requires
     returns
+    same-short-requires
+    returns-2
     loop-holds
     sub-j
     sub-same-block
@@ -80,6 +84,6 @@ same-long-spec =
     same-block-requires
     loop-less
     loop-again
-    returns-2
+    returns-3
     same-rest-requires
-    returns-3)
+    returns-4)
