@@ -10,7 +10,7 @@ use lib.ListN.{getD}
 use Rattle.laws.specs.Tests.{_and_, listed}
 use Rattle.laws.specs.TestLaws.{and-left, and-right, and-both, both-ways}
 use Rattle.rules.specs.Graph.{C, Program, WellFormed, called, edgeCount, entry, kindAt, nodeCount, sourceAt, targetAt}
-use Rattle.rules.specs.Closing.{MayGoOn, Pair, bothCall, callee-entries, edge-ends, fits, sameWord}
+use Rattle.rules.specs.Closing.{MayGoOn, Pair, alike, bothCall, callee-entries, edge-ends, fits, sameWord}
 use Rattle.rules.specs.ProgramFile.{Listing}
 use Rattle.rules.specs.Proofs.GraphLaws.{called-is, sameKind-of, sameKind-true}
 use Rattle.rules.specs.Proofs.Closure.{pair-alike}
@@ -21,8 +21,9 @@ use Rattle.versions.specs.Memory.{InMemory, Memory, memory}
 use Rattle.versions.specs.MemoryLaws.{callee-is, entry-is, sound, target-is, well-formed}
 use Rattle.versions.specs.Found.{found-at, found-none}
 use Rattle.versions.specs.Claims.{Alike, BothCall, Taken}
+use Rattle.versions.specs.Groups.{InGroups, Known}
 use Rattle.closure.specs.State.{CallDone, EdgeDone, EntriesDone, Formed, State, Step, Unfit}
-use Rattle.closure.specs.Step.{pair-inside, step-map, step-mark, step-more, step-none, step-over}
+use Rattle.closure.specs.Step.{pair-inside, step-map, step-mark, step-more, step-none, step-over, step-shows}
 use Rattle.closure.specs.Claims.{Adds, AddsEntries, Enters, Grows, Sized, TriesEdge}
 
 -- Programs in memory are well-formed, and their nodes and edges have heads and bits.
@@ -47,7 +48,7 @@ module _ (limit : ℕ) (w : List ℕ) (c a b : ℕ) where
 
     pub add-new : (v : List ℕ) (r : ℕ) → t ≡ false → Sized w v (Grows limit w c a b v r) → Sized w v (Adds limit w c a b v r)
     unfolding Has Adds Grows
-    add-new v r y x = record { size = x .size; claim = λ old new f s p. x .claim old new f s p (λ h. sym (is c (s .kept h .store)) ∙ y) }
+    add-new v r y x = record { size = x .size; claim = λ old new f s p. x .claim old new f s (λ _. p) (λ h. sym (is c (s .kept h .store)) ∙ y) }
 
 pub ruleset adds = (grow-full, grow-more, add-there, add-new)
 
@@ -132,7 +133,7 @@ module _ {old new : Program} {e m : ℕ} where
       step-mark f s (record { isOld = i; partner = m; pair = y; mayGoOn = x; unfit = none }) k
       (λ _ t. record { ends = λ g l a b. absurd (none g l a b); danger = λ _. t })
 
-module _ (ot on ol nt nn nl : List ℕ) (limit : ℕ) (w : List ℕ) (c e m place : ℕ) (is : Taken ol nl e m place) where
+module _ (ot on ol nt nn nl groups : List ℕ) (limit : ℕ) (w : List ℕ) (c e m place : ℕ) (is : Taken ol nl e m place) where
   -- The edge that is found.
   takes : (o p : Listing) → InMemory (memory ot on ol) o → InMemory (memory nt nn nl) p → e < edgeCount (o .program) → m < nodeCount (p .program) → 0 < place
       → Takes (o .program) (p .program) e m (place - 1)
@@ -143,12 +144,13 @@ module _ (ot on ol nt nn nl : List ℕ) (limit : ℕ) (w : List ℕ) (c e m plac
       let s = rw (← q) at r in
       record { below = s .0; source = eqb-true _ _ (and-left _ _ (s .1)); word = and-right _ _ (s .1) }
 
-  pub edge-none : (v : List ℕ) → place ≡ 0 → DangerMarked w e v → Sized w v (TriesEdge (memory ot on ol) (memory nt nn nl) limit w c e m v c)
+  pub edge-none : (v : List ℕ) → place ≡ 0 → DangerMarked w e v → Sized w v (TriesEdge (memory ot on ol) (memory nt nn nl) groups limit w c e m v c)
   unfolding TriesEdge Taken
   edge-none v z k =
       record {
         size = k .size;
-        claim = λ o p h g s i y x.
+        claim = λ o p h gs s i y x.
+            let g = gs .memory in
             let fm = formed-in _ _ o p h g in
             edge-danger fm s i y x
             (λ f l t u. found-none (λ f. eqb (sourceAt (p .program) f) m and sameWord (o .program) (p .program) e f) (edgeCount (p .program))
@@ -163,12 +165,13 @@ module _ (ot on ol nt nn nl : List ℕ) (limit : ℕ) (w : List ℕ) (c e m plac
     new-end : (p : Listing) → InMemory (memory nt nn nl) p → place - 1 < edgeCount (p .program) → b ≡ targetAt (p .program) (place - 1)
     new-end p g i = d′ ∙ target-is (memory nt nn nl) p g (place - 1) i
 
-    pub edge-there : t ≡ true → Sized w w (TriesEdge (memory ot on ol) (memory nt nn nl) limit w c e m w c)
+    pub edge-there : t ≡ true → Sized w w (TriesEdge (memory ot on ol) (memory nt nn nl) groups limit w c e m w c)
     unfolding TriesEdge Has
     edge-there y =
         record {
           size = refl;
-          claim = λ o p h g s i z x.
+          claim = λ o p h gs s i z x.
+              let g = gs .memory in
               let f = formed-in _ _ o p h g in
               let k = takes o p h g i (pair-inside f z .1) (omega arith) in
               let m = old-end o h i in
@@ -179,13 +182,38 @@ module _ (ot on ol nt nn nl : List ℕ) (limit : ℕ) (w : List ℕ) (c e m plac
               edge-done (f .new-formed) _ _ k (fits-of (o .program) (p .program) e (place - 1) (k .word) like) there);
         }
 
+    -- The ends, which are no pair yet and alike, become one.
+    edge-grown : (v : List ℕ) (r : ℕ) → t ≡ false
+        → ((o p : Listing) → InMemory (memory ot on ol) o → InGroups (memory nt nn nl) groups p → State (o .program) (p .program) limit w c → a < nodeCount (o .program) → b < nodeCount (p .program)
+        → c ≤ limit → alike (o .program) (p .program) a b ≡ true)
+        → Sized w v (Grows limit w c a b v r) → Sized w v (TriesEdge (memory ot on ol) (memory nt nn nl) groups limit w c e m v r)
+    unfolding TriesEdge Grows Has
+    edge-grown v r y like q =
+        record {
+          size = q .size;
+          claim = λ o p h gs s i z x.
+              let g = gs .memory in
+              let f = formed-in _ _ o p h g in
+              let k = takes o p h g i (pair-inside f z .1) (omega arith) in
+              let m = old-end o h i in
+              let n = new-end p g (k .below) in
+              let fit : c ≤ limit → fits (o .program) (p .program) e (place - 1) ≡ true
+              = λ l. fits-of (o .program) (p .program) e (place - 1) (k .word)
+              (rw (← m, ← n) (like o p h gs s (rw m (f .old-formed .targets e i)) (rw n (f .new-formed .targets (place - 1) (k .below))) l)) in
+              let ends : c ≤ limit → Pair (o .program) (p .program) (targetAt (o .program) e) (targetAt (p .program) (place - 1))
+              = λ l. edge-ends {e = e} {e′ = place - 1} (rw (k .source) z) (rw (k .source) x) i (k .below) (fit l) in
+              let grown = q .claim (o .program) (p .program) f s (λ l. rw (m, n) (ends l)) (λ l. sym (has c (s .kept l .store)) ∙ y) in
+              step-shows grown (λ l. edge-done (f .new-formed) _ _ k (fit (omega (arith, grown .more))) (rw (← m, ← n) (grown .done l)));
+        }
+
     module _ (u : Bool) (like : Alike (memory ot on ol) (memory nt nn nl) a b u) where
-      pub edge-unlike : (v : List ℕ) → u ≡ false → DangerMarked w e v → Sized w v (TriesEdge (memory ot on ol) (memory nt nn nl) limit w c e m v c)
+      pub edge-unlike : (v : List ℕ) → u ≡ false → DangerMarked w e v → Sized w v (TriesEdge (memory ot on ol) (memory nt nn nl) groups limit w c e m v c)
       unfolding TriesEdge Alike
       edge-unlike v y q =
           record {
             size = q .size;
-            claim = λ o p h g s i z x.
+            claim = λ o p h gs s i z x.
+                let g = gs .memory in
                 let f = formed-in _ _ o p h g in
                 let k = takes o p h g i (pair-inside f z .1) (omega arith) in
                 let m = old-end o h i in
@@ -198,22 +226,18 @@ module _ (ot on ol nt nn nl : List ℕ) (limit : ℕ) (w : List ℕ) (c e m plac
                 q;
           }
 
-      pub edge-new : (v : List ℕ) (r : ℕ) → t ≡ false → u ≡ true → Sized w v (Grows limit w c a b v r) → Sized w v (TriesEdge (memory ot on ol) (memory nt nn nl) limit w c e m v r)
-      unfolding TriesEdge Alike Grows Has
-      edge-new v r y y′ q =
-          record {
-            size = q .size;
-            claim = λ o p h g s i z x.
-                let f = formed-in _ _ o p h g in
-                let k = takes o p h g i (pair-inside f z .1) (omega arith) in
-                let m = old-end o h i in
-                let n = new-end p g (k .below) in
-                let l = like o p h g (rw m (f .old-formed .targets e i)) (rw n (f .new-formed .targets (place - 1) (k .below))) in
-                let fit = fits-of (o .program) (p .program) e (place - 1) (k .word) (rw (← m, ← n) (sym l ∙ y′)) in
-                let ends : Pair (o .program) (p .program) (targetAt (o .program) e) (targetAt (p .program) (place - 1))
-                = edge-ends {e = e} {e′ = place - 1} (rw (k .source) z) (rw (k .source) x) i (k .below) fit in
-                step-map (λ j. edge-done (f .new-formed) _ _ k fit (rw (← m, ← n) j))
-                (q .claim (o .program) (p .program) f s (rw (m, n) ends) (λ j. sym (has c (s .kept j .store)) ∙ y));
-          }
+      pub edge-new : (v : List ℕ) (r : ℕ) → t ≡ false → u ≡ true → Sized w v (Grows limit w c a b v r) → Sized w v (TriesEdge (memory ot on ol) (memory nt nn nl) groups limit w c e m v r)
+      unfolding Alike
+      edge-new v r y y′ q = edge-grown v r y (λ o p h g s i j l. sym (like o p h (g .memory) i j) ∙ y′) q
 
-pub ruleset edges = (edge-none, edge-there, edge-unlike, edge-new)
+    pub edge-known : (u : Bool) (v : List ℕ) (r : ℕ) → t ≡ false → Known w groups a b u → u ≡ true → Sized w v (Grows limit w c a b v r)
+        → Sized w v (TriesEdge (memory ot on ol) (memory nt nn nl) groups limit w c e m v r)
+    unfolding Known
+    edge-known u v r y known y′ q =
+        edge-grown v r y
+        (λ o p h g s i j l.
+        let f = formed-in _ _ o p h (g .memory) in
+        known (o .program) (p .program) c (s .kept l .store) (g .groups)
+        (λ x z k. let pair = s .kept l .sound x z k in (pair-alike (o .program) (p .program) (f .old-formed) (f .new-formed) pair, pair-inside f pair .1)) j y′) q
+
+pub ruleset edges = (edge-none, edge-there, edge-known, edge-unlike, edge-new)

@@ -2,11 +2,11 @@
 use mathlib.Core.Path.{_≡_, refl, sym, ap, _∙_, subst, subst₂}
 use mathlib.Core.Bool.{Bool, true, false, false≢true}
 use mathlib.Core.List.{List}
-use Prim.Native.Nat.{ℕ, _+_, _-_, _≤_, _<_}
+use Prim.Native.Nat.{ℕ, _+_, _-_, _*_, _≤_, _<_}
 use native.Mathlib.Numerals.{add-one}
 use native.Mathlib.Omega.{arith}
 use borrow.Author.Tests.{le-leb, lt-leb}
-use lib.ListN.{length, getD}
+use lib.ListN.{length, getD, replicate}
 use Rattle.laws.specs.TestLaws.{both-ways}
 use Rattle.laws.specs.Lists.{choose-yes, choose-no}
 use Rattle.laws.specs.Slices.{below-or, same-or}
@@ -22,6 +22,7 @@ use Rattle.pairset.specs.StoreLaws.{listed-at, listed-of}
 use Rattle.versions.specs.Memory.{InMemory, Memory, memory}
 use Rattle.versions.specs.MemoryLaws.{edges-chained}
 use Rattle.versions.specs.Claims.{GoesOn}
+use Rattle.versions.specs.Groups.{Groups, InGroups, Regrouped, grouped-none}
 use Rattle.closure.specs.State.{AllDone, Claim, EachDone, EdgeDone, EdgesDone, Lasts, OnDone, PairDone, PairFollowed, State, Step, Turn}
 use Rattle.closure.specs.Step.{call-lasts, done-lasts, edge-lasts, entries-lasts, followed-lasts, pair-inside, state-none, step-lasts, step-map, step-none, step-same, step-shows, step-then}
 use Rattle.closure.specs.Full.{all-counted, all-dangers, all-same}
@@ -35,9 +36,9 @@ pub record FollowedTo (old new : Program) (limit : ℕ) (w₀ : List ℕ) (c₀ 
   pub step : Step old new limit w₀ c₀ (λ M _. M ≡ M) w c
   pub walk : Walk (λ e. c ≤ limit → EdgeDone old new e m (pairsIn w c) (dangerIn w)) (sourceAt old) n (edgeCount old) place
 
-unfoldable pub Following : Memory → Memory → ℕ → List ℕ → ℕ → ℕ → ℕ → List ℕ → ℕ → ℕ → Type 0
-Following a b limit w₀ c₀ n m w c place =
-    (o p : Listing) → InMemory a o → InMemory b p → State (o .program) (p .program) limit w₀ c₀ → Pair (o .program) (p .program) n m → MayGoOn (o .program) (p .program) n m
+unfoldable pub Following : Memory → Memory → List ℕ → ℕ → List ℕ → ℕ → ℕ → ℕ → List ℕ → ℕ → ℕ → Type 0
+Following a b t limit w₀ c₀ n m w c place =
+    (o p : Listing) → InMemory a o → InGroups b t p → State (o .program) (p .program) limit w₀ c₀ → Pair (o .program) (p .program) n m → MayGoOn (o .program) (p .program) n m
     → FollowedTo (o .program) (p .program) limit w₀ c₀ n m w c place
 
 upTo-le : (e x : ℕ) → upTo e x ≤ e
@@ -48,21 +49,21 @@ upTo-le e x = below-or e x (λ l. omega (arith, choose-no x 0 (lt-leb x e l))) (
 pub follow-less : (place e r x : ℕ) → 0 < place → e ≡ place - 1 → r ≡ upTo e x → r < place
 follow-less place e r x pos d q = omega (arith, upTo-le e x)
 
-module _ (ot on ol nt nn nl : List ℕ) (limit : ℕ) (w₀ : List ℕ) (c₀ n m : ℕ) where
+module _ (ot on ol nt nn nl groups : List ℕ) (limit : ℕ) (w₀ : List ℕ) (c₀ n m : ℕ) where
   pub follow-start : (place : ℕ) → place ≡ getD ol (headBase n) 0
-      → Sized w₀ w₀ (Following (memory ot on ol) (memory nt nn nl) limit w₀ c₀ n m w₀ c₀ place)
+      → Sized w₀ w₀ (Following (memory ot on ol) (memory nt nn nl) groups limit w₀ c₀ n m w₀ c₀ place)
   unfolding Following
   follow-start place e =
       record {
         size = refl;
         claim = λ o p h g s y z.
-            let i = pair-inside (formed-in _ _ o p h g) y in
+            let i = pair-inside (formed-in _ _ o p h (g .memory)) y in
             record { step = step-none s (λ _. refl); walk = rw e (walk-start (edges-chained (memory ot on ol) o h) n (i .0)) };
       }
 
-  module _ (w : List ℕ) (c place : ℕ) (inv : Sized w₀ w (Following (memory ot on ol) (memory nt nn nl) limit w₀ c₀ n m w c place)) where
-    pub follow-on : (e : ℕ) (v : List ℕ) (r x : ℕ) → 0 < place → e ≡ place - 1 → Sized w v (TriesEdge (memory ot on ol) (memory nt nn nl) limit w c e m v r)
-        → x ≡ upTo e (getD ol (edgeBase e + 4) 0) → Sized w₀ v (Following (memory ot on ol) (memory nt nn nl) limit w₀ c₀ n m v r x)
+  module _ (w : List ℕ) (c place : ℕ) (inv : Sized w₀ w (Following (memory ot on ol) (memory nt nn nl) groups limit w₀ c₀ n m w c place)) where
+    pub follow-on : (e : ℕ) (v : List ℕ) (r x : ℕ) → 0 < place → e ≡ place - 1 → Sized w v (TriesEdge (memory ot on ol) (memory nt nn nl) groups limit w c e m v r)
+        → x ≡ upTo e (getD ol (edgeBase e + 4) 0) → Sized w₀ v (Following (memory ot on ol) (memory nt nn nl) groups limit w₀ c₀ n m v r x)
     unfolding Following TriesEdge Lasts
     follow-on e v r x pos d t q =
         record {
@@ -81,7 +82,7 @@ module _ (ot on ol nt nn nl : List ℕ) (limit : ℕ) (w₀ : List ℕ) (c₀ n 
               };
         }
 
-    pub follow-end : place ≤ 0 → Sized w₀ w (Follows (memory ot on ol) (memory nt nn nl) limit w₀ c₀ n m w c)
+    pub follow-end : place ≤ 0 → Sized w₀ w (Follows (memory ot on ol) (memory nt nn nl) groups limit w₀ c₀ n m w c)
     unfolding Following Follows EdgesDone
     follow-end l =
         record {
@@ -95,8 +96,8 @@ pub ruleset follows = (follow-less, follow-start, follow-on, follow-end)
 
 -- ---- `go_on`, `visit`
 
-module _ (ot on ol nt nn nl : List ℕ) (limit : ℕ) (w : List ℕ) (c : ℕ) (z : Bool) (n m : ℕ) where
-  pub go-over : limit < c → Sized w w (GoesOnWith (memory ot on ol) (memory nt nn nl) limit w c z n m w c z)
+module _ (ot on ol nt nn nl groups : List ℕ) (limit : ℕ) (w : List ℕ) (c : ℕ) (z : Bool) (n m : ℕ) where
+  pub go-over : limit < c → Sized w w (GoesOnWith (memory ot on ol) (memory nt nn nl) groups limit w c z n m w c z)
   unfolding GoesOnWith
   go-over l =
       record {
@@ -107,12 +108,12 @@ module _ (ot on ol nt nn nl : List ℕ) (limit : ℕ) (w : List ℕ) (c : ℕ) (
 
   module _ (t : Bool) (few : c ≤ limit) (is : GoesOn on ol nn nl w n m t) where
     -- What the test says of the list.
-    test : (o p : Listing) → InMemory (memory ot on ol) o → InMemory (memory nt nn nl) p → State (o .program) (p .program) limit w c → Pair (o .program) (p .program) n m
+    test : (o p : Listing) → InMemory (memory ot on ol) o → InGroups (memory nt nn nl) groups p → State (o .program) (p .program) limit w c → Pair (o .program) (p .program) n m
         → t ≡ goesOn (o .program) (p .program) (pairsIn w c) n m
     unfolding GoesOn
-    test o p h g s y = let i = pair-inside (formed-in _ _ o p h g) y in is ot nt o p c h g (s .kept few .store) (i .0) (i .1)
+    test o p h g s y = let i = pair-inside (formed-in _ _ o p h (g .memory)) y in is ot nt o p c h (g .memory) (s .kept few .store) (i .0) (i .1)
 
-    pub go-wait : t ≡ false → Sized w w (GoesOnWith (memory ot on ol) (memory nt nn nl) limit w c z n m w c false)
+    pub go-wait : t ≡ false → Sized w w (GoesOnWith (memory ot on ol) (memory nt nn nl) groups limit w c z n m w c false)
     unfolding GoesOnWith OnDone
     go-wait u =
         record {
@@ -125,8 +126,8 @@ module _ (ot on ol nt nn nl : List ℕ) (limit : ℕ) (w : List ℕ) (c : ℕ) (
               };
         }
 
-    pub go-follow : (v : List ℕ) (r : ℕ) → t ≡ true → Sized w v (Follows (memory ot on ol) (memory nt nn nl) limit w c n m v r)
-        → Sized w v (GoesOnWith (memory ot on ol) (memory nt nn nl) limit w c z n m v r z)
+    pub go-follow : (v : List ℕ) (r : ℕ) → t ≡ true → Sized w v (Follows (memory ot on ol) (memory nt nn nl) groups limit w c n m v r)
+        → Sized w v (GoesOnWith (memory ot on ol) (memory nt nn nl) groups limit w c z n m v r z)
     unfolding GoesOnWith Follows OnDone
     go-follow v r u x =
         record {
@@ -138,14 +139,14 @@ module _ (ot on ol nt nn nl : List ℕ) (limit : ℕ) (w : List ℕ) (c : ℕ) (
         }
 
   pub visit-done : (x : ℕ) (u v : List ℕ) (k r : ℕ) (z′ : Bool) → n ≡ oldAt w x → m ≡ newAt w x → Sized w u (Enters on ol nn nl limit w c n m u k)
-      → Sized u v (GoesOnWith (memory ot on ol) (memory nt nn nl) limit u k z n m v r z′) → Sized w v (Visits (memory ot on ol) (memory nt nn nl) limit w c z x v r z′)
+      → Sized u v (GoesOnWith (memory ot on ol) (memory nt nn nl) groups limit u k z n m v r z′) → Sized w v (Visits (memory ot on ol) (memory nt nn nl) groups limit w c z x v r z′)
   unfolding Enters GoesOnWith Visits
   visit-done x u v k r z′ d e y q =
       record {
         size = q .size ∙ y .size;
         claim = λ o p h g s few l.
             let pair : Pair (o .program) (p .program) n m = s .kept few .sound n m (listed-of w n m c x l (sym d) (sym e)) in
-            let i = y .claim ot nt o p h g s pair in
+            let i = y .claim ot nt o p h (g .memory) s pair in
             let j = q .claim o p h g (i .state) pair in
             let lasts = call-lasts (o .program) (p .program) n m in
             let t : Turn (o .program) (p .program) limit w c z (PairFollowed (o .program) (p .program) n m) (PairDone (o .program) (p .program) n m) v r z′
@@ -174,9 +175,9 @@ pub record VisitedTo (old new : Program) (limit : ℕ) (w₀ : List ℕ) (c₀ :
   pub followed : z ≡ true → c ≤ limit → Seen (PairFollowed old new) w c x
   pub still : c ≡ c₀ → c ≤ limit → Seen (PairDone old new) w c x
 
-unfoldable pub Visiting : Memory → Memory → ℕ → List ℕ → ℕ → List ℕ → ℕ → Bool → ℕ → Type 0
-Visiting a b limit w₀ c₀ w c z x =
-    (o p : Listing) → InMemory a o → InMemory b p → State (o .program) (p .program) limit w₀ c₀ → VisitedTo (o .program) (p .program) limit w₀ c₀ w c z x
+unfoldable pub Visiting : Memory → Memory → List ℕ → ℕ → List ℕ → ℕ → List ℕ → ℕ → Bool → ℕ → Type 0
+Visiting a b t limit w₀ c₀ w c z x =
+    (o p : Listing) → InMemory a o → InGroups b t p → State (o .program) (p .program) limit w₀ c₀ → VisitedTo (o .program) (p .program) limit w₀ c₀ w c z x
 
 -- One pair more, where P of a pair passes on to list and set then.
 seen-more : (P : ℕ → ℕ → Claim) (w v : List ℕ) (c r x : ℕ) → x < c → ((k : ℕ) → k < c → (oldAt v k ≡ oldAt w k) × (newAt v k ≡ newAt w k))
@@ -200,8 +201,8 @@ followed-done : (old new : Program) (w : List ℕ) (c x : ℕ) → Seen (PairFol
 unfolding Seen OnDone
 followed-done old new w c x d k kx kc = record { call = d k kx kc .call; on = λ _. d k kx kc .edges }
 
-module _ (a b : Memory) (limit : ℕ) (w₀ : List ℕ) (c₀ : ℕ) where
-  pub all-start : Sized w₀ w₀ (Visiting a b limit w₀ c₀ w₀ c₀ true 0)
+module _ (a b : Memory) (t : List ℕ) (limit : ℕ) (w₀ : List ℕ) (c₀ : ℕ) where
+  pub all-start : Sized w₀ w₀ (Visiting a b t limit w₀ c₀ w₀ c₀ true 0)
   unfolding Visiting Seen
   all-start =
       record {
@@ -214,8 +215,8 @@ module _ (a b : Memory) (limit : ℕ) (w₀ : List ℕ) (c₀ : ℕ) where
             };
       }
 
-  module _ (w : List ℕ) (c : ℕ) (z : Bool) (x : ℕ) (inv : Sized w₀ w (Visiting a b limit w₀ c₀ w c z x)) where
-    pub all-on : (v : List ℕ) (r : ℕ) (z′ : Bool) → x < c → c ≤ limit → Sized w v (Visits a b limit w c z x v r z′) → Sized w₀ v (Visiting a b limit w₀ c₀ v r z′ (x + 1))
+  module _ (w : List ℕ) (c : ℕ) (z : Bool) (x : ℕ) (inv : Sized w₀ w (Visiting a b t limit w₀ c₀ w c z x)) where
+    pub all-on : (v : List ℕ) (r : ℕ) (z′ : Bool) → x < c → c ≤ limit → Sized w v (Visits a b t limit w c z x v r z′) → Sized w₀ v (Visiting a b t limit w₀ c₀ v r z′ (x + 1))
     unfolding Visiting Visits Lasts
     all-on v r z′ l few y =
         record {
@@ -239,7 +240,7 @@ module _ (a b : Memory) (limit : ℕ) (w₀ : List ℕ) (c₀ : ℕ) where
               };
         }
 
-    pub all-over : limit < c → Sized w₀ w (VisitsAll a b limit w₀ c₀ w c z)
+    pub all-over : limit < c → Sized w₀ w (VisitsAll a b t limit w₀ c₀ w c z)
     unfolding Visiting VisitsAll
     all-over l =
         record {
@@ -253,7 +254,7 @@ module _ (a b : Memory) (limit : ℕ) (w₀ : List ℕ) (c₀ : ℕ) where
               };
         }
 
-    pub all-end : c ≤ x → Sized w₀ w (VisitsAll a b limit w₀ c₀ w c z)
+    pub all-end : c ≤ x → Sized w₀ w (VisitsAll a b t limit w₀ c₀ w c z)
     unfolding Visiting VisitsAll
     all-end l =
         record {
@@ -267,15 +268,15 @@ module _ (a b : Memory) (limit : ℕ) (w₀ : List ℕ) (c₀ : ℕ) where
               };
         }
 
-pub pass-done : (ot on ol nt nn nl : List ℕ) (limit : ℕ) (w u v : List ℕ) (c k r : ℕ) (z : Bool) → Sized w u (AddsEntries ol nl limit w c 0 0 u k)
-    → Sized u v (VisitsAll (memory ot on ol) (memory nt nn nl) limit u k v r z) → Sized w v (Passes (memory ot on ol) (memory nt nn nl) limit w c v r z)
+pub pass-done : (ot on ol nt nn nl groups : List ℕ) (limit : ℕ) (w u v : List ℕ) (c k r : ℕ) (z : Bool) → Sized w u (AddsEntries ol nl limit w c 0 0 u k)
+    → Sized u v (VisitsAll (memory ot on ol) (memory nt nn nl) groups limit u k v r z) → Sized w v (Passes (memory ot on ol) (memory nt nn nl) groups limit w c v r z)
 unfolding AddsEntries VisitsAll Passes
-pass-done ot on ol nt nn nl limit w u v c k r z x y =
+pass-done ot on ol nt nn nl groups limit w u v c k r z x y =
     record {
       size = y .size ∙ x .size;
       claim = λ o p h g s.
-          let f = formed-in _ _ o p h g in
-          let i = x .claim ot on nt nn o p h g s (f .old-formed .begins) (f .new-formed .begins) first-entries in
+          let f = formed-in _ _ o p h (g .memory) in
+          let i = x .claim ot on nt nn o p h (g .memory) s (f .old-formed .begins) (f .new-formed .begins) first-entries in
           let j = y .claim o p h g (i .state) in
           let lasts = entries-lasts (o .program) (p .program) 0 0 in
           record {
@@ -293,20 +294,20 @@ pub ruleset passes = (all-start, all-on, all-over, all-end, pass-done)
 -- ---- `repeat`, `close`
 
 -- The table is in a state of the search.
-unfoldable pub Repeating : Memory → Memory → ℕ → List ℕ → List ℕ → ℕ → Type 0
-Repeating a b limit w₀ w c =
-    (o p : Listing) → InMemory a o → InMemory b p → State (o .program) (p .program) limit w₀ 0 → State (o .program) (p .program) limit w c
+unfoldable pub Repeating : Memory → Memory → List ℕ → ℕ → List ℕ → List ℕ → ℕ → Type 0
+Repeating a b t limit w₀ w c =
+    (o p : Listing) → InMemory a o → InGroups b t p → State (o .program) (p .program) limit w₀ 0 → State (o .program) (p .program) limit w c
 
-pub repeat-start : (a b : Memory) (limit : ℕ) (w : List ℕ) → Sized w w (Repeating a b limit w w 0)
+pub repeat-start : (a b : Memory) (t : List ℕ) (limit : ℕ) (w : List ℕ) → Sized w w (Repeating a b t limit w w 0)
 unfolding Repeating
-repeat-start a b limit w = record { size = refl; claim = λ o p h g s. s }
+repeat-start a b t limit w = record { size = refl; claim = λ o p h g s. s }
 
-module _ (a b : Memory) (limit : ℕ) (w₀ w : List ℕ) (c : ℕ) (v : List ℕ) (r : ℕ) (z : Bool) (inv : Sized w₀ w (Repeating a b limit w₀ w c)) (x : Sized w v (Passes a b limit w c v r z)) where
-  pub repeat-on : Sized w₀ v (Repeating a b limit w₀ v r)
+module _ (a b : Memory) (t : List ℕ) (limit : ℕ) (w₀ w : List ℕ) (c : ℕ) (v : List ℕ) (r : ℕ) (z : Bool) (inv : Sized w₀ w (Repeating a b t limit w₀ w c)) (x : Sized w v (Passes a b t limit w c v r z)) where
+  pub repeat-on : Sized w₀ v (Repeating a b t limit w₀ v r)
   unfolding Repeating Passes
   repeat-on = record { size = x .size ∙ inv .size; claim = λ o p h g s. x .claim o p h g (inv .claim o p h g s) .step .state }
 
-  pub repeat-over : limit < r → Sized w₀ v (Finds a b limit w₀ v (limit + 1))
+  pub repeat-over : limit < r → Sized w₀ v (Finds a b t limit w₀ v (limit + 1))
   unfolding Repeating Passes Finds
   repeat-over l =
       record {
@@ -324,13 +325,13 @@ module _ (a b : Memory) (limit : ℕ) (w₀ w : List ℕ) (c : ℕ) (v : List �
   ended : r ≤ limit
       → ((o p : Listing) → Turn (o .program) (p .program) limit w c true (AllDone (o .program) (p .program)) (AllDone (o .program) (p .program)) v r z
       → AllDone (o .program) (p .program) (pairsIn v r) (dangerIn v))
-      → Sized w₀ v (Finds a b limit w₀ v r)
+      → Sized w₀ v (Finds a b t limit w₀ v r)
   unfolding Repeating Passes Finds
   ended l all =
       record {
         size = x .size ∙ inv .size;
         claim = λ o p h g s.
-            let f = formed-in a b o p h g in
+            let f = formed-in a b o p h (g .memory) in
             let j = x .claim o p h g (inv .claim o p h g s) in
             let k = j .step .state .kept l in
             let d = all o p j in
@@ -342,20 +343,27 @@ module _ (a b : Memory) (limit : ℕ) (w₀ w : List ℕ) (c : ℕ) (v : List �
             };
       }
 
-  pub repeat-still : r ≤ limit → r ≤ c → Sized w₀ v (Finds a b limit w₀ v r)
+  pub repeat-still : r ≤ limit → r ≤ c → Sized w₀ v (Finds a b t limit w₀ v r)
   repeat-still l e = ended l (λ o p t. t .still (omega (arith, t .step .more)) l)
 
-  pub repeat-settled : r ≤ limit → z ≡ true → Sized w₀ v (Finds a b limit w₀ v r)
+  pub repeat-settled : r ≤ limit → z ≡ true → Sized w₀ v (Finds a b t limit w₀ v r)
   repeat-settled l e = ended l (λ o p t. t .step .done l e)
 
-pub close-done : (a b : Memory) (limit : ℕ) (w u v : List ℕ) (r : ℕ) → Emptied w u → Sized u v (Finds a b limit u v r) → Sized w v (Closes a b limit w v r)
-unfolding Finds Closes Empties
-close-done a b limit w u v r e x =
+pub close-done : (a b : Memory) (limit : ℕ) (w u v t : List ℕ) (r : ℕ) → Emptied w u → Regrouped b (replicate 1024 0) t → Sized u v (Finds a b t limit u v r)
+    → Sized w v (Closes a b limit w v r)
+unfolding Finds Closes Empties Groups
+close-done a b limit w u v t r e q x =
     record {
       size = x .size ∙ e .size;
       claim = λ o p h g l.
           let y = e .empties (omega arith) in
-          x .claim o p h g (state-none (o .program) (p .program) limit u (omega (arith, e .size)) (y .0) (y .1));
+          x .claim o p h (record { memory = g; groups = q .groups p g (grouped-none (p .program) 1024) })
+          (state-none (o .program) (p .program) limit u (omega (arith, e .size)) (y .0) (y .1));
     }
 
-pub ruleset repeats = (repeat-start, repeat-on, repeat-over, repeat-still, repeat-settled, close-done)
+-- A table without room for as many pairs as the limit says.
+pub close-short : (a b : Memory) (limit : ℕ) (w : List ℕ) → length w < 4624 + 3 * limit → Sized w w (Closes a b limit w w 0)
+unfolding Closes
+close-short a b limit w s = record { size = refl; claim = λ o p h g l. absurd (let z : ⊥ = omega arith in z) }
+
+pub ruleset repeats = (repeat-start, repeat-on, repeat-over, repeat-still, repeat-settled, close-done, close-short)

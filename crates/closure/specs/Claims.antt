@@ -13,6 +13,7 @@ use Rattle.rules.specs.ProgramFile.{Listing}
 use Rattle.pairset.specs.Store.{dangerIn, newAt, oldAt, pairBase, pairsIn}
 use Rattle.versions.specs.Memory.{InMemory, Memory, memory}
 use Rattle.versions.specs.Held.{PairsHeld}
+use Rattle.versions.specs.Groups.{InGroups}
 use Rattle.closure.specs.State.{AllDone, CallDone, EachDone, EdgeDone, EdgesDone, EntriesDone, Formed, OnDone, PairDone, PairFollowed, State, Step, Turn}
 
 -- A claim, and the table as long as it was.
@@ -23,7 +24,7 @@ pub record Sized (w v : List ℕ) (X : Type 0) : Type 0 where
 -- `grow`: a pair that is not there; `add`: a pair.
 unfoldable pub Grows : ℕ → List ℕ → ℕ → ℕ → ℕ → List ℕ → ℕ → Type 0
 Grows limit w c a b v r =
-    (old new : Program) → Formed old new → State old new limit w c → Pair old new a b → (c ≤ limit → listed (pairsIn w c) a b ≡ false)
+    (old new : Program) → Formed old new → State old new limit w c → (c ≤ limit → Pair old new a b) → (c ≤ limit → listed (pairsIn w c) a b ≡ false)
     → Step old new limit w c (λ M _. listed M a b ≡ true) v r
 
 unfoldable pub Adds : ℕ → List ℕ → ℕ → ℕ → ℕ → List ℕ → ℕ → Type 0
@@ -43,40 +44,40 @@ Enters on ol nn nl limit w c n m v r =
     (ot nt : List ℕ) (o p : Listing) → InMemory (memory ot on ol) o → InMemory (memory nt nn nl) p → State (o .program) (p .program) limit w c → Pair (o .program) (p .program) n m
     → Step (o .program) (p .program) limit w c (CallDone (o .program) (p .program) n m) v r
 
-module _ (a b : Memory) (limit : ℕ) (w : List ℕ) where
+module _ (a b : Memory) (t : List ℕ) (limit : ℕ) (w : List ℕ) where
   -- `try_edge`: rule 3 for the old edge e and the new node m, where their pair may go on.
   unfoldable pub TriesEdge : ℕ → ℕ → ℕ → List ℕ → ℕ → Type 0
   TriesEdge c e m v r =
-      (o p : Listing) → InMemory a o → InMemory b p → State (o .program) (p .program) limit w c → e < edgeCount (o .program)
+      (o p : Listing) → InMemory a o → InGroups b t p → State (o .program) (p .program) limit w c → e < edgeCount (o .program)
       → Pair (o .program) (p .program) (sourceAt (o .program) e) m → MayGoOn (o .program) (p .program) (sourceAt (o .program) e) m
       → Step (o .program) (p .program) limit w c (EdgeDone (o .program) (p .program) e m) v r
 
   -- `follow`: rule 3 for the pair (n, m), which may go on; `go_on`: where it may.
   unfoldable pub Follows : ℕ → ℕ → ℕ → List ℕ → ℕ → Type 0
   Follows c n m v r =
-      (o p : Listing) → InMemory a o → InMemory b p → State (o .program) (p .program) limit w c → Pair (o .program) (p .program) n m → MayGoOn (o .program) (p .program) n m
+      (o p : Listing) → InMemory a o → InGroups b t p → State (o .program) (p .program) limit w c → Pair (o .program) (p .program) n m → MayGoOn (o .program) (p .program) n m
       → Step (o .program) (p .program) limit w c (EdgesDone (o .program) (p .program) n m) v r
 
   unfoldable pub GoesOnWith : ℕ → Bool → ℕ → ℕ → List ℕ → ℕ → Bool → Type 0
   GoesOnWith c was n m v r settled =
-      (o p : Listing) → InMemory a o → InMemory b p → State (o .program) (p .program) limit w c → Pair (o .program) (p .program) n m
+      (o p : Listing) → InMemory a o → InGroups b t p → State (o .program) (p .program) limit w c → Pair (o .program) (p .program) n m
       → Turn (o .program) (p .program) limit w c was (EdgesDone (o .program) (p .program) n m) (OnDone (o .program) (p .program) n m) v r settled
 
   -- `visit`: rules 2 and 3 for the pair x of the table.
   unfoldable pub Visits : ℕ → Bool → ℕ → List ℕ → ℕ → Bool → Type 0
   Visits c was x v r settled =
-      (o p : Listing) → InMemory a o → InMemory b p → State (o .program) (p .program) limit w c → c ≤ limit → x < c
+      (o p : Listing) → InMemory a o → InGroups b t p → State (o .program) (p .program) limit w c → c ≤ limit → x < c
       → Turn (o .program) (p .program) limit w c was (PairFollowed (o .program) (p .program) (oldAt w x) (newAt w x)) (PairDone (o .program) (p .program) (oldAt w x) (newAt w x)) v r settled
 
   -- `visit_all`: rules 2 and 3 for each pair of the table; `pass`: the three rules.
   unfoldable pub VisitsAll : ℕ → List ℕ → ℕ → Bool → Type 0
   VisitsAll c v r settled =
-      (o p : Listing) → InMemory a o → InMemory b p → State (o .program) (p .program) limit w c
+      (o p : Listing) → InMemory a o → InGroups b t p → State (o .program) (p .program) limit w c
       → Turn (o .program) (p .program) limit w c true (EachDone (o .program) (p .program)) (EachDone (o .program) (p .program)) v r settled
 
   unfoldable pub Passes : ℕ → List ℕ → ℕ → Bool → Type 0
   Passes c v r settled =
-      (o p : Listing) → InMemory a o → InMemory b p → State (o .program) (p .program) limit w c
+      (o p : Listing) → InMemory a o → InGroups b t p → State (o .program) (p .program) limit w c
       → Turn (o .program) (p .program) limit w c true (AllDone (o .program) (p .program)) (AllDone (o .program) (p .program)) v r settled
 
 -- The number of pairs, or one more than the limit where there are more; within the limit, the table holds them and the dangerous edges.
@@ -86,9 +87,9 @@ pub record Found (old new : Program) (limit : ℕ) (w : List ℕ) (r : ℕ) : Ty
   pub marked : r ≤ limit → (e : ℕ) → dangerIn w e ≡ has (dangers old new) e
 
 -- `repeat`: from a state of the search.
-unfoldable pub Finds : Memory → Memory → ℕ → List ℕ → List ℕ → ℕ → Type 0
-Finds a b limit w v r =
-    (o p : Listing) → InMemory a o → InMemory b p → State (o .program) (p .program) limit w 0 → Found (o .program) (p .program) limit v r
+unfoldable pub Finds : Memory → Memory → List ℕ → ℕ → List ℕ → List ℕ → ℕ → Type 0
+Finds a b t limit w v r =
+    (o p : Listing) → InMemory a o → InGroups b t p → State (o .program) (p .program) limit w 0 → Found (o .program) (p .program) limit v r
 
 -- `close`: from a table that has room for as many pairs as the limit says.
 unfoldable pub Closes : Memory → Memory → ℕ → List ℕ → List ℕ → ℕ → Type 0

@@ -144,7 +144,7 @@ module _ {old new : Program} {limit : ℕ} where
 
   -- ---- a pair that is not there
 
-  module _ {w : List ℕ} {c a b : ℕ} (fm : Formed old new) (s : State old new limit w c) (p : Pair old new a b)
+  module _ {w : List ℕ} {c a b : ℕ} (fm : Formed old new) (s : State old new limit w c) (p : c ≤ limit → Pair old new a b)
       (new-one : c ≤ limit → listed (pairsIn w c) a b ≡ false) where
     -- One more than the limit is found, or was found before.
     pub step-over : limit ≤ c → Step old new limit w c (λ M _. listed M a b ≡ true) w (limit + 1)
@@ -165,7 +165,7 @@ module _ {old new : Program} {limit : ℕ} where
             let o = once-snoc a b (k .once) (new-one l) in
             let g = pigeonhole (pairs old new) o
             (λ x y t. pairs-complete old new (fm .old-formed) (fm .new-formed)
-            (⊎-elim (k .sound x y) (λ u. let e = listed-one a b x y u in subst₂ (Pair old new) (e .0) (e .1) p) (listed-append (pairsIn w c) _ x y t))) in
+            (⊎-elim (k .sound x y) (λ u. let e = listed-one a b x y u in subst₂ (Pair old new) (e .0) (e .1) (p l)) (listed-append (pairsIn w c) _ x y t))) in
             omega (arith, snoc-length (0, 0) (pairsIn w c) (a, b), pairs-count w c))
 
     -- There is room for it.
@@ -173,7 +173,8 @@ module _ {old new : Program} {limit : ℕ} where
     unfolding Appends
     step-more {v} h ap =
         let k = s .kept (omega arith) in
-        let x = ap .appends (k .store) (omega (arith, pair-inside fm p .0, fm .few)) (omega (arith, pair-inside fm p .1, fm .few-new)) (omega (arith, s .wide)) in
+        let q = p (omega arith) in
+        let x = ap .appends (k .store) (omega (arith, pair-inside fm q .0, fm .few)) (omega (arith, pair-inside fm q .1, fm .few-new)) (omega (arith, s .wide)) in
         record {
           state = record {
             wide = omega (arith, s .wide, ap .size);
@@ -181,7 +182,7 @@ module _ {old new : Program} {limit : ℕ} where
             kept = λ _. record {
               store = x .0;
               sound = λ y z t.
-                  ⊎-elim (k .sound y z) (λ u. let e = listed-one a b y z u in subst₂ (Pair old new) (e .0) (e .1) p) (listed-append (pairsIn w c) _ y z (rw (x .1) at t));
+                  ⊎-elim (k .sound y z) (λ u. let e = listed-one a b y z u in subst₂ (Pair old new) (e .0) (e .1) q) (listed-append (pairsIn w c) _ y z (rw (x .1) at t));
               once = rw (x .1) (once-snoc a b (k .once) (new-one (omega arith)));
               dangerous = λ e t. k .dangerous e (sym (x .2 e) ∙ t);
             };

@@ -102,6 +102,7 @@ fn try_edge(
     nt: &[u8],
     nn: &[usize],
     nl: &[usize],
+    groups: &[usize],
     limit: usize,
     w: &mut [usize],
     count: usize,
@@ -113,7 +114,7 @@ fn try_edge(
         (TriesEdge
         (memory (now (ot .entry)) (now (on .entry)) (now (ol .entry)))
         (memory (now (nt .entry)) (now (nn .entry)) (now (nl .entry)))
-        limit (now (w .entry)) count e m (now (w .exit)) r) ⌝ }
+        (now (groups .entry)) limit (now (w .entry)) count e m (now (w .exit)) r) ⌝ }
 {
     let place = versions::taken(ol, nl, e, m);
     if place == 0 {
@@ -124,6 +125,9 @@ fn try_edge(
     let b = versions::target(nl, place - 1);
     if pairset::has(w, a, b) {
         return count;
+    }
+    if versions::known_alike(w, groups, a, b) {
+        return grow(limit, w, count, a, b);
     }
     if versions::alike(ot, on, ol, nt, nn, nl, a, b) {
         return grow(limit, w, count, a, b);
@@ -140,6 +144,7 @@ fn follow(
     nt: &[u8],
     nn: &[usize],
     nl: &[usize],
+    groups: &[usize],
     limit: usize,
     w: &mut [usize],
     count: usize,
@@ -151,13 +156,13 @@ fn follow(
         (Follows
         (memory (now (ot .entry)) (now (on .entry)) (now (ol .entry)))
         (memory (now (nt .entry)) (now (nn .entry)) (now (nl .entry)))
-        limit (now (w .entry)) count n m (now (w .exit)) r) ⌝ }
+        (now (groups .entry)) limit (now (w .entry)) count n m (now (w .exit)) r) ⌝ }
 {
     let mut total = count;
     let mut place = versions::last_edge(ol, n);
     while 0 < place {
         let e = place - 1;
-        total = try_edge(ot, on, ol, nt, nn, nl, limit, w, total, e, m);
+        total = try_edge(ot, on, ol, nt, nn, nl, groups, limit, w, total, e, m);
         place = versions::edge_before(ol, e);
     }
     total
@@ -171,6 +176,7 @@ fn go_on(
     nt: &[u8],
     nn: &[usize],
     nl: &[usize],
+    groups: &[usize],
     limit: usize,
     w: &mut [usize],
     count: usize,
@@ -183,13 +189,13 @@ fn go_on(
         (GoesOnWith
         (memory (now (ot .entry)) (now (on .entry)) (now (ol .entry)))
         (memory (now (nt .entry)) (now (nn .entry)) (now (nl .entry)))
-        limit (now (w .entry)) count settled n m (now (w .exit)) (r .count) (r .settled)) ⌝ }
+        (now (groups .entry)) limit (now (w .entry)) count settled n m (now (w .exit)) (r .count) (r .settled)) ⌝ }
 {
     if limit < count {
         return Growth { count, settled };
     }
     if versions::goes_on(on, ol, nn, nl, w, n, m) {
-        let total = follow(ot, on, ol, nt, nn, nl, limit, w, count, n, m);
+        let total = follow(ot, on, ol, nt, nn, nl, groups, limit, w, count, n, m);
         return Growth {
             count: total,
             settled,
@@ -209,6 +215,7 @@ fn visit(
     nt: &[u8],
     nn: &[usize],
     nl: &[usize],
+    groups: &[usize],
     limit: usize,
     w: &mut [usize],
     count: usize,
@@ -220,12 +227,26 @@ fn visit(
         (Visits
         (memory (now (ot .entry)) (now (on .entry)) (now (ol .entry)))
         (memory (now (nt .entry)) (now (nn .entry)) (now (nl .entry)))
-        limit (now (w .entry)) count settled x (now (w .exit)) (r .count) (r .settled)) ⌝ }
+        (now (groups .entry)) limit (now (w .entry)) count settled x (now (w .exit)) (r .count) (r .settled)) ⌝ }
 {
     let n = pairset::old_of(w, x);
     let m = pairset::new_of(w, x);
     let entered = enter(on, ol, nn, nl, limit, w, count, n, m);
-    go_on(ot, on, ol, nt, nn, nl, limit, w, entered, settled, n, m)
+    go_on(
+        ot,
+        on,
+        ol,
+        nt,
+        nn,
+        nl,
+        groups,
+        limit,
+        w,
+        entered,
+        settled,
+        n,
+        m,
+    )
 }
 
 // Rules 2 and 3 for each pair of the table, with those that are added on the way.
@@ -236,6 +257,7 @@ fn visit_all(
     nt: &[u8],
     nn: &[usize],
     nl: &[usize],
+    groups: &[usize],
     limit: usize,
     w: &mut [usize],
     count: usize,
@@ -245,7 +267,7 @@ fn visit_all(
         (VisitsAll
         (memory (now (ot .entry)) (now (on .entry)) (now (ol .entry)))
         (memory (now (nt .entry)) (now (nn .entry)) (now (nl .entry)))
-        limit (now (w .entry)) count (now (w .exit)) (r .count) (r .settled)) ⌝ }
+        (now (groups .entry)) limit (now (w .entry)) count (now (w .exit)) (r .count) (r .settled)) ⌝ }
 {
     let mut total = count;
     let mut settled = true;
@@ -257,7 +279,7 @@ fn visit_all(
                 settled,
             };
         }
-        let next = visit(ot, on, ol, nt, nn, nl, limit, w, total, settled, x);
+        let next = visit(ot, on, ol, nt, nn, nl, groups, limit, w, total, settled, x);
         total = next.count;
         settled = next.settled;
         x += 1;
@@ -276,6 +298,7 @@ fn pass(
     nt: &[u8],
     nn: &[usize],
     nl: &[usize],
+    groups: &[usize],
     limit: usize,
     w: &mut [usize],
     count: usize,
@@ -285,10 +308,10 @@ fn pass(
         (Passes
         (memory (now (ot .entry)) (now (on .entry)) (now (ol .entry)))
         (memory (now (nt .entry)) (now (nn .entry)) (now (nl .entry)))
-        limit (now (w .entry)) count (now (w .exit)) (r .count) (r .settled)) ⌝ }
+        (now (groups .entry)) limit (now (w .entry)) count (now (w .exit)) (r .count) (r .settled)) ⌝ }
 {
     let total = add_entries(ol, nl, limit, w, count, 0, 0);
-    visit_all(ot, on, ol, nt, nn, nl, limit, w, total)
+    visit_all(ot, on, ol, nt, nn, nl, groups, limit, w, total)
 }
 
 // Passes until one is settled or adds nothing.
@@ -299,6 +322,7 @@ fn repeat(
     nt: &[u8],
     nn: &[usize],
     nl: &[usize],
+    groups: &[usize],
     limit: usize,
     w: &mut [usize],
 ) -> usize
@@ -307,11 +331,11 @@ fn repeat(
         (Finds
         (memory (now (ot .entry)) (now (on .entry)) (now (ol .entry)))
         (memory (now (nt .entry)) (now (nn .entry)) (now (nl .entry)))
-        limit (now (w .entry)) (now (w .exit)) r) ⌝ }
+        (now (groups .entry)) limit (now (w .entry)) (now (w .exit)) r) ⌝ }
 {
     let mut count = 0;
     loop {
-        let grown = pass(ot, on, ol, nt, nn, nl, limit, w, count);
+        let grown = pass(ot, on, ol, nt, nn, nl, groups, limit, w, count);
         let next = grown.count;
         let settled = grown.settled;
         if limit < next {
@@ -354,6 +378,11 @@ pub fn close(
         (memory (now (nt .entry)) (now (nn .entry)) (now (nl .entry)))
         limit (now (w .entry)) (now (w .exit)) r) ⌝ }
 {
+    if w.len() < 4624 + 3 * limit {
+        return 0;
+    }
     pairset::empty(w);
-    repeat(ot, on, ol, nt, nn, nl, limit, w)
+    let mut groups = [0usize; 1024];
+    versions::group(nt, nn, nl, &mut groups);
+    repeat(ot, on, ol, nt, nn, nl, &groups, limit, w)
 }

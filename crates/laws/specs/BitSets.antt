@@ -100,8 +100,8 @@ word-bit ws k j h =
     let b : (64 * k + j) % 64 ≡ j = omega arith in
     ap₂ (λ (x y : ℕ). bitAt (getD ws x 0) y) a b
 
--- Words that are all 0 have no bit set.
-clear-word : (n k : ℕ) → getD {A = ℕ} (replicate n 0) k 0 ≡ 0
+-- Words that are all 0, and have no bit set.
+pub clear-word : (n k : ℕ) → getD {A = ℕ} (replicate n 0) k 0 ≡ 0
 clear-word n k =
     below-or k n
     (λ h. getD-replicate n k 0 0 h)

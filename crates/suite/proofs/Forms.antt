@@ -19,7 +19,8 @@ use Rattle.rules.specs.Proofs.TextLaws.{allBytes-more, other, same-true, split-
 use Rattle.rules.specs.SuiteFile.{bitsOf, hexByte, noneSet, no-test, rowFine, test-line, testForm}
 use Rattle.text.specs.Scans.{classByte, span}
 use Rattle.text.specs.SplitLaws.{cut, first-last, first-more}
-use Rattle.suite.specs.Reading.{beginsTest, commaIn, firstField, hashFrom, nameAt, nameHash, nameIn, nameMet}
+use Rattle.text.specs.Hash.{hashOf}
+use Rattle.suite.specs.Reading.{beginsTest, commaIn, firstField, nameAt, nameIn, nameMet}
 use Rattle.suite.proofs.Laws.{drop-bits}
 
 -- ---- `begins_test`, and what the line says by it
@@ -158,26 +159,9 @@ names-done text tests name i n inv h k =
 
 pub ruleset names = (name-is, names-start, names-hit, names-on, names-done)
 
--- ---- `hash`, `name_met`
+-- ---- `name_met`
 
-pub hash-small : (h : ℕ) (s : Bytes) → h < 4096 → hashFrom h s < 4096
-unfolding hashFrom
-hash-small h [] k = k
-hash-small h (x ∷ s) k = hash-small ((h * 31 + x) % 4096) s (omega arith)
-
-module _ (name : Bytes) (h i : ℕ) (inv : nameHash name ≡ hashFrom h (drop i name)) where
-  pub hash-on : (k : ℕ) → i < length name → k ≡ (h * 31 + getD name i 0) % 4096 → nameHash name ≡ hashFrom k (drop (i + 1) name)
-  unfolding hashFrom
-  hash-on k l e = inv ∙ ap (hashFrom h) (drop-at name i 0 l) ∙ ap (λ (n : ℕ). hashFrom n (drop (i + 1) name)) (sym e)
-
-  pub hash-done : length name ≤ i → h ≡ nameHash name
-  unfolding hashFrom
-  hash-done l = sym (inv ∙ ap (hashFrom h) (drop-end name i l))
-
-pub hash-start : (name : Bytes) → nameHash name ≡ hashFrom 0 (drop 0 name)
-hash-start name = refl
-
-module _ (text tests filter name : List ℕ) (n h : ℕ) (b : Bool) (eh : h ≡ nameHash name) (eb : b ≡ bitIn filter h) where
+module _ (text tests filter name : List ℕ) (n h : ℕ) (b : Bool) (eh : h ≡ hashOf name) (eb : b ≡ bitIn filter h) where
   met-is : nameMet text tests n filter name ≡ (b and nameIn text tests n name)
   unfolding nameMet
   met-is = ap (λ (x : Bool). x and nameIn text tests n name) (ap (bitIn filter) (sym eh) ∙ sym eb)
@@ -190,10 +174,10 @@ module _ (text tests filter name : List ℕ) (n h : ℕ) (b : Bool) (eh : h ≡ 
   unfolding _and_
   met-not y = sym (met-is ∙ ap (λ (x : Bool). x and nameIn text tests n name) y)
 
-pub met-noted : (filter filter′ name : List ℕ) (h : ℕ) → h ≡ nameHash name → filter′ ≡ withBit filter h → filter′ ≡ withBit filter (nameHash name)
+pub met-noted : (filter filter′ name : List ℕ) (h : ℕ) → h ≡ hashOf name → filter′ ≡ withBit filter h → filter′ ≡ withBit filter (hashOf name)
 met-noted filter filter′ name h eh e = e ∙ ap (withBit filter) eh
 
-pub ruleset hashes = (hash-on, hash-done, hash-start, met-maybe, met-not, met-noted)
+pub ruleset mets = (met-maybe, met-not, met-noted)
 
 -- ---- `spare_clear`, `row_fine`
 

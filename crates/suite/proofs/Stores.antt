@@ -22,10 +22,11 @@ use Rattle.rules.specs.Closing.{Coverage}
 use Rattle.rules.specs.SuiteFile.{TestListing, bitsOf, hexByte, rowFine, stepSuite, takeTest, no-test, testCount, testForm, testName, tested, withTest}
 use Rattle.text.specs.Scans.{span}
 use Rattle.text.specs.SplitLaws.{uncut}
+use Rattle.text.specs.Hash.{hashOf, hash-small}
 use Rattle.suite.specs.declared.Read.{Read}
 use Rattle.suite.specs.Rows.{Holds, Row, edgeBit, storedRow, storedTest}
-use Rattle.suite.specs.Reading.{Adds, Known, Marked, Steps, beginsTest, commaIn, nameAt, nameHash, nameIn, nameMet}
-use Rattle.suite.proofs.Forms.{none-set, begins-form, begins-four, begins-none, fine-free, hash-small}
+use Rattle.suite.specs.Reading.{Adds, Known, Marked, Steps, beginsTest, commaIn, nameAt, nameIn, nameMet}
+use Rattle.suite.proofs.Forms.{none-set, begins-form, begins-four, begins-none, fine-free}
 
 -- ---- what the stores leave
 
@@ -177,21 +178,21 @@ module _ (m : ℕ) (t w : List ℕ) (c : ℕ) (text : Bytes) (l : TestListing) (
     met-is : (x : Bytes) → nameMet text t c f x ≡ tested (l .suite) x
     unfolding nameMet tested Marked
     met-is x =
-        ap (λ (b : Bool). bitIn f (nameHash x) and b) (seen-is x)
+        ap (λ (b : Bool). bitIn f (hashOf x) and b) (seen-is x)
         ∙ same-test _ _ (λ y. and-right _ _ y)
         (λ y.
         let a = any-at (λ i. same (testName (l .suite) i) x) (testCount (l .suite)) y in
-        and-both (ap (λ (s : Bytes). bitIn f (nameHash s)) (sym (same-true _ _ (a .2))) ∙ marked (a .0) (a .1)) y)
+        and-both (ap (λ (s : Bytes). bitIn f (hashOf s)) (sym (same-true _ _ (a .2))) ∙ marked (a .0) (a .1)) y)
 
     -- The filter with one hash more.
-    marked-more : 64 ≤ length f → Marked (withBit f (nameHash name)) more
+    marked-more : 64 ≤ length f → Marked (withBit f (hashOf name)) more
     unfolding Marked
     marked-more wide =
-        let h : ℕ = nameHash name in
+        let h : ℕ = hashOf name in
         let is : (j : ℕ) → bitIn (withBit f h) j ≡ (eqb h j or bitIn f j) = λ j. bit-with f h j (omega (arith, hash-small 0 name (omega arith))) in
-        each (λ (i : ℕ). bitIn (withBit f h) (nameHash (testName (more .suite) i)) ≡ true)
-        (λ i k. ap (λ (s : Bytes). bitIn (withBit f h) (nameHash s)) (names-old i k) ∙ is _ ∙ or-right _ (marked i k))
-        (ap (λ (s : Bytes). bitIn (withBit f h) (nameHash s)) names-new ∙ is h ∙ or-left _ (eqb-self h))
+        each (λ (i : ℕ). bitIn (withBit f h) (hashOf (testName (more .suite) i)) ≡ true)
+        (λ i k. ap (λ (s : Bytes). bitIn (withBit f h) (hashOf s)) (names-old i k) ∙ is _ ∙ or-right _ (marked i k))
+        (ap (λ (s : Bytes). bitIn (withBit f h) (hashOf s)) names-new ∙ is h ∙ or-left _ (eqb-self h))
 
 -- ---- `put_test`, `add_test`
 
@@ -228,14 +229,14 @@ module _ (text : Bytes) (m n at : ℕ) (name row : Bytes) (c : ℕ) (f t w f′ 
           simp (lt-leb 200 (testCount (l .suite)) (omega (arith, hold .counted)), ← met-is m t w c text l known hold at name row f marked name, ← eu, fresh, ← ev, y)
           ((e, p, omega arith), (λ k q. no-answer 10 n k q))
 
-      pub add-new : v ≡ true → m ≤ 1024 → 64 ≤ length f → 400 ≤ length t → 3200 ≤ length w → f′ ≡ withBit f (nameHash name) → t′ ≡ storedTest t c (at + 2) (length name)
+      pub add-new : v ≡ true → m ≤ 1024 → 64 ≤ length f → 400 ≤ length t → 3200 ≤ length w → f′ ≡ withBit f (hashOf name) → t′ ≡ storedTest t c (at + 2) (length name)
           → w′ ≡ storedRow w c row → Adds text m n at name row c f t w (record { number = 0; place = 0; count = c + 1 }) f′ t′ w′
       unfolding Adds takeTest unless isnt
       add-new y few some long wide ef et ew l known hold marked =
           simp
           (lt-leb 200 (testCount (l .suite)) (omega (arith, hold .counted)), ← met-is m t w c text l known hold at name row f marked name, ← eu, fresh, ← ev, y, ef, et, ew) (
             (refl, refl, holds-more m t w c text l known hold at name row few room long wide (sym ev ∙ y)),
-            (λ k q. subst (λ (x : TestListing). Marked (withBit f (nameHash name)) x) (accepted-same q) (marked-more m t w c text l known hold at name row f marked some)),
+            (λ k q. subst (λ (x : TestListing). Marked (withBit f (hashOf name)) x) (accepted-same q) (marked-more m t w c text l known hold at name row f marked some)),
           )
 
 -- The digits of a fine row.

@@ -11,6 +11,7 @@ use Rattle.laws.specs.Bits.{bitIn}
 use Rattle.rules.specs.Text.{Bytes, same, bytes, isName, Answer, refused, accepted, linesOf, readLines}
 use Rattle.rules.specs.SuiteFile.{TestListing, finishSuite, noTests, readTests, stepSuite, takeTest, test-line, testCount, testName}
 use Rattle.text.specs.Scans.{span}
+use Rattle.text.specs.Hash.{hashOf}
 use Rattle.suite.specs.declared.Read.{Read}
 use Rattle.suite.specs.Rows.{Holds}
 
@@ -39,21 +40,13 @@ nameAt text tests i = take (getD tests (2 * i + 1) 0) (drop (getD tests (2 * i) 
 unfoldable pub nameIn : Bytes → List ℕ → ℕ → Bytes → Bool
 nameIn text tests n name = any n (λ i. same (nameAt text tests i) name)
 
--- `hash`: a number below 4,096 for a name, by its bytes from the first on.
-unfoldable pub hashFrom : ℕ → Bytes → ℕ
-hashFrom h [] = h
-hashFrom h (x ∷ s) = hashFrom ((h * 31 + x) % 4096) s
-
-abbrev pub nameHash : Bytes → ℕ
-nameHash = hashFrom 0
-
 -- `name_met`: the filter has the hash of the name, and one of the first n tests has the name.
 unfoldable pub nameMet : Bytes → List ℕ → ℕ → List ℕ → Bytes → Bool
-nameMet text tests n filter name = bitIn filter (nameHash name) and nameIn text tests n name
+nameMet text tests n filter name = bitIn filter (hashOf name) and nameIn text tests n name
 
 -- The filter has the hash of every test's name.
 unfoldable pub Marked : List ℕ → TestListing → Type 0
-Marked filter l = (i : ℕ) → i < testCount (l .suite) → bitIn filter (nameHash (testName (l .suite) i)) ≡ true
+Marked filter l = (i : ℕ) → i < testCount (l .suite) → bitIn filter (hashOf (testName (l .suite) i)) ≡ true
 
 -- The same of the tests that the definition accepts.
 abbrev pub MarkedAfter : List ℕ → Answer TestListing → Type 0

@@ -9,7 +9,8 @@ ghost use Rattle.laws.specs.Bits.{wordOf};
 ghost use Rattle.laws.specs.BitSets.{withBit};
 ghost use Rattle.rules.specs.Text.{allBytes};
 ghost use Rattle.rules.specs.SuiteFile.{bitsOf, hexByte, hexValue, noneSet, rowFine};
-ghost use Rattle.suite.specs.Reading.{Added, LinesRead, Stepped, TestsRead, beginsTest, commaIn, nameAt, nameHash, nameIn, nameMet};
+ghost use Rattle.text.specs.Hash.{hashOf};
+ghost use Rattle.suite.specs.Reading.{Added, LinesRead, Stepped, TestsRead, beginsTest, commaIn, nameAt, nameIn, nameMet};
 ghost use Rattle.suite.specs.Rows.{edgeBit, itself, number, rowCommon, rowOnes, storedRow, storedTest, turn};
 
 // What was read: a refusal by number and place, where the number is not 0, or how many tests there are.
@@ -194,35 +195,14 @@ fn name_seen(text: &[u8], tests: &[usize], count: usize, name: &[u8]) -> bool
     false
 }
 
-// The hash h of some bytes, with a byte more.
-fn hash_with(h: usize, x: u8) -> usize
-    requires { ⌜ h < 4096 ⌝ }
-    ensures { λ r. ⌜ r ≡ (h * 31 + x) % 4096 ⌝ }
-{
-    (h * 31 + x as usize) % 4096
-}
-
-// A number below 4,096 for a name.
-fn hash(name: &[u8]) -> usize
-    ensures { λ r. ⌜ r ≡ nameHash (now (name .entry)) ⌝ }
-{
-    let mut h = 0;
-    let mut i = 0;
-    while i < name.len() {
-        h = hash_with(h, name[i]);
-        i += 1;
-    }
-    h
-}
-
 // Whether one of the first `count` tests has the name, where the filter has the bits of their hashes: names are compared only if it has that of
 // the name's, which it has afterwards.
 fn name_met(text: &[u8], tests: &[usize], count: usize, name: &[u8], filter: &mut [usize]) -> bool
     requires { ⌜ count ≤ 200 ⌝ }
     ensures { λ r. ⌜ r ≡ nameMet (now (text .entry)) (now (tests .entry)) count (now (filter .entry)) (now (name .entry)) ⌝ }
-    ensures { λ _. ⌜ now (filter .exit) ≡ withBit (now (filter .entry)) (nameHash (now (name .entry))) ⌝ }
+    ensures { λ _. ⌜ now (filter .exit) ≡ withBit (now (filter .entry)) (hashOf (now (name .entry))) ⌝ }
 {
-    let h = hash(name);
+    let h = text::hash(name);
     let maybe = text::bit_at(filter, h);
     text::set_bit(filter, h);
     if maybe {

@@ -21,6 +21,7 @@ use Rattle.rules.specs.Proofs.TextLaws.{decimal-small, decimal-more, same-of, s
 use Rattle.text.specs.Scans.{span, plainByte, classByte, sized}
 use Rattle.text.specs.SplitLaws.{span-hit, span-miss, span-end, fields}
 use Rattle.text.specs.Puts.{Puts, puts-none, puts-then, puts-length}
+use Rattle.text.specs.Hash.{hashFrom, hashOf, hash-small}
 
 -- The test of the code and that of the rules.
 also : (a b : Bool) → (a && b) ≡ (a and b)
@@ -614,4 +615,23 @@ over-ten x h = omega arith
 
 pub ruleset writes = (byte-past, bytes-none, bytes-room, bytes-on, bytes-done, decimal-one, decimal-on, room-one, room-before, room-last, puts-length)
 
-pub ruleset all = (finds, sames, parts, stores, runs, classes, alls, sizes, fields, values, spelled, writes)
+-- ---- `hash`
+
+module _ (s : Bytes) (h i : ℕ) (inv : hashOf s ≡ hashFrom h (drop i s)) where
+  pub hash-on : (k : ℕ) → i < length s → k ≡ (h * 31 + getD s i 0) % 4096 → hashOf s ≡ hashFrom k (drop (i + 1) s)
+  unfolding hashFrom
+  hash-on k l e = inv ∙ ap (hashFrom h) (drop-at s i 0 l) ∙ ap (λ (n : ℕ). hashFrom n (drop (i + 1) s)) (sym e)
+
+  pub hash-done : length s ≤ i → h ≡ hashOf s
+  unfolding hashFrom
+  hash-done l = sym (inv ∙ ap (hashFrom h) (drop-end s i l))
+
+pub hash-start : (s : Bytes) → hashOf s ≡ hashFrom 0 (drop 0 s)
+hash-start s = refl
+
+pub hash-below : (s : Bytes) (r : ℕ) → r ≡ hashOf s → r < 4096
+hash-below s r e = rw e (hash-small 0 s (omega arith))
+
+pub ruleset hashes = (hash-on, hash-done, hash-start, hash-below)
+
+pub ruleset all = (hashes, finds, sames, parts, stores, runs, classes, alls, sizes, fields, values, spelled, writes)

@@ -24,6 +24,7 @@ ghost use Rattle.laws.specs.Tests.{choose, has};
 ghost use Rattle.laws.specs.Bits.{bitIn};
 ghost use Rattle.laws.specs.BitSets.{withBit};
 ghost use Rattle.rules.specs.SuiteFile.{hexByte};
+ghost use Rattle.text.specs.Hash.{hashOf};
 ghost use Rattle.text.specs.Puts.{Puts};
 ghost use Rattle.text.specs.Scans.{classByte, plainByte, sized as isSized, span};
 
@@ -641,6 +642,27 @@ pub fn number(s: &[u8]) -> usize
         }
     }
     v
+}
+
+// The hash h of some bytes, with a byte more.
+fn hash_with(h: usize, x: u8) -> usize
+    requires { ⌜ h < 4096 ⌝ }
+    ensures { λ r. ⌜ r ≡ (h * 31 + x) % 4096 ⌝ }
+{
+    (h * 31 + x as usize) % 4096
+}
+
+// A number below 4,096 for some bytes.
+pub fn hash(s: &[u8]) -> usize
+    ensures { λ r. ⌜ (r ≡ hashOf (now (s .entry))) × (r < 4096) ⌝ }
+{
+    let mut h = 0;
+    let mut i = 0;
+    while i < s.len() {
+        h = hash_with(h, s[i]);
+        i += 1;
+    }
+    h
 }
 
 // Stores b at the place `at`, if it is inside out; the next place either way.

@@ -1,29 +1,34 @@
 -- The turns and the returns of this crate's functions, as `search` finds them: the premises are what the code holds there.
-use mathlib.Core.Path.{_≡_, refl, sym, ap, ap₂, _∙_}
-use mathlib.Core.Bool.{Bool, true, false}
+use mathlib.Core.Path.{_≡_, refl, sym, ap, ap₂, _∙_, subst, subst₂}
+use mathlib.Core.Bool.{Bool, true, false, false≢true}
 use mathlib.Core.List.{List, []}
 use Prim.Native.Nat.{ℕ, _+_, _-_, _≤_, _<_}
 use native.Mathlib.Omega.{arith}
 use lib.Dec.{eqb}
-use lib.ListN.{getD, length}
+use lib.ListN.{getD, length, length-set, set}
+use lib.Seq.{getD-set-other, getD-set-same, set-out}
 use borrow.Author.Tests.{eqb-true, eq-eqb, ne-eqb}
 use Rattle.laws.specs.Tests.{_and_, _⇒_, found, listed}
 use Rattle.laws.specs.TestLaws.{and-both, and-left, and-right, both-ways, fails}
+use Rattle.laws.specs.Slices.{below-or, same-or}
+use Rattle.laws.specs.Chain.{Walk, walk-start}
 use Rattle.rules.specs.Text.{Bytes, same}
 use Rattle.rules.specs.Graph.{C, Kind, E, S, X, called, calleeAt, edgeCount, entry, exit, filled, kindAt, kindNumber, labelAt, nodeCount, sameKind, sourceAt, wordAt}
-use Rattle.rules.specs.Closing.{bothCall, goesOn, sameCallee, sameLabel, sameWord}
+use Rattle.rules.specs.Closing.{alike, bothCall, goesOn, sameCallee, sameLabel, sameWord}
 use Rattle.rules.specs.ProgramFile.{Listing}
-use Rattle.rules.specs.Proofs.ClosingLaws.{alike-parts, bare-callees, same-word, sameCallee-is, sameLabel-is, taken-same}
+use Rattle.rules.specs.Proofs.ClosingLaws.{alike-parts, alike-self, alike-through, bare-callees, same-word, sameCallee-is, sameLabel-is, taken-same}
 use Rattle.rules.specs.Proofs.GraphLaws.{called-below, called-name, sameKind-true}
 use Rattle.rules.specs.Proofs.TextLaws.{empty-true}
 use Rattle.graph.specs.Table.{edgeBase, nodeBase, procBase}
 use Rattle.graph.specs.Lookups.{EdgeTaken}
 use Rattle.graph.specs.Reads.{partAt, past, part-past}
-use Rattle.pairset.specs.Store.{Has, pairsIn}
+use Rattle.pairset.specs.Store.{Has, lastPair, newAt, oldAt, pairsIn}
+use Rattle.pairset.specs.StoreLaws.{listed-of, walked}
 use Rattle.versions.specs.Memory.{InMemory, memory}
 use Rattle.versions.specs.MemoryLaws.{kind-is, label-is, callee-is, name-is, entry-is, exit-is, key-is, edges-in, sound, well-formed}
 use Rattle.versions.specs.Found.{found-at}
 use Rattle.versions.specs.Claims.{Alike, BothCall, Entered, GoesOn, Taken}
+use Rattle.versions.specs.Groups.{Grouped, Groups, Known, OfGroup, Regrouped, Twin}
 
 -- ---- what the tables hold, past their ends
 
@@ -210,4 +215,93 @@ module _ (on ol nn nl w : List ℕ) (n m : ℕ) where
 
 pub ruleset goes = (goes-free, goes-exits, entered-free, entered-entries)
 
-pub ruleset all = (reads, sames, alikes, taken-is, calls, goes)
+-- ---- `twin`, `group_node`, `group`
+
+module _ (text nodes links : List ℕ) where
+  pub twin-none : (r x : ℕ) → Twin (memory text nodes links) r x false
+  unfolding Twin
+  twin-none r x s h l t = absurd (false≢true t)
+
+  pub twin-alike : (r x : ℕ) (t : Bool) → 1 ≤ r → r ≤ x → Alike (memory text nodes links) (memory text nodes links) (r - 1) x t → Twin (memory text nodes links) r x t
+  unfolding Twin Alike
+  twin-alike r x t pos le is s h l y = sym (is s s h h (omega arith) l) ∙ y
+
+  pub group-start : (g : List ℕ) → Regrouped (memory text nodes links) g g
+  unfolding Groups
+  group-start g = record { size = refl; groups = λ s h was. was }
+
+  pub group-on : (g g₁ g₂ : List ℕ) → Regrouped (memory text nodes links) g g₁ → Regrouped (memory text nodes links) g₁ g₂ → Regrouped (memory text nodes links) g g₂
+  unfolding Groups
+  group-on g g₁ g₂ a b = record { size = b .size ∙ a .size; groups = λ s h was. b .groups s h (a .groups s h was) }
+
+  module _ (g g₁ : List ℕ) (x r : ℕ) (e : g₁ ≡ set g x r) where
+    number-at : (y : ℕ) → (y ≡ x → ⊥) → getD g₁ y 0 ≡ getD g y 0
+    number-at y q = ap (λ (m : List ℕ). getD m y 0) e ∙ getD-set-other g x y r 0 q
+
+    size-at : length g₁ ≡ length g
+    size-at = ap length e ∙ length-set g x r
+
+    -- A number for the node x, where it says what is so.
+    group-one : ((s : Listing) → InMemory (memory text nodes links) s → x < nodeCount (s .program) → OfGroup (s .program) r x) → Regrouped (memory text nodes links) g g₁
+    unfolding Groups Grouped
+    group-one like =
+        record {
+          size = size-at;
+          groups = λ s h was y l pos.
+              same-or y x
+              (λ q.
+              below-or x (length g)
+              (λ i.
+              let k : getD g₁ y 0 ≡ r = ap (λ (m : List ℕ). getD m y 0) e ∙ ap (λ (j : ℕ). getD (set g x r) j 0) q ∙ getD-set-same g x r 0 i in
+              subst₂ (OfGroup (s .program)) (sym k) (sym q) (like s h (subst (λ (j : ℕ). j < nodeCount (s .program)) q l)))
+              (λ i.
+              let k : getD g₁ y 0 ≡ getD g y 0 = ap (λ (m : List ℕ). getD m y 0) (e ∙ set-out g x r i) in
+              subst₂ (OfGroup (s .program)) (sym k) refl (was y l (omega arith))))
+              (λ q. let k = number-at y q in subst₂ (OfGroup (s .program)) (sym k) refl (was y l (omega arith)));
+        }
+
+    -- A number behind the nodes.
+    group-behind : 512 ≤ x → Regrouped (memory text nodes links) g g₁
+    unfolding Groups Grouped
+    group-behind far =
+        record {
+          size = size-at;
+          groups = λ s h was y l pos.
+              let k = number-at y (λ q. let z : ⊥ = omega (arith, sound _ s h .fewNodes) in z) in
+              subst (λ (n : ℕ). OfGroup (s .program) n y) (sym k) (was y l (omega arith));
+        }
+
+  pub group-twin : (g g₁ : List ℕ) (x r : ℕ) (t : Bool) → Twin (memory text nodes links) r x t → t ≡ true → g₁ ≡ set g x r → Regrouped (memory text nodes links) g g₁
+  unfolding Twin
+  group-twin g g₁ x r t is y e = group-one g g₁ x r e (λ s h l. is s h l y)
+
+  pub group-own : (g g₁ g₂ : List ℕ) (place x : ℕ) → 512 ≤ place → g₁ ≡ set g place (x + 1) → g₂ ≡ set g₁ x (x + 1) → Regrouped (memory text nodes links) g g₂
+  group-own g g₁ g₂ place x far e e′ =
+      let own : x ≡ x + 1 - 1 = omega arith in
+      group-on g g₁ g₂ (group-behind g g₁ place (x + 1) e far)
+      (group-one g₁ g₂ x (x + 1) e′ (λ s h l. subst (λ (n : ℕ). alike (s .program) (s .program) n x ≡ true) own (alike-self (s .program) x)))
+
+pub ruleset groups = (twin-none, twin-alike, group-start, group-on, group-twin, group-own)
+
+-- ---- `known_alike`
+
+module _ (w g : List ℕ) (a b : ℕ) where
+  pub known-not : Known w g a b false
+  unfolding Known
+  known-not old new c st gr like j t = absurd (false≢true t)
+
+  pub known-same : (place group partner q : ℕ) → place ≡ lastPair w a → 1 ≤ place → group ≡ getD g b 0 → 1 ≤ group → partner ≡ newAt w (place - 1) → q ≡ getD g partner 0
+      → Known w g a b (eqb q group)
+  unfolding Known Grouped
+  known-same place group partner q ep pos eg some en eq old new c st gr like j t =
+      let walk : Walk (λ _. ⊥) (oldAt w) a c (lastPair w a) = walk-start (walked st (a + 1)) a (omega arith) in
+      let own : oldAt w (place - 1) ≡ a = ap (λ (k : ℕ). oldAt w (k - 1)) ep ∙ walk .owner (omega arith) in
+      let y = like a partner (listed-of w a partner c (place - 1) (omega (arith, walk .within)) own (sym en)) in
+      let k : getD g partner 0 ≡ group = sym eq ∙ eqb-true _ _ t in
+      alike-through old new a (group - 1) partner b (y .0)
+      (subst (λ (n : ℕ). OfGroup new n partner) k (gr partner (y .1) (omega arith)))
+      (subst (λ (n : ℕ). OfGroup new n b) (sym eg) (gr b j (omega arith)))
+
+pub ruleset knowns = (known-not, known-same)
+
+pub ruleset all = (reads, sames, alikes, taken-is, calls, goes, groups, knowns)

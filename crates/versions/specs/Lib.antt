@@ -4,3 +4,4 @@ pub mod MemoryLaws
 pub mod Found
 pub mod Claims
 pub mod Held
+pub mod Groups

@@ -1,13 +1,14 @@
 // Two versions of a program in memory: the old text, nodes and links, and the new ones. Every function takes any slice and any number: what
 // stands past the end of a table is 0.
 ghost use mathlib.Core.Path.{_≡_};
-ghost use Prim.Native.Nat.{_+_};
+ghost use Prim.Native.Nat.{_+_, _<_, _≤_};
 ghost use lib.ListN.{getD};
 ghost use Rattle.graph.specs.Table.{edgeBase, headBase, nodeBase, procBase};
 ghost use Rattle.graph.specs.Reads.{partAt, upTo};
 ghost use Rattle.rules.specs.Closing.{sameCallee, sameLabel};
 ghost use Rattle.versions.specs.Memory.{memory};
 ghost use Rattle.versions.specs.Claims.{Alike, BothCall, Entered, GoesOn, Taken};
+ghost use Rattle.versions.specs.Groups.{Known, Regrouped, Twin};
 
 // ---- what the tables hold
 
@@ -212,4 +213,72 @@ pub fn entered(
         return pairset::has(w, a, b);
     }
     true
+}
+
+// ---- groups of alike nodes of one program
+
+// Whether the node r - 1 stands before the node x and is alike to it.
+fn twin(text: &[u8], nodes: &[usize], links: &[usize], r: usize, x: usize) -> bool
+    ensures { λ t. ⌜ Twin (memory (now (text .entry)) (now (nodes .entry)) (now (links .entry))) r x t ⌝ }
+{
+    if r < 1 {
+        return false;
+    }
+    if x < r {
+        return false;
+    }
+    alike(text, nodes, links, text, nodes, links, r - 1, x)
+}
+
+// Where the table of groups keeps, behind the 512 nodes, 1 + the latest node that began a group and has a label of the same hash as the node x.
+fn latest_at(text: &[u8], nodes: &[usize], x: usize) -> usize
+    ensures { λ r. ⌜ 512 ≤ r ⌝ }
+{
+    512 + text::hash(label(text, nodes, x)) % 512
+}
+
+// Puts the node x into the group of that latest node, where the two are alike, and else into one of its own.
+fn group_node(text: &[u8], nodes: &[usize], links: &[usize], groups: &mut [usize], x: usize)
+    requires { ⌜ x < 512 ⌝ }
+    ensures { λ _. ⌜ Regrouped (memory (now (text .entry)) (now (nodes .entry)) (now (links .entry))) (now (groups .entry)) (now (groups .exit)) ⌝ }
+{
+    let place = latest_at(text, nodes, x);
+    let r = text::get(groups, place);
+    if twin(text, nodes, links, r, x) {
+        text::put(groups, x, r);
+        return;
+    }
+    text::put(groups, place, x + 1);
+    text::put(groups, x, x + 1);
+}
+
+// Puts the nodes of a program into groups, in a table of 1,024 numbers. The line of a node has 6 bytes at least.
+pub fn group(text: &[u8], nodes: &[usize], links: &[usize], groups: &mut [usize])
+    ensures { λ _. ⌜ Regrouped (memory (now (text .entry)) (now (nodes .entry)) (now (links .entry))) (now (groups .entry)) (now (groups .exit)) ⌝ }
+{
+    let most = text.len() / 6;
+    let mut x = 0;
+    while x < 512 {
+        if most <= x {
+            return;
+        }
+        group_node(text, nodes, links, groups, x);
+        x += 1;
+    }
+}
+
+// Whether the latest partner of the old node a is in the group of the new node b: then a and b are alike.
+pub fn known_alike(w: &[usize], groups: &[usize], a: usize, b: usize) -> bool
+    ensures { λ r. ⌜ Known (now (w .entry)) (now (groups .entry)) a b r ⌝ }
+{
+    let place = pairset::last_pair(w, a);
+    if place < 1 {
+        return false;
+    }
+    let group = text::get(groups, b);
+    if group < 1 {
+        return false;
+    }
+    let partner = pairset::new_of(w, place - 1);
+    text::get(groups, partner) == group
 }

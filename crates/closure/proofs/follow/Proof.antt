@@ -7,10 +7,10 @@ use Rattle.closure.proofs.follow.Statement.{statement}
 use Rattle.closure.proofs.follow.Tie as tie
 
 abbrev Inv-loop : tie.InvT-loop
-Inv-loop ot on ol nt nn nl limit w₀ count n m total₀ place₀ w total place = Sized w₀ w (Following (memory ot on ol) (memory nt nn nl) limit w₀ total₀ n m w total place)
+Inv-loop ot on ol nt nn nl groups limit w₀ count n m total₀ place₀ w total place = Sized w₀ w (Following (memory ot on ol) (memory nt nn nl) groups limit w₀ total₀ n m w total place)
 
 abbrev μ-loop : tie.MeasureT-loop
-μ-loop ot on ol nt nn nl limit w₀ count n m total₀ place₀ w total place = place
+μ-loop ot on ol nt nn nl groups limit w₀ count n m total₀ place₀ w total place = place
 
 last-edge-requires : tie.Need-last-edge-requires Inv-loop μ-loop
 last-edge-requires c κs = search (all, needs)

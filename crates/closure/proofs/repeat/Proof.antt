@@ -8,10 +8,10 @@ use Rattle.closure.proofs.repeat.Statement.{statement}
 use Rattle.closure.proofs.repeat.Tie as tie
 
 abbrev Inv-loop : tie.InvT-loop
-Inv-loop ot on ol nt nn nl limit w₀ count₀ w count = Sized w₀ w (Repeating (memory ot on ol) (memory nt nn nl) limit w₀ w count)
+Inv-loop ot on ol nt nn nl groups limit w₀ count₀ w count = Sized w₀ w (Repeating (memory ot on ol) (memory nt nn nl) groups limit w₀ w count)
 
 abbrev μ-loop : tie.MeasureT-loop
-μ-loop ot on ol nt nn nl limit w₀ count₀ w count = limit - count
+μ-loop ot on ol nt nn nl groups limit w₀ count₀ w count = limit - count
 
 loop-holds : tie.Need-loop-holds Inv-loop μ-loop
 loop-holds c = search (all, needs)

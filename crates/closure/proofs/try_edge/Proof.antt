@@ -33,8 +33,8 @@ same-length-2 c = search needs
 returns-2 : tie.Need-returns-2
 returns-2 c = search (all, needs)
 
-alike-requires : tie.Need-alike-requires
-alike-requires c κs = search needs
+known-alike-requires : tie.Need-known-alike-requires
+known-alike-requires c κs = search needs
 
 grow-requires : tie.Need-grow-requires
 grow-requires c κs = search needs
@@ -45,14 +45,26 @@ same-length-3 c = search needs
 returns-3 : tie.Need-returns-3
 returns-3 c = search (all, needs)
 
-mark-danger-requires-2 : tie.Need-mark-danger-requires-2
-mark-danger-requires-2 c κs = search needs
+alike-requires : tie.Need-alike-requires
+alike-requires c κs = search needs
+
+grow-requires-2 : tie.Need-grow-requires-2
+grow-requires-2 c κs = search needs
 
 same-length-4 : tie.Need-same-length-4
 same-length-4 c = search needs
 
 returns-4 : tie.Need-returns-4
 returns-4 c = search (all, needs)
+
+mark-danger-requires-2 : tie.Need-mark-danger-requires-2
+mark-danger-requires-2 c κs = search needs
+
+same-length-5 : tie.Need-same-length-5
+same-length-5 c = search needs
+
+returns-5 : tie.Need-returns-5
+returns-5 c = search (all, needs)
 
 pub try-edge-spec : {M : Type 1} → statement M
 try-edge-spec =
@@ -68,10 +80,14 @@ try-edge-spec =
     has-requires
     same-length-2
     returns-2
-    alike-requires
+    known-alike-requires
     grow-requires
     same-length-3
     returns-3
-    mark-danger-requires-2
+    alike-requires
+    grow-requires-2
     same-length-4
-    returns-4)
+    returns-4
+    mark-danger-requires-2
+    same-length-5
+    returns-5)

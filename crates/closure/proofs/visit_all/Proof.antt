@@ -8,10 +8,10 @@ use Rattle.closure.proofs.visit_all.Statement.{statement}
 use Rattle.closure.proofs.visit_all.Tie as tie
 
 abbrev Inv-loop : tie.InvT-loop
-Inv-loop ot on ol nt nn nl limit w₀ count total₀ settled₀ x₀ w total settled x = Sized w₀ w (Visiting (memory ot on ol) (memory nt nn nl) limit w₀ total₀ w total settled x)
+Inv-loop ot on ol nt nn nl groups limit w₀ count total₀ settled₀ x₀ w total settled x = Sized w₀ w (Visiting (memory ot on ol) (memory nt nn nl) groups limit w₀ total₀ w total settled x)
 
 abbrev μ-loop : tie.MeasureT-loop
-μ-loop ot on ol nt nn nl limit w₀ count total₀ settled₀ x₀ w total settled x = limit - x
+μ-loop ot on ol nt nn nl groups limit w₀ count total₀ settled₀ x₀ w total settled x = limit - x
 
 loop-holds : tie.Need-loop-holds Inv-loop μ-loop
 loop-holds c = search (all, needs)

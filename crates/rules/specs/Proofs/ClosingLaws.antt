@@ -46,6 +46,19 @@ module _ (old new : Program) (n n′ : ℕ) where
   unfolding alike sameLabel sameCallee
   alike-bare k l l′ c c′ = and-both (sameKind-of k) (and-both (same-of (l ∙ sym l′)) (same-of (c ∙ sym c′)))
 
+-- A node is alike to itself. Where a node of the new program is alike to two others of it, a node that is alike to one of these is alike to the other.
+pub alike-self : (p : Program) (n : ℕ) → alike p p n n ≡ true
+unfolding alike sameLabel sameCallee
+alike-self p n = and-both (sameKind-of refl) (and-both (same-of refl) (same-of refl))
+
+pub alike-through : (old new : Program) (n r x y : ℕ) → alike old new n x ≡ true → alike new new r x ≡ true → alike new new r y ≡ true → alike old new n y ≡ true
+unfolding alike sameLabel sameCallee
+alike-through old new n r x y a b c =
+    and-both (sameKind-of (sameKind-true _ _ (and-left _ _ a) ∙ sym (sameKind-true _ _ (and-left _ _ b)) ∙ sameKind-true _ _ (and-left _ _ c)))
+    (and-both
+    (same-of (same-true _ _ (and-left _ _ (and-right _ _ a)) ∙ sym (same-true _ _ (and-left _ _ (and-right _ _ b))) ∙ same-true _ _ (and-left _ _ (and-right _ _ c))))
+    (same-of (same-true _ _ (and-right _ _ (and-right _ _ a)) ∙ sym (same-true _ _ (and-right _ _ (and-right _ _ b))) ∙ same-true _ _ (and-right _ _ (and-right _ _ c)))))
+
 module _ (old new : Program) (e e′ : ℕ) where
   pub same-word : sameWord old new e e′ ≡ true → wordAt old e ≡ wordAt new e′
   unfolding sameWord

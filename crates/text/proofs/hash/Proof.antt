@@ -1,17 +1,17 @@
 use borrow.Author.Needs.{needs}
-use Rattle.suite.proofs.All.{all}
+use Rattle.text.proofs.Laws.{all}
 use Prim.Native.Nat.{_≤_, _<_, _-_}
 use mathlib.Core.Path.{_≡_}
 use lib.ListN.{length, drop}
-use Rattle.suite.specs.Reading.{hashFrom, nameHash}
-use Rattle.suite.proofs.hash.Statement.{statement}
-use Rattle.suite.proofs.hash.Tie as tie
+use Rattle.text.specs.Hash.{hashFrom, hashOf}
+use Rattle.text.proofs.hash.Statement.{statement}
+use Rattle.text.proofs.hash.Tie as tie
 
 abbrev Inv-loop : tie.InvT-loop
-Inv-loop name h₀ i₀ h i = (h < 4096) × (i ≤ length name) × (nameHash name ≡ hashFrom h (drop i name))
+Inv-loop s h₀ i₀ h i = (h < 4096) × (i ≤ length s) × (hashOf s ≡ hashFrom h (drop i s))
 
 abbrev μ-loop : tie.MeasureT-loop
-μ-loop name h₀ i₀ h i = length name - i
+μ-loop s h₀ i₀ h i = length s - i
 
 loop-holds : tie.Need-loop-holds Inv-loop μ-loop
 loop-holds c = search (all, needs)
