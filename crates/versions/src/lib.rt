@@ -230,11 +230,17 @@ fn twin(text: &[u8], nodes: &[usize], links: &[usize], r: usize, x: usize) -> bo
     alike(text, nodes, links, text, nodes, links, r - 1, x)
 }
 
-// Where the table of groups keeps, behind the 512 nodes, 1 + the latest node that began a group and has a label of the same hash as the node x.
+// Where the table of groups keeps, behind the 512 nodes, 1 + the latest node that began a group and whose label ends as that of the node x, by
+// a hash of the last 4 bytes.
 fn latest_at(text: &[u8], nodes: &[usize], x: usize) -> usize
     ensures { λ r. ⌜ 512 ≤ r ⌝ }
 {
-    512 + text::hash(label(text, nodes, x)) % 512
+    let whole = label(text, nodes, x);
+    if whole.len() < 4 {
+        return 512;
+    }
+    let last = text::after(whole, whole.len() - 4);
+    512 + text::hash(last) % 512
 }
 
 // Puts the node x into the group of that latest node, where the two are alike, and else into one of its own.
