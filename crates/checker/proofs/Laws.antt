@@ -2,8 +2,7 @@
 use mathlib.Core.Path.{_≡_, refl, sym, ap, ap₂, _∙_, subst}
 use mathlib.Core.Bool.{Bool, true, false}
 use mathlib.Core.List.{List, []}
-use Prim.Native.Nat.{ℕ, _+_, _-_, _/_, _%_, _≤_, _<_}
-use native.Mathlib.Nat.{zero-add}
+use Prim.Native.Nat.{ℕ, _+_, _-_, _≤_, _<_}
 use native.Mathlib.Numerals.{add-one}
 use native.Mathlib.Omega.{arith}
 use lib.Dec.{eqb, ltb}
@@ -12,7 +11,7 @@ use borrow.Author.Tests.{eq-eqb, eqb-true, le-ltb, lt-ltb, ne-eqb}
 use Rattle.laws.specs.Tests.{_and_, _or_, _⇒_, allPairs, any, choose, every, found, first, has, listed}
 use Rattle.laws.specs.TestLaws.{and-both, and-left, and-right, any-at, any-of, both-ways, every-at, every-of, every-skip, fails, implied, implies, or-left, same-test}
 use Rattle.laws.specs.Chain.{Walk, walk-end, walk-start, walk-step}
-use Rattle.laws.specs.Bits.{bitAt, bitIn}
+use Rattle.laws.specs.Bits.{bitIn}
 use Rattle.rules.specs.Graph.{called, edgeCount, entry, nodeCount, sourceAt, targetAt}
 use Rattle.rules.specs.ProgramFile.{Listing}
 use Rattle.rules.specs.Closing.{Coverage, bothCall, goesOn, meets, sameWord}
@@ -23,7 +22,7 @@ use Rattle.graph.specs.Reads.{upTo}
 use Rattle.graph.proofs.Laws.{before-less}
 use Rattle.pairset.specs.Store.{Has, newAt, oldAt}
 use Rattle.pairset.specs.StoreLaws.{all-pairs, listed-of}
-use Rattle.suite.specs.Rows.{edgeBit, rowCommon}
+use Rattle.suite.specs.Rows.{rowCommon}
 use Rattle.suite.specs.RowLaws.{common-meets}
 use Rattle.versions.specs.Memory.{Memory, memory}
 use Rattle.versions.specs.MemoryLaws.{edges-chained, entry-is, sound, target-is, well-formed}
@@ -32,11 +31,7 @@ use Rattle.versions.specs.Claims.{Alike, Entered, GoesOn, Taken}
 use Rattle.versions.proofs.Laws.{one-taken}
 use Rattle.checker.specs.Rules.{AllKeep, AllKept, Claimed, Covered, EdgeKept, EdgesKept, PairKeeps, Rule1, Rule5, TestKept, edgeAllowed, pairRule}
 
--- ---- `has_bit`, `rule1`
-
-pub bit-is : (sets : List ℕ) (i : ℕ) (r : Bool) → r ≡ edgeBit sets 0 i → r ≡ bitIn sets i
-unfolding edgeBit bitIn
-bit-is sets i r e = e ∙ ap (λ (k : ℕ). bitAt (getD sets k 0) (i % 64)) (zero-add (i / 64))
+-- ---- `rule1`
 
 -- What the table of pairs answers, of the sheet's pairs.
 listed-is : (v v′ : Memory) (w sets : List ℕ) (m : ℕ) (o p : Listing) (s : Sheet) → Claimed v v′ w sets m o p s → (a b : ℕ) (r : Bool) → Has w a b r → r ≡ listed (s .M) a b
@@ -50,8 +45,6 @@ rule1-is ol nl w a b r ea eb h ot nt on nn sets m o p s c =
     ∙ ap₂ (λ (x y : ℕ). listed (s .M) x y)
     (ea ∙ entry-is (memory ot on ol) o (c .old-in) 0 (well-formed (memory ot on ol) o (c .old-in) .begins))
     (eb ∙ entry-is (memory nt nn nl) p (c .new-in) 0 (well-formed (memory nt nn nl) p (c .new-in) .begins))
-
-pub ruleset leaves = (bit-is, rule1-is)
 
 -- ---- `edge_kept`
 

@@ -3,7 +3,6 @@ use answer::Answer;
 ghost use mathlib.Core.Path.{_≡_};
 ghost use Prim.Native.Nat.{_≤_, _<_};
 ghost use lib.ListN.{length};
-ghost use Rattle.laws.specs.Bits.{bitIn};
 ghost use Rattle.versions.specs.Memory.{memory};
 ghost use Rattle.checker.specs.Checking.{Checks};
 ghost use Rattle.checker.specs.Rules.{
@@ -17,13 +16,6 @@ ghost use Rattle.checker.specs.Rules.{
   Rule5,
   TestKept,
 };
-
-// Whether the bit i is set.
-fn has_bit(sets: &[u64], i: usize) -> bool
-    ensures { λ r. ⌜ r ≡ bitIn (now (sets .entry)) i ⌝ }
-{
-    suite::covers(sets, 0, i)
-}
 
 // ---- the rules; the claims are the pairs of w and the bits of `sets`
 
@@ -40,7 +32,7 @@ fn rule1(ol: &[usize], nl: &[usize], w: &[usize]) -> bool
 fn edge_kept(ol: &[usize], nl: &[usize], w: &[usize], sets: &[u64], e: usize, k: usize) -> bool
     ensures { λ r. ⌜ EdgeKept (now (ol .entry)) (now (nl .entry)) (now (w .entry)) (now (sets .entry)) e k r ⌝ }
 {
-    if has_bit(sets, e) {
+    if suite::in_set(sets, e) {
         return true;
     }
     let t = versions::taken(ol, nl, e, k);
@@ -149,7 +141,7 @@ fn test_kept(rows: &[u64], sets: &[u64], i: usize) -> bool
     if first < 1 {
         return true;
     }
-    has_bit(sets, 1024 + i)
+    suite::in_set(sets, 1024 + i)
 }
 
 // Rule 5, for all tests.

@@ -12,6 +12,7 @@ use lib.ListN.{length, getD, take, drop, length-take}
 use lib.Seq.{drop-length}
 use borrow.Author.Tests.{eqb-true, eq-eqb, ne-eqb, le-leb, lt-leb}
 use Rattle.laws.specs.Tests.{_and_, _⇒_, isnt, every, first, count, found}
+use Rattle.laws.specs.Digits.{number}
 use Rattle.laws.specs.TestLaws.{first-least, first-only, first-skip, count-skip, count-more, every-skip, every-at, fails, implied, implies}
 use Rattle.laws.specs.Lists.{choose-yes, choose-no}
 use Rattle.laws.specs.Slices.{below-or, drop-at}
@@ -250,7 +251,7 @@ DashedBelow links n place = Rest links n (λ p. every (edgeCount p) (dashOf p n)
 
 -- A word is `-` where its key is 45.
 dash-key : (w : Bytes) → isWord w ≡ true → same w dash ≡ eqb (wordKey w) 45
-unfolding wordKey isWord between allBytes wordByte isnt _and_
+unfolding number isWord between allBytes wordByte isnt _and_
 dash-key w v = same-keys w dash v refl
 
 module _ (links : List ℕ) (n : ℕ) where
@@ -299,7 +300,7 @@ pub record KeyFrom (s : Bytes) (j k : ℕ) : Type 0 where
   pub small : k < 256 ^ (length s - j)
 
 pub key-start : (s word : Bytes) → s ≡ take 8 word → KeyFrom s (length s) 0
-unfolding wordKey
+unfolding number
 key-start s word e =
     let z : length s - length s ≡ 0 = omega arith in
     record { few = omega (arith, ap length e, length-take 8 word); inside = omega arith; is = sym (ap wordKey (drop-length s)); small = rw z (omega arith) }
@@ -315,7 +316,7 @@ module _ (s : Bytes) (j k : ℕ) (h : KeyFrom s j k) (pos : 0 < j) where
   key-fit d l = omega (arith, seven)
 
   pub key-on : (i d : ℕ) → i ≡ j - 1 → d ≡ getD s i 0 → d < 256 → KeyFrom s i (k * 256 + d)
-  unfolding wordKey
+  unfolding number
   key-on i d ei ed l =
       let m : length s - i ≡ suc (length s - j) = omega (arith, h .inside) in
       let n : i + 1 ≡ j = omega arith in
@@ -323,7 +324,7 @@ module _ (s : Bytes) (j k : ℕ) (h : KeyFrom s j k) (pos : 0 < j) where
       record {
         few = h .few;
         inside = omega (arith, h .inside);
-        is = (let z : k * 256 + d ≡ getD s i 0 + 256 * wordKey (drop j s) = omega (arith, h .is) in z) ∙ sym (ap wordKey t);
+        is = (let z : k * 256 + d ≡ wordKey (drop j s) * 256 + getD s i 0 = omega (arith, h .is) in z) ∙ sym (ap wordKey t);
         small = rw (m, pow-suc 256 (length s - j)) (omega (arith, h .small));
       }
 

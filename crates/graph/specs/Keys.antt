@@ -9,14 +9,14 @@ use lib.Dec.{eqb}
 use lib.ListN.{length, take}
 use lib.Seq.{take-all}
 use borrow.Author.Tests.{eqb-true, eq-eqb, leb-true}
+use Rattle.laws.specs.Digits.{itself, number}
 use Rattle.laws.specs.TestLaws.{and-left, and-right, same-test}
 use Rattle.rules.specs.Text.{Bytes, same, between, allBytes, wordByte, isWord}
 use Rattle.rules.specs.Proofs.TextLaws.{same-true, same-of}
 
 -- Its bytes as digits to the base 256, the first the lowest.
-unfoldable pub wordKey : Bytes → ℕ
-wordKey [] = 0
-wordKey (x ∷ w) = x + 256 * wordKey w
+abbrev pub wordKey : Bytes → ℕ
+wordKey = number 256 itself
 
 -- A byte of a word is a digit, and not 0.
 digit-of : (x : ℕ) → wordByte x ≡ true → (0 < x) × (x < 256)
@@ -27,7 +27,7 @@ digit-of x h =
     (omega arith, omega arith)
 
 spelt : (a b : Bytes) → allBytes wordByte a ≡ true → allBytes wordByte b ≡ true → wordKey a ≡ wordKey b → a ≡ b
-unfolding wordKey allBytes
+unfolding number allBytes
 spelt [] [] p q e = refl
 spelt [] (y ∷ b) p q e = absurd (let z : ⊥ = omega (arith, digit-of y (and-left _ _ q) .0) in z)
 spelt (x ∷ a) [] p q e = absurd (let z : ⊥ = omega (arith, digit-of x (and-left _ _ p) .0) in z)
@@ -52,7 +52,7 @@ unfolding isWord between
 word-short w h = take-all 8 w (leb-true (length w) 8 (and-right _ _ (and-left _ _ h)))
 
 digits-fit : (w : Bytes) → allBytes wordByte w ≡ true → wordKey w < 256 ^ length w
-unfolding wordKey allBytes
+unfolding number allBytes
 digits-fit [] h = omega arith
 digits-fit (x ∷ w) h = rw (pow-suc 256 (length w)) (omega (arith, digit-of x (and-left _ _ h) .1, digits-fit w (and-right _ _ h)))
 

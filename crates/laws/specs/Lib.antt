@@ -1,10 +1,11 @@
--- Definitions and laws that several crates cite: Boolean tests over numbers and lists, and their laws; parts of lists and stores into them; rows in a table; bits of words; chains in a table.
+-- Definitions and laws that several crates cite: Boolean tests over numbers and lists, and their laws; parts of lists and stores into them; rows in a table; digits of numbers; bits of words; chains in a table.
 pub mod Tests
 pub mod TestLaws
 pub mod Lists
 pub mod Counting
 pub mod Slices
 pub mod Tables
+pub mod Digits
 pub mod Bits
 pub mod BitSets
 pub mod Chain

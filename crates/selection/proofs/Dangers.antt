@@ -1,10 +1,10 @@
--- The turns and the returns of the functions that find the edge that fits an old one, the dangerous edges and the tests to repeat.
+-- The turns and the returns of the functions that find the edge that fits an old one, and of the one that copies out the dangerous edges.
 use mathlib.Core.Path.{_≡_, refl, sym, ap, ap₂, _∙_}
 use mathlib.Core.Bool.{Bool, true, false}
 use mathlib.Core.List.{List}
 use Prim.Native.Nat.{ℕ, suc, _+_, _-_, _*_, _/_, _%_, _≤_, _<_}
 use native.Mathlib.Omega.{arith}
-use lib.Dec.{eqb, ltb}
+use lib.Dec.{eqb}
 use lib.ListN.{getD, length, set, drop, length-set}
 use lib.Seq.{drop-set-lt, getD-set-same, getD-set-other}
 use borrow.Author.Tests.{eqb-true, eq-eqb}
@@ -18,15 +18,13 @@ use Rattle.rules.specs.ProgramFile.{Listing}
 use Rattle.graph.specs.Table.{edgeBase}
 use Rattle.pairset.specs.Store.{Has, dangerIn, dangerWord, pairBefore, pairsIn}
 use Rattle.pairset.specs.StoreLaws.{before-le, danger-bit}
-use Rattle.suite.specs.Rows.{rowCommon}
 use Rattle.versions.specs.MemoryLaws.{source-is, target-is, well-formed}
 use Rattle.versions.specs.Found.{found-none, none-found}
 use Rattle.versions.specs.Claims.{GoesOn, Taken}
 use Rattle.versions.proofs.Laws.{one-taken}
 use Rattle.selection.specs.Compared.{Compared, Fitting, ends-pair, partner-below}
-use Rattle.selection.specs.Dangers.{DangersMarked, Marks, Repeats}
+use Rattle.selection.specs.Dangers.{DangersMarked, Marks}
 use Rattle.rules.specs.Proofs.ClosingLaws.{fits-ends, fits-of, fits-word}
-use Rattle.selection.specs.DangerLaws.{row-meets}
 
 -- ---- walks along the pairs of an old node
 
@@ -133,10 +131,4 @@ module _ (w s : List ℕ) where
           size = length-set t k x ∙ inv .size;
         }
 
--- ---- `repeated`
-
-pub repeated-is : (rows : List ℕ) (i : ℕ) (s : List ℕ) (t : ℕ) → t ≡ rowCommon rows i s → Repeats rows i s (ltb 0 t)
-unfolding Repeats
-repeated-is rows i s t e old new coverage few r d = ap (ltb 0) e ∙ row-meets old new s few d rows i coverage r
-
-pub ruleset dangers = (copy-start, copy-short, copy-end, copy-on, repeated-is)
+pub ruleset dangers = (copy-start, copy-short, copy-end, copy-on)

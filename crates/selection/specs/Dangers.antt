@@ -1,15 +1,13 @@
--- What the functions that find dangerous edges and the tests to repeat answer.
+-- What the function that copies out the dangerous edges leaves.
 use mathlib.Core.Path.{_≡_}
-use mathlib.Core.Bool.{Bool}
 use mathlib.Core.List.{List}
 use Prim.Native.Nat.{ℕ, _≤_, _<_}
 use lib.ListN.{drop, length}
 use Rattle.laws.specs.Tests.{has}
 use Rattle.laws.specs.Bits.{bitIn}
-use Rattle.rules.specs.Graph.{Program, edgeCount}
-use Rattle.rules.specs.Closing.{Coverage, dangers, meets}
+use Rattle.rules.specs.Graph.{Program}
+use Rattle.rules.specs.Closing.{dangers}
 use Rattle.pairset.specs.Store.{dangerIn}
-use Rattle.suite.specs.Rows.{Row}
 
 -- The set, 16 words of 64 bits, lowest bit first, has just the dangerous edges.
 pub record DangerSet (old new : Program) (set : List ℕ) : Type 0 where
@@ -23,8 +21,3 @@ pub record DangersMarked (w set set′ : List ℕ) : Type 0 where
   pub marks : Marks w set set′
   pub rest : drop 16 set′ ≡ drop 16 set
   pub size : length set′ ≡ length set
-
--- `repeated`: the coverage in the row of the test i holds a dangerous edge.
-unfoldable pub Repeats : List ℕ → ℕ → List ℕ → Bool → Type 0
-Repeats rows i set r =
-    (old new : Program) (coverage : Coverage) → edgeCount old ≤ 1024 → Row (edgeCount old) rows i coverage → DangerSet old new set → r ≡ meets (dangers old new) coverage

@@ -4,7 +4,7 @@ ghost use Prim.Native.Nat.{_≤_};
 ghost use lib.ListN.{replicate};
 ghost use lib.Seq.{sets};
 ghost use Rattle.selection.specs.Compared.{Fitting};
-ghost use Rattle.selection.specs.Dangers.{DangersMarked, Repeats};
+ghost use Rattle.selection.specs.Dangers.{DangersMarked};
 ghost use Rattle.selection.specs.Marks.{AllCarried, AllRaised, Carried, Joins, MarksFound, Only, differs, eitherOf, markedOne, raised};
 
 // ---- an old edge at a pair
@@ -40,14 +40,6 @@ pub fn mark_dangers(w: &[usize], set: &mut [u64])
         set[k] = pairset::danger_word(w, k) as u64;
         k += 1;
     }
-}
-
-// Whether the test is repeated: its row has an edge of the set of dangerous edges.
-pub fn repeated(rows: &[u64], test: usize, set: &[u64]) -> bool
-    requires { ⌜ test ≤ 200 ⌝ }
-    ensures { λ r. ⌜ Repeats (now (rows .entry)) test (now (set .entry)) r ⌝ }
-{
-    0 < suite::first_common(rows, test, set)
 }
 
 // ---- counterparts

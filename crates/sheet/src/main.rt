@@ -18,10 +18,8 @@ fn print(answer: Answer, out: &[u8]) -> bool {
 
 // Prints the record line of the test i.
 fn record(
-    ot: &[u8],
     on: &[usize],
     ol: &[usize],
-    nt: &[u8],
     nn: &[usize],
     nl: &[usize],
     tt: &[u8],
@@ -36,31 +34,14 @@ fn record(
     requires { ⌜ i ≤ 200 ⌝ }
 {
     let mut out = [0u8; 1045];
-    let answer = work::record_from(
-        ot,
-        on,
-        ol,
-        nt,
-        nn,
-        nl,
-        tt,
-        tests,
-        rows,
-        had,
-        i,
-        w,
-        set,
-        &mut out,
-    );
+    let answer = work::record_from(on, ol, nn, nl, tt, tests, rows, had, i, w, set, &mut out);
     print(answer, &out)
 }
 
 // Prints the record lines of all tests.
 fn records(
-    ot: &[u8],
     on: &[usize],
     ol: &[usize],
-    nt: &[u8],
     nn: &[usize],
     nl: &[usize],
     tt: &[u8],
@@ -74,7 +55,7 @@ fn records(
 {
     let count = had.tests;
     let mut i = 0;
-    while i < count && record(ot, on, ol, nt, nn, nl, tt, tests, rows, had, i, w, set) {
+    while i < count && record(on, ol, nn, nl, tt, tests, rows, had, i, w, set) {
         i += 1;
     }
 }
@@ -120,7 +101,7 @@ fn lines(
         &mut out,
     );
     if print(answer, &out) {
-        records(ot, on, ol, nt, nn, nl, tt, tests, rows, had, &w, &set);
+        records(on, ol, nn, nl, tt, tests, rows, had, &w, &set);
     }
 }
 

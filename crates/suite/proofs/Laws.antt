@@ -8,7 +8,7 @@ use native.Mathlib.Nat.{add-zero}
 use native.Mathlib.Omega.{arith}
 use lib.Bits.{bitAnd, and-le-l}
 use lib.Count.{ones, ones-le, trailingZeros, trailing-le}
-use lib.Dec.{eqb}
+use lib.Dec.{eqb, ltb}
 use lib.ListN.{length, getD, take, drop, set}
 use lib.Seq.{sets, drop-drop, take-nil}
 use Rattle.laws.specs.Tests.{_and_, count, first, found}
@@ -20,7 +20,7 @@ use Rattle.laws.specs.BitSets.{word-bit}
 use Rattle.rules.specs.Text.{Bytes, allBytes}
 use Rattle.rules.specs.SuiteFile.{bitsOf, hexByte, hexValue, odd}
 use Rattle.text.proofs.Laws.{get-out, put-out}
-use Rattle.suite.specs.Rows.{edgeBit, rowCommon, rowOnes, storedRow}
+use Rattle.suite.specs.Rows.{edgeBit, rowCommon, rowMeets, rowOnes, storedRow}
 
 -- ---- `word_at`, `put_word`, `ones_of`, `zeros_below`
 
@@ -188,4 +188,16 @@ common-room k z w h e = omega (arith, trailing-le 64 w)
 pub common-room-one : (k z w : ℕ) → k < 16 → z ≡ trailingZeros 64 w → 64 * k + z + 1 < 2 ^ 64
 common-room-one k z w h e = omega (arith, trailing-le 64 w)
 
-pub ruleset answers = (covers-is, ones-room, ones-on, ones-done, ones-start, common-start, common-found, common-on, common-none, common-room, common-room-one)
+-- ---- `in_set`, `row_meets`
+
+pub set-bit : (set : List ℕ) (e : ℕ) (r : Bool) → r ≡ edgeBit set 0 e → r ≡ bitIn set e
+unfolding edgeBit bitIn
+set-bit set e r p =
+    let q : 16 * 0 + e / 64 ≡ e / 64 = omega arith in
+    p ∙ ap (λ (i : ℕ). bitAt (getD set i 0) (e % 64)) q
+
+pub meets-is : (rows set : List ℕ) (i r : ℕ) → r ≡ rowCommon rows i set → ltb 0 r ≡ rowMeets rows set i
+unfolding rowMeets
+meets-is rows set i r e = ap (ltb 0) e
+
+pub ruleset answers = (set-bit, meets-is, covers-is, ones-room, ones-on, ones-done, ones-start, common-start, common-found, common-on, common-none, common-room, common-room-one)

@@ -1,9 +1,10 @@
 -- How two tables hold a suite: in `tests` two numbers a test, where its name stands in the text and how long it is; in `rows` 16 words of 64 bits a test, its coverage.
 use mathlib.Core.Path.{_≡_}
 use mathlib.Core.Bool.{Bool, false}
-use mathlib.Core.List.{List, [], _∷_}
+use mathlib.Core.List.{List}
 use Prim.Native.Nat.{ℕ, _+_, _*_, _/_, _%_, _≤_, _<_}
 use lib.Bits.{bitAnd}
+use lib.Dec.{ltb}
 use lib.ListN.{length, getD, set}
 use lib.Seq.{sets}
 use Rattle.laws.specs.Tests.{_and_, first, count, found}
@@ -31,14 +32,6 @@ pub record Holds (m : ℕ) (tests rows : List ℕ) (n : ℕ) (l : TestListing) :
 
 -- ---- what the functions leave and answer
 
--- `join`, `eight`: the number with these digits to the base b, the first lowest; f says what number a byte is.
-unfoldable pub number : ℕ → (ℕ → ℕ) → Bytes → ℕ
-number b f [] = 0
-number b f (x ∷ s) = number b f s * b + f x
-
-abbrev pub itself : ℕ → ℕ
-itself x = x
-
 -- `turned`: the four bits of each digit to the base 16 turned round, by those that stand at one place in all of them.
 unfoldable pub turn : ℕ → ℕ
 turn w = bitAnd w 1229782938247303441 * 8 + bitAnd w 2459565876494606882 * 2 + bitAnd w 4919131752989213764 / 2 + bitAnd w 9838263505978427528 / 8
@@ -58,3 +51,7 @@ rowOnes rows i = count 1024 (edgeBit rows i)
 -- `first_common`: 1 + the lowest edge that the row of the test i and the set both have, or 0.
 unfoldable pub rowCommon : List ℕ → ℕ → List ℕ → ℕ
 rowCommon rows i set = found (first 1024 (λ e. edgeBit rows i e and bitIn set e))
+
+-- `row_meets`: the row of the test i has an edge of the set.
+unfoldable pub rowMeets : List ℕ → List ℕ → ℕ → Bool
+rowMeets rows set i = ltb 0 (rowCommon rows i set)

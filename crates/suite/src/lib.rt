@@ -5,13 +5,14 @@ ghost use mathlib.Core.List.{_∷_, []};
 ghost use Prim.Native.Nat.{_+_, _*_, _/_, _%_, _≤_, _<_};
 ghost use lib.Count.{ones as onesOf, trailingZeros};
 ghost use lib.ListN.{drop, getD, length, set as setAt, take};
-ghost use Rattle.laws.specs.Bits.{wordOf};
+ghost use Rattle.laws.specs.Digits.{itself, number};
+ghost use Rattle.laws.specs.Bits.{bitIn, wordOf};
 ghost use Rattle.laws.specs.BitSets.{withBit};
 ghost use Rattle.rules.specs.Text.{allBytes};
 ghost use Rattle.rules.specs.SuiteFile.{bitsOf, hexByte, hexValue, noneSet, rowFine};
 ghost use Rattle.text.specs.Hash.{hashOf};
 ghost use Rattle.suite.specs.Reading.{Added, LinesRead, Stepped, TestsRead, beginsTest, commaIn, nameAt, nameIn, nameMet};
-ghost use Rattle.suite.specs.Rows.{edgeBit, itself, number, rowCommon, rowOnes, storedRow, storedTest, turn};
+ghost use Rattle.suite.specs.Rows.{edgeBit, rowCommon, rowMeets, rowOnes, storedRow, storedTest, turn};
 
 // What was read: a refusal by number and place, where the number is not 0, or how many tests there are.
 pub struct Read {
@@ -433,6 +434,13 @@ pub fn covers(rows: &[u64], test: usize, e: usize) -> bool
     (w >> shift) % 2 == 1
 }
 
+// Whether the set has the bit i.
+pub fn in_set(set: &[u64], i: usize) -> bool
+    ensures { λ r. ⌜ r ≡ bitIn (now (set .entry)) i ⌝ }
+{
+    covers(set, 0, i)
+}
+
 // How many edges the test covers.
 pub fn ones(rows: &[u64], test: usize) -> usize
     requires { ⌜ test ≤ 200 ⌝ }
@@ -462,4 +470,12 @@ pub fn first_common(rows: &[u64], test: usize, set: &[u64]) -> usize
         k += 1;
     }
     0
+}
+
+// Whether the test covers an edge of the set.
+pub fn row_meets(rows: &[u64], test: usize, set: &[u64]) -> bool
+    requires { ⌜ test ≤ 200 ⌝ }
+    ensures { λ r. ⌜ r ≡ rowMeets (now (rows .entry)) (now (set .entry)) test ⌝ }
+{
+    0 < first_common(rows, test, set)
 }

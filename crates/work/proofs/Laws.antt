@@ -17,13 +17,14 @@ use Rattle.rules.specs.Job.{Given, recordBytes, refusal, sheetBytes, writing}
 use Rattle.rules.specs.Proofs.ReadBack.{selected-short}
 use Rattle.answer.specs.declared.Answer.{Answer}
 use Rattle.answer.specs.Outcomes.{Told, refusal-told, told-as}
-use Rattle.versions.specs.Memory.{InMemory, Memory}
+use Rattle.versions.specs.Memory.{InMemory, Memory, memory}
 use Rattle.versions.specs.MemoryLaws.{sound}
 use Rattle.closure.specs.Claims.{Closes, Found, Sized}
-use Rattle.selection.specs.Dangers.{DangersMarked, Marks, Repeats}
+use Rattle.selection.specs.Dangers.{DangersMarked, Marks}
+use Rattle.selection.specs.DangerLaws.{row-meets}
 use Rattle.selection.specs.Marks.{Finds, MarksFound}
 use Rattle.selection.specs.MarkLaws.{marks-front}
-use Rattle.suite.specs.Rows.{Holds}
+use Rattle.suite.specs.Rows.{Holds, rowMeets}
 use Rattle.suite.specs.RowLaws.{suite-read}
 use Rattle.writer.specs.Sheets.{RecordWrites, RecordWritten, SheetWrites, SheetWritten, selection, writing-written}
 use Rattle.writer.specs.Sheets as writer
@@ -135,39 +136,6 @@ module _ (v v′ : Memory) (tt tests rows : List ℕ) (had : Texts) (w : List �
         room = h .size;
       }
 
-  -- ---- `record_from`
-
-  pub record-put : (set marks marks′ : List ℕ) (i : ℕ) (again : Bool) (r : Answer) (out′ : Bytes) → Few had → Repeats rows i set again → length marks ≡ 1024
-      → MarksFound (v .nodes) (v .links) (v′ .nodes) (v′ .links) w rows i (had .«old_edges») (had .«new_edges») again marks marks′ → RecordWritten tt tests rows i marks′ (had .«new_edges») out r out′
-      → Done w w out out′ (RecordFrom v v′ tt tests rows had i w set out r out′)
-  unfolding RecordFrom Repeats Finds RecordWrites recordBytes
-  record-put set marks marks′ i again r out′ few rep long f h =
-      record {
-        claim = λ g c y x m is.
-            let old = y .o .program in
-            let new = y .p .program in
-            let coverage = coverageAt (y .l .suite) i in
-            let below : i < testCount (y .l .suite) = omega (arith, y .tests-in .counted) in
-            let few-old : edgeCount old ≤ 1024 = omega (arith, y .old-edges-n, few .few-old-edges) in
-            let few-new : edgeCount new ≤ 1024 = omega (arith, y .new-edges-n, few .few-new-edges) in
-            let row = y .tests-in .row i below in
-            let meets-is = rep old new coverage few-old row (x .marked m) in
-            let found = f .finds (y .o) (y .p) c coverage (record { old-text = v .text; new-text = v′ .text; old-in = y .old-in; new-in = y .new-in; held = x .held m }) row (y .old-edges-n) (y .new-edges-n) meets-is (omega arith) in
-            let t = h .writes old new (y .l)
-            (record {
-              few = few-old;
-              new-edges = y .new-edges-n;
-              suite-read = y .tests-read;
-              suite-held = subst (λ (n : ℕ). Holds (edgeCount old) tests rows n (y .l)) (y .tests-in .counted) (y .tests-in);
-              is-test = below;
-              marked = ap (λ (n : ℕ). take n marks′) (y .new-edges-n) ∙ marks-front old new coverage marks marks′ (omega arith) found;
-            }) in
-            subst (λ (g : Given). Told (recording g i (length out)) r out out′) (sym (y .given-is))
-            (told-as (recording-yes (giving g y) i (length out) below ∙ writing-written (giving g y) (length out) (recordBytes (giving g y) i) (held-few g y w set c x m)) t);
-        size = refl;
-        room = h .size;
-      }
-
   -- ---- `write_record`
 
   pub record-none : (i : ℕ) → had .tests ≤ i → Done w w out out (RecordDone v v′ tt tests rows had i w out (record { number = 6; place = 0 }) out)
@@ -198,13 +166,49 @@ module _ (v v′ : Memory) (tt tests rows : List ℕ) (had : Texts) (w : List �
       }
 
   pub record-few : (w′ set set′ : List ℕ) (c i : ℕ) → i < had .tests → Selected v v′ w w′ set set′ c → length set ≡ 16 → c ≤ 4096 → (r : Answer) (out′ : Bytes)
-      → Done w′ w′ out out′ (RecordFrom v v′ tt tests rows had i w′ set′ out r out′) → Done w w′ out out′ (RecordDone v v′ tt tests rows had i w out r out′)
+      → Done w′ w′ out out′ (RecordFrom (v .nodes) (v .links) (v′ .nodes) (v′ .links) tt tests rows had i w′ set′ out r out′) → Done w w′ out out′ (RecordDone v v′ tt tests rows had i w out r out′)
   unfolding RecordDone RecordFrom
   record-few w′ set set′ c i below s k m r out′ h =
       record {
-        claim = λ g y l. h .claim g c y (chosen w′ set set′ c s k g y l) m below;
+        claim = λ g y l. h .claim (v .text) (v′ .text) g c y (chosen w′ set set′ c s k g y l) m below;
         size = s .size;
         room = h .room;
       }
+
+-- ---- `record_from`
+
+pub record-put : (on ol nn nl tt tests rows : List ℕ) (had : Texts) (w : List ℕ) (out : Bytes) (set marks marks′ : List ℕ) (i : ℕ) (again : Bool) (r : Answer) (out′ : Bytes)
+    → Few had → again ≡ rowMeets rows set i → length marks ≡ 1024 → MarksFound on ol nn nl w rows i (had .«old_edges») (had .«new_edges») again marks marks′
+    → RecordWritten tt tests rows i marks′ (had .«new_edges») out r out′ → Done w w out out′ (RecordFrom on ol nn nl tt tests rows had i w set out r out′)
+unfolding RecordFrom Finds RecordWrites recordBytes
+record-put on ol nn nl tt tests rows had w out set marks marks′ i again r out′ few rep long f h =
+    record {
+      claim = λ ot nt g c y x m is.
+          let v = memory ot on ol in
+          let v′ = memory nt nn nl in
+          let old = y .o .program in
+          let new = y .p .program in
+          let coverage = coverageAt (y .l .suite) i in
+          let below : i < testCount (y .l .suite) = omega (arith, y .tests-in .counted) in
+          let few-old : edgeCount old ≤ 1024 = omega (arith, y .old-edges-n, few .few-old-edges) in
+          let few-new : edgeCount new ≤ 1024 = omega (arith, y .new-edges-n, few .few-new-edges) in
+          let row = y .tests-in .row i below in
+          let meets-is = rep ∙ row-meets old new set few-old (x .marked m) rows i coverage row in
+          let found = f .finds (y .o) (y .p) c coverage (record { old-text = ot; new-text = nt; old-in = y .old-in; new-in = y .new-in; held = x .held m }) row (y .old-edges-n) (y .new-edges-n) meets-is (omega arith) in
+          let t = h .writes old new (y .l)
+          (record {
+            few = few-old;
+            new-edges = y .new-edges-n;
+            suite-read = y .tests-read;
+            suite-held = subst (λ (n : ℕ). Holds (edgeCount old) tests rows n (y .l)) (y .tests-in .counted) (y .tests-in);
+            is-test = below;
+            marked = ap (λ (n : ℕ). take n marks′) (y .new-edges-n) ∙ marks-front old new coverage marks marks′ (omega arith) found;
+          }) in
+          let job = giving v v′ tt tests rows had w out g y in
+          subst (λ (g : Given). Told (recording g i (length out)) r out out′) (sym (y .given-is))
+          (told-as (recording-yes job i (length out) below ∙ writing-written job (length out) (recordBytes job i) (held-few v v′ tt tests rows had w out g y w set c x m)) t);
+      size = refl;
+      room = h .size;
+    }
 
 pub ruleset all = (select-many, select-few, sheet-many, sheet-few, record-put, record-none, record-many, record-few)

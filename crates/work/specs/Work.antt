@@ -13,7 +13,7 @@ use Rattle.rules.specs.Closing.{pairs}
 use Rattle.rules.specs.Job.{Given, Outcome, recordBytes, refusal, sheetBytes, writing}
 use Rattle.answer.specs.declared.Answer.{Answer}
 use Rattle.answer.specs.Outcomes.{Told}
-use Rattle.versions.specs.Memory.{InMemory, Memory}
+use Rattle.versions.specs.Memory.{InMemory, Memory, memory}
 use Rattle.versions.specs.Held.{PairsHeld}
 use Rattle.selection.specs.Dangers.{DangerSet}
 use Rattle.intake.specs.declared.Texts.{Texts}
@@ -45,9 +45,9 @@ SheetDone v v′ tt tests rows had w out r out′ =
     (g : Given) → Ready v v′ tt tests rows had g → 16912 ≤ length w → Told (writing g (length out) (sheetBytes g)) r out out′
 
 -- `record_from`: the record line of a test, from the pairs and the dangerous edges.
-unfoldable pub RecordFrom : Memory → Memory → Bytes → List ℕ → List ℕ → Texts → ℕ → List ℕ → List ℕ → Bytes → Answer → Bytes → Type 0
-RecordFrom v v′ tt tests rows had i w set out r out′ =
-    (g : Given) (c : ℕ) (y : Ready v v′ tt tests rows had g) → Chosen (y .o .program) (y .p .program) w set c → c ≤ maxPairs → i < had .tests → Told (recording g i (length out)) r out out′
+unfoldable pub RecordFrom : List ℕ → List ℕ → List ℕ → List ℕ → Bytes → List ℕ → List ℕ → Texts → ℕ → List ℕ → List ℕ → Bytes → Answer → Bytes → Type 0
+RecordFrom on ol nn nl tt tests rows had i w set out r out′ =
+    (ot nt : Bytes) (g : Given) (c : ℕ) (y : Ready (memory ot on ol) (memory nt nn nl) tt tests rows had g) → Chosen (y .o .program) (y .p .program) w set c → c ≤ maxPairs → i < had .tests → Told (recording g i (length out)) r out out′
 
 -- `write_record`: the record line of a test, 6, 15 or 16.
 unfoldable pub RecordDone : Memory → Memory → Bytes → List ℕ → List ℕ → Texts → ℕ → List ℕ → Bytes → Answer → Bytes → Type 0

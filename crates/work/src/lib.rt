@@ -63,10 +63,8 @@ pub fn write_sheet(
 
 // Writes the record line of a test, from the pairs and the dangerous edges.
 pub fn record_from(
-    ot: &[u8],
     on: &[usize],
     ol: &[usize],
-    nt: &[u8],
     nn: &[usize],
     nl: &[usize],
     tt: &[u8],
@@ -80,12 +78,12 @@ pub fn record_from(
 ) -> Answer
     requires { ⌜ Few had ⌝ }
     requires { ⌜ i ≤ 200 ⌝ }
-    ensures { λ r. ⌜ Done (now (w .entry)) (now (w .entry)) (now (out .entry)) (now (out .exit)) (RecordFrom (memory (now (ot .entry)) (now (on .entry)) (now (ol .entry))) (memory (now (nt .entry)) (now (nn .entry)) (now (nl .entry))) (now (tt .entry)) (now (tests .entry)) (now (rows .entry)) had i (now (w .entry)) (now (set .entry)) (now (out .entry)) r (now (out .exit))) ⌝ }
+    ensures { λ r. ⌜ Done (now (w .entry)) (now (w .entry)) (now (out .entry)) (now (out .exit)) (RecordFrom (now (on .entry)) (now (ol .entry)) (now (nn .entry)) (now (nl .entry)) (now (tt .entry)) (now (tests .entry)) (now (rows .entry)) had i (now (w .entry)) (now (set .entry)) (now (out .entry)) r (now (out .exit))) ⌝ }
 {
     let mut marks = [0u8; 1024];
     let olds = had.old_edges;
     let news = had.new_edges;
-    let again = selection::repeated(rows, i, set);
+    let again = suite::row_meets(rows, i, set);
     selection::find_marks(on, ol, nn, nl, w, rows, i, olds, news, again, &mut marks);
     writer::write_record(tt, tests, rows, i, &marks, news, out)
 }
@@ -124,20 +122,5 @@ pub fn write_record(
             place: 0,
         };
     }
-    record_from(
-        ot,
-        on,
-        ol,
-        nt,
-        nn,
-        nl,
-        tt,
-        tests,
-        rows,
-        had,
-        i,
-        w,
-        &set,
-        out,
-    )
+    record_from(on, ol, nn, nl, tt, tests, rows, had, i, w, &set, out)
 }

@@ -2,21 +2,20 @@
 use mathlib.Core.Path.{_≡_, refl, sym, ap, _∙_}
 use mathlib.Core.Bool.{Bool, true, false}
 use mathlib.Core.List.{List, [], _∷_, _++_, map, map-append}
-use Prim.Native.Nat.{ℕ, suc, _+_, _*_, _/_, _%_, _^_, _≤_, _<_}
+use Prim.Native.Nat.{ℕ, suc, _+_, _*_, _^_, _≤_, _<_}
 use native.Mathlib.Numerals.{add-one}
 use native.Mathlib.Omega.{arith}
-use lib.Dec.{ltb}
-use lib.ListN.{length, getD, take, length-take}
+use lib.ListN.{length, take, length-take}
 use Rattle.laws.specs.Tests.{count, those}
 use Rattle.laws.specs.TestLaws.{count-skip, count-more}
-use Rattle.laws.specs.Bits.{bitAt, bitIn}
+use Rattle.laws.specs.Bits.{bitIn}
 use Rattle.rules.specs.Text.{Bytes, textOf}
 use Rattle.rules.specs.Sheet.{dLine, rLine}
-use Rattle.suite.specs.Rows.{edgeBit, rowCommon}
+use Rattle.suite.specs.Rows.{rowMeets}
 use Rattle.suite.specs.Reading.{nameAt}
 use Rattle.writer.specs.Writes.{Writes, writes-none, writes-then}
 use Rattle.writer.specs.Laws.{text-append, those-more, those-skip}
-use Rattle.writer.specs.Texts.{dangerText, rowMeets, shortName, repeatText}
+use Rattle.writer.specs.Texts.{dangerText, shortName, repeatText}
 
 -- ---- the lines of the numbers below n that pass, one more
 
@@ -49,12 +48,6 @@ count-start g = refl
 
 -- ---- edges
 
-pub set-bit : (set : List ℕ) (e : ℕ) (r : Bool) → r ≡ edgeBit set 0 e → r ≡ bitIn set e
-unfolding edgeBit bitIn
-set-bit set e r p =
-    let q : 16 * 0 + e / 64 ≡ e / 64 = omega arith in
-    p ∙ ap (λ (i : ℕ). bitAt (getD set i 0) (e % 64)) q
-
 module _ (set : List ℕ) (e : ℕ) (t : Bool) (is : t ≡ bitIn set e) {o o₁ : List ℕ} {at k : ℕ} (inv : Writes o at (dangerText set e) (23 * e) k o₁) where
   pub dangers-on : {o₂ : List ℕ} {r : ℕ} → t ≡ true → Writes o₁ k (textOf (dLine e ∷ [])) 23 r o₂ → Writes o at (dangerText set (e + 1)) (23 * (e + 1)) r o₂
   unfolding dangerText
@@ -76,13 +69,9 @@ pub dangers-done : (set : List ℕ) (e edges : ℕ) {o o₁ : List ℕ} {at k : 
     → Writes o at (dangerText set edges) (23 * edges) k o₁
 dangers-done set e edges p h l = let q : e ≡ edges = omega arith in rw q at p
 
-pub ruleset edges = (set-bit, dangers-on, dangers-skip, dangers-none, dangers-room, dangers-done)
+pub ruleset edges = (dangers-on, dangers-skip, dangers-none, dangers-room, dangers-done)
 
 -- ---- tests
-
-pub meets-is : (rows set : List ℕ) (i r : ℕ) → r ≡ rowCommon rows i set → ltb 0 r ≡ rowMeets rows set i
-unfolding rowMeets
-meets-is rows set i r e = ap (ltb 0) e
 
 pub name-is : (text tests s r : List ℕ) (i : ℕ) → s ≡ nameAt text tests i → r ≡ take 12 s → r ≡ shortName text tests i
 unfolding shortName
@@ -117,6 +106,6 @@ repeats-done text tests rows set i n p h l = let q : i ≡ n = omega arith in rw
 pub count-done : (g : ℕ → Bool) (i n k : ℕ) → k ≡ count i g → i ≤ n → n ≤ i → k ≡ count n g
 count-done g i n k e h l = let q : i ≡ n = omega arith in rw q at e
 
-pub ruleset tests = (meets-is, name-is, name-short, repeats-on, repeats-skip, repeats-none, repeats-room, repeats-done)
+pub ruleset tests = (name-is, name-short, repeats-on, repeats-skip, repeats-none, repeats-room, repeats-done)
 
 pub ruleset counts = (count-on, count-pass, count-start, count-done)

@@ -23,12 +23,12 @@ use Rattle.answer.specs.Outcomes.{Told, refusal-told, told-as}
 use Rattle.text.specs.Puts.{Puts, puts-front, puts-length, puts-measure, puts-then}
 use Rattle.pairset.specs.Store.{newAt, oldAt, pairsIn}
 use Rattle.pairset.specs.StoreLaws.{listed-of}
-use Rattle.suite.specs.Rows.{Holds, rowOnes}
+use Rattle.suite.specs.Rows.{Holds, rowMeets, rowOnes}
 use Rattle.suite.specs.RowLaws.{common-meets, name-read, ones-are, suite-read}
 use Rattle.versions.specs.Held.{PairsHeld}
 use Rattle.writer.specs.Laws.{asc-same, text-append, text-more, those-map, those-self}
 use Rattle.writer.specs.Writes.{Writes, writes-length}
-use Rattle.writer.specs.Texts.{dangerText, pairText, repeatText, rowMeets, shortName, tableText}
+use Rattle.writer.specs.Texts.{dangerText, pairText, repeatText, shortName, tableText}
 use Rattle.writer.specs.Claims.{NewBelow, Pairs, PairsPut}
 use Rattle.writer.specs.Sheets.{Marked, RecordWrites, RecordWritten, Selection, Selects, SheetPut, SheetPuts, SheetWrites, SheetWritten, recordLine, recordOf, sheetOf, written}
 

@@ -1,15 +1,13 @@
 -- What is written of a table of pairs, of a set of edges and of the tables of the tests.
-use mathlib.Core.Bool.{Bool}
 use mathlib.Core.List.{List, map}
 use Prim.Native.Nat.{ℕ}
-use lib.Dec.{ltb}
 use lib.ListN.{take}
 use Rattle.laws.specs.Tests.{grid, gridRow, listed, pick, those}
 use Rattle.laws.specs.Bits.{bitIn}
 use Rattle.rules.specs.Text.{Bytes, textOf}
 use Rattle.rules.specs.Sheet.{dLine, mLine, rLine}
 use Rattle.pairset.specs.Store.{pairsIn}
-use Rattle.suite.specs.Rows.{rowCommon}
+use Rattle.suite.specs.Rows.{rowMeets}
 use Rattle.suite.specs.Reading.{nameAt}
 
 -- The M lines of pairs.
@@ -26,10 +24,6 @@ tableText w c a n = pairText (pick (listed (pairsIn w c)) (grid a n))
 -- The D lines of the edges below n that the set has.
 unfoldable pub dangerText : List ℕ → ℕ → Bytes
 dangerText set n = textOf (map dLine (those n (bitIn set)))
-
--- The row of the test i has an edge of the set.
-unfoldable pub rowMeets : List ℕ → List ℕ → ℕ → Bool
-rowMeets rows set i = ltb 0 (rowCommon rows i set)
 
 -- The name that the tables give for the test i, cut to the 12 bytes that a name has at most.
 unfoldable pub shortName : Bytes → List ℕ → ℕ → Bytes

@@ -9,9 +9,10 @@ ghost use Rattle.laws.specs.Bits.{bitIn};
 ghost use Rattle.laws.specs.Tests.{count as countOf};
 ghost use Rattle.rules.specs.Text.{decimal, textOf};
 ghost use Rattle.rules.specs.Sheet.{dLine, endLine, headLine, mLine, rLine, vLine};
+ghost use Rattle.suite.specs.Rows.{rowMeets};
 ghost use Rattle.writer.specs.Claims.{PairsPut, PartnersPut};
 ghost use Rattle.writer.specs.Sheets.{RecordWritten, SheetPut, SheetWritten, selection};
-ghost use Rattle.writer.specs.Texts.{dangerText, repeatText, rowMeets, shortName};
+ghost use Rattle.writer.specs.Texts.{dangerText, repeatText, shortName};
 ghost use Rattle.writer.specs.Writes.{Writes};
 
 // ---- lines
@@ -137,13 +138,6 @@ fn put_pairs(out: &mut [u8], at: usize, w: &[usize], olds: usize, news: usize) -
 
 // ---- dangerous edges
 
-// Whether the set has the edge e.
-fn in_set(set: &[u64], e: usize) -> bool
-    ensures { λ r. ⌜ r ≡ bitIn (now (set .entry)) e ⌝ }
-{
-    suite::covers(set, 0, e)
-}
-
 // How many of the edges the set has.
 fn count_dangers(set: &[u64], edges: usize) -> usize
     requires { ⌜ edges ≤ 1024 ⌝ }
@@ -152,7 +146,7 @@ fn count_dangers(set: &[u64], edges: usize) -> usize
     let mut sum = 0;
     let mut e = 0;
     while e < edges {
-        if in_set(set, e) {
+        if suite::in_set(set, e) {
             sum += 1;
             e += 1;
         } else {
@@ -170,7 +164,7 @@ fn put_dangers(out: &mut [u8], at: usize, set: &[u64], edges: usize) -> usize
     let mut k = at;
     let mut e = 0;
     while e < edges {
-        if in_set(set, e) {
+        if suite::in_set(set, e) {
             k = put_danger(out, k, e);
             e += 1;
         } else {
@@ -181,14 +175,6 @@ fn put_dangers(out: &mut [u8], at: usize, set: &[u64], edges: usize) -> usize
 }
 
 // ---- tests to repeat
-
-// Whether the row of the test i has an edge of the set.
-fn row_meets(rows: &[u64], i: usize, set: &[u64]) -> bool
-    requires { ⌜ i ≤ 200 ⌝ }
-    ensures { λ r. ⌜ r ≡ rowMeets (now (rows .entry)) (now (set .entry)) i ⌝ }
-{
-    0 < suite::first_common(rows, i, set)
-}
 
 // The name of the test i: at most 12 bytes, whatever the table says.
 fn test_name<'a>(text: &'a [u8], tests: &[usize], i: usize) -> &'a [u8]
@@ -206,7 +192,7 @@ fn count_repeats(rows: &[u64], count: usize, set: &[u64]) -> usize
     let mut n = 0;
     let mut i = 0;
     while i < count {
-        if row_meets(rows, i, set) {
+        if suite::row_meets(rows, i, set) {
             n += 1;
             i += 1;
         } else {
@@ -232,7 +218,7 @@ fn put_repeats(
     let mut k = at;
     let mut i = 0;
     while i < count {
-        if row_meets(rows, i, set) {
+        if suite::row_meets(rows, i, set) {
             k = put_repeat(out, k, test_name(text, tests, i));
             i += 1;
         } else {

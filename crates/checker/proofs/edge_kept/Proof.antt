@@ -3,8 +3,8 @@ use Rattle.checker.proofs.All.{all}
 use Rattle.checker.proofs.edge_kept.Statement.{statement}
 use Rattle.checker.proofs.edge_kept.Tie as tie
 
-has-bit-requires : tie.Need-has-bit-requires
-has-bit-requires c κs = search needs
+in-set-requires : tie.Need-in-set-requires
+in-set-requires c κs = search needs
 
 returns : tie.Need-returns
 returns c = search (all, needs)
@@ -31,7 +31,7 @@ pub edge-kept-spec : {M : Type 1} → statement M
 edge-kept-spec =
     tie.close
     (tie.spec
-    has-bit-requires
+    in-set-requires
     returns
     taken-requires
     returns-2

@@ -9,15 +9,15 @@ first-common-requires c κs = search needs
 returns : tie.Need-returns
 returns c = search (all, needs)
 
-add-has-bit : tie.Need-add-has-bit
-add-has-bit c = search needs
+add-in-set : tie.Need-add-in-set
+add-in-set c = search needs
 
-has-bit-requires : tie.Need-has-bit-requires
-has-bit-requires c κs = search needs
+in-set-requires : tie.Need-in-set-requires
+in-set-requires c κs = search needs
 
 returns-2 : tie.Need-returns-2
 returns-2 c = search (all, needs)
 
 pub test-kept-spec : {M : Type 1} → statement M
 test-kept-spec =
-    tie.close (tie.spec first-common-requires returns add-has-bit has-bit-requires returns-2)
+    tie.close (tie.spec first-common-requires returns add-in-set in-set-requires returns-2)

@@ -4,10 +4,10 @@ use Rattle.sheet.proofs.records.Statement.{statement}
 use Rattle.sheet.proofs.records.Tie as tie
 
 abbrev Inv-loop : tie.InvT-loop
-Inv-loop ot on ol nt nn nl tt tests rows had w set count i₀ i = Unit {0}
+Inv-loop on ol nn nl tt tests rows had w set count i₀ i = Unit {0}
 
 abbrev μ-loop : tie.MeasureT-loop
-μ-loop ot on ol nt nn nl tt tests rows had w set count i₀ i = count - i
+μ-loop on ol nn nl tt tests rows had w set count i₀ i = count - i
 
 loop-holds : tie.Need-loop-holds Inv-loop μ-loop
 loop-holds c = search needs

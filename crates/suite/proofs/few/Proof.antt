@@ -4,7 +4,7 @@ use Prim.Native.Nat.{_≤_}
 use mathlib.Core.Path.{_≡_}
 use lib.ListN.{length, drop}
 use Rattle.rules.specs.SuiteFile.{hexValue}
-use Rattle.suite.specs.Rows.{number}
+use Rattle.laws.specs.Digits.{number}
 use Rattle.suite.proofs.few.Statement.{statement}
 use Rattle.suite.proofs.few.Tie as tie
 

@@ -3,8 +3,8 @@ use Rattle.work.proofs.Laws.{record-put}
 use Rattle.work.proofs.record_from.Statement.{statement}
 use Rattle.work.proofs.record_from.Tie as tie
 
-repeated-requires : tie.Need-repeated-requires
-repeated-requires c κs = search needs
+row-meets-requires : tie.Need-row-meets-requires
+row-meets-requires c κs = search needs
 
 slice-aggregate-find-marks : tie.Need-slice-aggregate-find-marks
 slice-aggregate-find-marks c = search needs
@@ -23,14 +23,14 @@ same-length c = search needs
 
 returns : tie.Need-returns
 returns c =
-    record-put _ _ _ _ _ _ _ _ _ _ _ _ _ _ _ (c .before .before .before .before .before .before .before .before .before .before .before .before .before .before .before .before .before .before .before .before .before .pre .0) (c .before .before .before .before .before .before .before .before .repeated .ensures) (search needs) (c .before .before .before .before .before .before .find-marks .ensures)
+    record-put _ _ _ _ _ _ _ _ _ _ _ _ _ _ _ _ _ (c .before .before .before .before .before .before .before .before .before .before .before .before .before .before .before .before .before .before .before .pre .0) (c .before .before .before .before .before .before .before .before .row-meets .ensures) (search needs) (c .before .before .before .before .before .before .find-marks .ensures)
     (c .before .before .write-record .ensures)
 
 pub record-from-spec : {M : Type 1} → statement M
 record-from-spec =
     tie.close
     (tie.spec
-    repeated-requires
+    row-meets-requires
     slice-aggregate-find-marks
     find-marks-requires
     slice-aggregate-write-record

@@ -1,7 +1,7 @@
 use borrow.Author.Needs.{needs}
-use Rattle.writer.proofs.All.{all}
-use Rattle.writer.proofs.row_meets.Statement.{statement}
-use Rattle.writer.proofs.row_meets.Tie as tie
+use Rattle.suite.proofs.All.{all}
+use Rattle.suite.proofs.row_meets.Statement.{statement}
+use Rattle.suite.proofs.row_meets.Tie as tie
 
 first-common-requires : tie.Need-first-common-requires
 first-common-requires c κs = search needs
