@@ -33,7 +33,8 @@
  * Order
  *   A call reads its texts to their ends in the order old, new, tests, sheet;
  *   the first refusal is the answer. Then, as far as the call gives them,
- *   RY_NOT_NAMED for the test's number, RY_TOO_MANY_PAIRS, RY_OUTPUT_SHORT.
+ *   RY_CLAIM_FALSE, RY_NOT_NAMED for the test's number, RY_TOO_MANY_PAIRS,
+ *   RY_OUTPUT_SHORT.
  *   A text is judged line by line, so its first offending line is named.
  */
 #ifndef RIVETYELLOW_H

@@ -4,7 +4,7 @@
 Writes crates/job_run/data/steps, whose form crates/job_run/src/main.rt describes, and crates/job_run/stdout, in the repository that holds this
 script. Nothing here is taken from what the program prints. Each answer is stated below by hand, beside the rule of the requirements that
 gives it (their section "The job"); sheets and record lines are those that the requirements give for P2, P7 and P8; the tables are worked out
-by hand by the layout in docs/MEMORY.md. docs/JOB_RUN.md says the same in words.
+by `tables`, by the layout in docs/MEMORY.md. docs/JOB_RUN.md says the same in words.
 """
 import os
 import re
@@ -36,7 +36,6 @@ ROOMS = {'old nodes': 512, 'new nodes': 512, 'old links': 6080, 'new links': 608
 READS = ['old', 'new', 'tests']
 CALLS_OF_3 = ['sheet', 'record,0', 'check', 'label,0,1', 'shown,0,1']
 EVERY = READS + CALLS_OF_3
-JOB = ['stage', 'old procedures', 'old nodes', 'old edges', 'new procedures', 'new nodes', 'new edges', 'tests']
 
 steps, lines = [], []
 
@@ -95,7 +94,7 @@ def written(words, what):
     call(words, 0, len(what), 3, written=what)
 
 
-def answers_of_3(sheet, record, label, own=None):
+def answers_of_3(sheet, record, label):
     """The calls of stage 3 on a job that is as it should be: the sheet and the record line are written, the sheet passes, the label of the old
     node 1 is shown."""
     written('sheet', sheet)

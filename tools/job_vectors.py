@@ -1,7 +1,7 @@
 #!/usr/bin/env python3
 """job_vectors.py SOURCE_DIR: writes the cases of the program job_vectors, and the lines that it must print.
 
-SOURCE_DIR is that of reader_vectors.py, with two things more: the file `sheet` of each folder, a sheet to be checked, and the file `answers`,
+SOURCE_DIR is that of read_vectors.py, with two things more: the file `sheet` of each folder, a sheet to be checked, and the file `answers`,
 with the line NAME NUMBER PLACE for each folder: what another implementation's check answered for that sheet. `out` and `answers` are all
 that the lines expected are made of.
 
@@ -14,7 +14,7 @@ that holds this script.
 import os
 import sys
 
-from reader_vectors import LONGEST, REPOSITORY, folders, text_of
+from read_vectors import LONGEST, REPOSITORY, folders, text_of
 
 UP = text_of('P,up', 'N,E,,', 'N,X,,', 'B,0,-,1')
 STEPS = ['P,up', 'N,E,,', 'N,S,read layer,', 'N,S,set speed,', 'N,S,hold,', 'N,X,,']

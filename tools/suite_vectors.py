@@ -1,8 +1,8 @@
 #!/usr/bin/env python3
 """suite_vectors.py SOURCE_DIR: writes the cases of the program suite_vectors, and the lines that it must print.
 
-SOURCE_DIR is that of reader_vectors.py. A case is the number of edges of the old program and a test file (a lift file). It is taken from a
-folder where, as reader_vectors.py decides, both program files are read. The line expected is NAME,NUMBER,PLACE where the test file is refused,
+SOURCE_DIR is that of read_vectors.py. A case is the number of edges of the old program and a test file (a lift file). It is taken from a
+folder where, as read_vectors.py decides, both program files are read. The line expected is NAME,NUMBER,PLACE where the test file is refused,
 else NAME,read,COUNT and after it, for each test in order, how many edges it covers:
 
 - No refusal in `out`: the file is read. A test covers as many edges as the V line of its name says; there must be one V line for each T line.
@@ -22,7 +22,7 @@ import os
 import re
 import sys
 
-from reader_vectors import LONGEST, REPOSITORY, T_LINE, answer_of, folders, lift_faults, split, text_of
+from read_vectors import LONGEST, REPOSITORY, T_LINE, answer_of, folders, lift_faults, split, text_of
 
 DIGITS = re.compile(rb'[0-9a-f]*')
 

@@ -1,11 +1,11 @@
 #!/usr/bin/env python3
 # walk.py CRATE FN [--print]: writes crates/CRATE/proofs/FN/Proof.antt, the proof of a call that takes records behind references: a walk of straight-line code (no
-# branch, no loop) over `&mut S`, `&[T]`, `&mut [T]`, records by value and numbers, which copies a record out, calls functions, stores a record, makes a struct, returns; and over locals
+# branch, no loop) over `&mut S`, `&[T]`, `&mut [T]`, records by value and numbers, which copies a record out, calls functions that have no `requires`, stores a record, makes a struct, returns; and over locals
 # that are lent: a record as `&mut S`, the first elements of an array `[S; N]` of records as `&mut [S]` or `&[S]`. Run `rt fmt` after it.
 # tools/walks/CRATE-FN.py is a Python file with:  COMMENT (lines for the top), FINAL (a term for what the `ensures` says), USES (lines `use ..` that FINAL and the callees' clauses need),
-# and optionally RENAME = { 'parameter': 'variable' } (a parameter `tt` is called `tt-text`, since `tt` is taken), BIG, REQUIRES = { 'callee': 'a term of ent (emp) (requires)' }, and NEEDS = { 'parameter': N }, where the function requires `parameter ≤ N` of these, in order.
+# and optionally NEEDS = { 'parameter': N }, where the function requires `parameter ≤ N` of these, in order.
 # With no FINAL the function has no `ensures`, and what the callees ensure is let go.
-# Names in FINAL: a parameter's name (`_` becomes `-`) is its list, number or record at entry; of call K (from 1): rK its result, eK what it ensures,
+# Names in FINAL: a parameter's name (`_` becomes `-`) is its list, number or record at entry (`tt` is called `tt-text`, since `tt` is taken); of call K (from 1): rK its result, eK what it ensures,
 # NAMEK the list that it left of the `&mut` slice NAME, sameK-NAME that this is as long as before, fieldsK the bounds of a struct result.
 import re, sys, os, subprocess
 root = os.getcwd()
@@ -42,7 +42,7 @@ def func(c, f):
     head = s[j:s.index('\n{', j)]
     r = re.match(r'\s*->\s*([^\n]+)', head)
     ens = re.findall(r'ensures \{ λ (\S+)\. ⌜ (.*?) ⌝ \}', head, re.S)
-    return dict(crate=c, name=f, params=[(ascii_(p.split(':')[0].strip()), ty(p.split(':')[1])) for p in ps], life=lifetimes([p.split(':')[1].strip() for p in ps]), ret=r[1].strip() if r else '()', ens=ens, req='requires' in head)
+    return dict(crate=c, name=f, params=[(ascii_(p.split(':')[0].strip()), ty(p.split(':')[1])) for p in ps], life=lifetimes([p.split(':')[1].strip() for p in ps]), ret=r[1].strip() if r else '()', ens=ens)
 structs = {}
 for c, s in src.items():
     for m in re.finditer(r'pub struct (\w+)(?:<[^>]*>)? \{(.*?)\n\}', s, re.S):
@@ -88,7 +88,7 @@ while isinstance(b, list) and b[0] == 'seq': body.append(b[1]); b = b[2]
 body.append(b)
 def place(p): return (int(p[1]), [('f', int(s[1])) if s[0] == 'field' else ('*',) for s in lst(p[2])])
 lty = lambda k: locs[k][1]
-me = func(crate, fn); params = [(C.get('RENAME', {}).get(p, {'tt': 'tt-text', 'f': 'f-of', 'code': 'code-of', 'run': 'run-of', 'mem': 'mem-of', 'row': 'row-of'}.get(p, p)), t) for p, t in me['params']]
+me = func(crate, fn); params = [({'tt': 'tt-text', 'f': 'f-of', 'code': 'code-of', 'run': 'run-of', 'mem': 'mem-of', 'row': 'row-of'}.get(p, p), t) for p, t in me['params']]
 refs = [i for i, (p, t) in enumerate(params) if t[0] in ('ref', 'shr', 'mut')]
 life = {i: me['life'][i] for i in refs}               # parameter -> its lifetime's number
 lifes = sorted(set(life.values())); P = {p: i for i, (p, t) in enumerate(params)}
@@ -130,7 +130,7 @@ def operand(x):
         k, st = place(x[1])
         if not st: return f'load ! (from ! (stop !)) (look ! {at(L(k))} refl)'
         return f'load ! (from ! (fld ! refl (stop !))) (look-in ! {at(L(k))} (sub ! {st[0][1]} refl (whole !)))'
-    if x[0] == 'int' and int(x[2]) < C.get('BIG', 1024): return 'lit ! tt'
+    if x[0] == 'int' and int(x[2]) < 1024: return 'lit ! tt'
     return 'big-lit ! (record { fits = lit< tt })'
 def meaning(x):     # (kind, denotation, machine value, proof)
     if x[0] in ('int', 'intBig'): return ('num', x[2], f'vint w64 {x[2]}', 'lit< tt')
@@ -144,7 +144,6 @@ def meaning(x):     # (kind, denotation, machine value, proof)
 job = [i for i, (p, t) in enumerate(params) if t[0] == 'ref']; job = job[0] if job else None
 cur = {i: p for i, (p, t) in enumerate(params)}; length_ = {i: 'refl' for i in P.values()}; state = {i: 'owned' for i in P.values()}
 jobnow = params[job][0] if job is not None else None; jobis = 'was'; written = False
-calls_of = {i: [] for i in P.values()}
 def base(k):        # the parameter that a local slice is of
     return value[k][1] if k in value and value[k][0] == 'slice' else None
 
@@ -175,7 +174,7 @@ def enter():
         move('jown'); w(f'peeks ! {row(T)} (Is {row(T)}) (shows 𝓤 H A {row(T)}) {j} ({val(T, j)} ∷ []) {lam("was")}')
         move('cell', 'jown')
 
-def assign(s, later):
+def assign(s):
     global jobnow, jobis, written
     k, st = place(s[1]); r = s[2]
     dst = '(from ! (stop !))'
@@ -235,8 +234,6 @@ def call(s, rest):
     G = 'g' + sub(callees.index(g) + 1)
     later = set()
     for t in rest:
-        if t[0] == 'call':
-            for x in lst(t[2]): pass
         if t[0] == 'assign' and t[2][0] == 'addrOf': later.add(place(t[2][1])[0] - 1)
         if t[0] == 'call':
             for x in lst(t[2]):
@@ -299,8 +296,7 @@ def call(s, rest):
     T_ = [T_[z] for z in sorted(T_)]; toks = [z[2] for z in T_]; move(*toks, *pre)
     ap_ = ' '.join([f'to-{K}'] + [a for a, _ in names]); ap_ = f'({ap_})' if names else ap_
     chosen.append((K, G, names, nest([z[0] for z in T_]), nest([z[1] for z in T_]), nest(A_), nest(V_)))
-    req = C.get('REQUIRES', {}).get(f, 'id⊢ 𝓤 (emp 𝓤)')
-    w(f'asks W {G}.ended ({G}.clauses 𝓤 H A mem run) {ap_} ({req}) $')
+    w(f'asks W {G}.ended ({G}.clauses 𝓤 H A mem run) {ap_} (id⊢ 𝓤 (emp 𝓤)) $')
     ctx = ['pre'] + ctx[len(toks) + len(pre):]
     ops = ''.join(f'(and-then ! ({operand(x)}) ' for x in args) + '(no-more !)' + ')' * len(args)
     w(f'answers ! fm {G}.ended ({G}.clauses 𝓤 H A mem run) known{sub(callees.index(g) + 1)} {ap_} {ops} {lam(f"w{K} r{K} zs{K}")}')
@@ -373,7 +369,7 @@ machs = ' ∷ '.join(f'vptr {bb(i)} {oo(i)}' if t[0] == 'ref' else (f'vint w64 {
 enter()
 for a, s in enumerate(body):
     if s == 'return' or s[0] == 'return': break
-    if s[0] == 'assign': assign(s, body[a+1:])
+    if s[0] == 'assign': assign(s)
     elif s[0] == 'call': call(s, body[a+1:])
     else: raise SystemExit(f'not straight-line code: {s[0]}')
 if job is not None:

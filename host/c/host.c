@@ -5,7 +5,8 @@
  *     host check OLD NEW TESTS SHEET    says whether the sheet passes
  *
  * A refusal is printed in words. Exit status: 0 done or passed, 1 refused,
- * 2 a wrong argument or a file that cannot be read.
+ * 2 a wrong argument, a file that cannot be read, or an output that cannot be
+ * written.
  *
  * Build: cc -std=c99 -Wall -Wextra -I../../include host.c -L DIR -lrivetyellow
  */
@@ -174,7 +175,7 @@ static int print_sheet(const struct text *t)
     if (ry_number(answer) != RY_DONE)
         return refused(t, answer);
     if (fwrite(out, 1, ry_place(answer), stdout) != ry_place(answer))
-        return unwritten();
+        return 2;
     for (test = 0;; test++) {
         answer = ry_record(t[OLD].bytes, t[OLD].length, t[NEW].bytes, t[NEW].length,
                            t[TESTS].bytes, t[TESTS].length, test, out, RY_RECORD_ROOM);
@@ -184,7 +185,7 @@ static int print_sheet(const struct text *t)
         if (ry_number(answer) != RY_DONE)
             return refused(t, answer);
         if (fwrite(out, 1, ry_place(answer), stdout) != ry_place(answer))
-            return unwritten();
+            return 2;
     }
 }
 

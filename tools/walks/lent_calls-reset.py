@@ -1,1 +1,1 @@
-COMMENT = '''`reset` is safe and ends: a walk of its code, by hand. The local job is lent to the call and comes back.'''
+COMMENT = '''`reset` is safe and ends: a walk of its code, written by tools/walk.py. The local job is lent to the call and comes back.'''

@@ -5,9 +5,9 @@ use mathlib.Core.List.{List, []}
 use Prim.Native.Nat.{ℕ, _+_, _-_, _≤_, _<_}
 use native.Mathlib.Numerals.{add-one}
 use native.Mathlib.Omega.{arith}
-use lib.Dec.{eqb, ltb}
+use lib.Dec.{eqb}
 use lib.ListN.{getD, length}
-use borrow.Author.Tests.{eq-eqb, eqb-true, le-ltb, lt-ltb, ne-eqb}
+use borrow.Author.Tests.{eq-eqb, eqb-true, ne-eqb}
 use Rattle.laws.specs.Tests.{_and_, _or_, _⇒_, allPairs, any, choose, every, found, first, has, listed}
 use Rattle.laws.specs.TestLaws.{and-both, and-left, and-right, any-at, any-of, both-ways, every-at, every-of, every-skip, fails, implied, implies, or-left, same-test}
 use Rattle.laws.specs.Chain.{Walk, walk-end, walk-start, walk-step}
@@ -22,7 +22,7 @@ use Rattle.graph.specs.Reads.{upTo}
 use Rattle.graph.proofs.Laws.{before-less}
 use Rattle.pairset.specs.Store.{Has, newAt, oldAt}
 use Rattle.pairset.specs.StoreLaws.{all-pairs, listed-of}
-use Rattle.suite.specs.Rows.{rowCommon}
+use Rattle.suite.specs.Rows.{rowMeets}
 use Rattle.suite.specs.RowLaws.{common-meets}
 use Rattle.versions.specs.Memory.{Memory, memory}
 use Rattle.versions.specs.MemoryLaws.{edges-chained, entry-is, sound, target-is, well-formed}
@@ -236,25 +236,25 @@ pub ruleset keeping = (keep-start, keep-broken, keep-on, keep-all)
 
 -- ---- `test_kept`, `rule5`
 
-module _ (rows sets : List ℕ) (i x : ℕ) (ex : x ≡ rowCommon rows i sets) where
-  -- A common edge is found just where the coverage holds a D edge.
+module _ (rows sets : List ℕ) (i : ℕ) (x : Bool) (ex : x ≡ rowMeets rows sets i) where
+  -- The row meets the set just where the coverage holds a D edge.
   meets-is : (v v′ : Memory) (w : List ℕ) (m count : ℕ) (o p : Listing) (s : Sheet) (coverages : List Coverage) → Claimed v v′ w sets m o p s → Covered rows (edgeCount (o .program)) count coverages → i < count
-      → meets (s .D) (getD coverages i []) ≡ ltb 0 x
+      → meets (s .D) (getD coverages i []) ≡ x
   meets-is v v′ w m count o p s coverages c d l =
       let few : edgeCount (o .program) ≤ 1024 = sound v o (c .old-in) .fewEdges in
-      sym (ap (ltb 0) ex
+      sym (ex
       ∙ common-meets (edgeCount (o .program)) rows i (getD coverages i []) few (d .row i l) sets (s .D) (λ e h. c .held .edges-are e (omega arith)) (c .edges))
 
-  pub test-free : x < 1 → TestKept rows sets i true
+  pub test-free : x ≡ false → TestKept rows sets i true
   unfolding TestKept _⇒_
   test-free z v v′ w m count o p s coverages c d l =
-      sym (ap (λ (b : Bool). b ⇒ has (s .R) i) (meets-is v v′ w m count o p s coverages c d l ∙ le-ltb 0 x (omega arith)))
+      sym (ap (λ (b : Bool). b ⇒ has (s .R) i) (meets-is v v′ w m count o p s coverages c d l ∙ z))
 
-  pub test-listed : (r : Bool) → 1 ≤ x → i < 200 → r ≡ bitIn sets (1024 + i) → TestKept rows sets i r
+  pub test-listed : (r : Bool) → x ≡ true → i < 200 → r ≡ bitIn sets (1024 + i) → TestKept rows sets i r
   unfolding TestKept _⇒_
   test-listed r h few e v v′ w m count o p s coverages c d l =
       e ∙ c .held .tests-are i few
-      ∙ sym (ap (λ (b : Bool). b ⇒ has (s .R) i) (meets-is v v′ w m count o p s coverages c d l ∙ lt-ltb 0 x (omega arith)))
+      ∙ sym (ap (λ (b : Bool). b ⇒ has (s .R) i) (meets-is v v′ w m count o p s coverages c d l ∙ h))
 
 -- The first i tests keep rule 5.
 unfoldable pub TestsTo : List ℕ → ℕ → List ℕ → ℕ → Type 0

@@ -6,20 +6,15 @@ use Rattle.rules.specs.Text.{Bytes, accepted}
 use Rattle.rules.specs.Graph.{edgeCount, nodeCount}
 use Rattle.rules.specs.ProgramFile.{Listing}
 use Rattle.rules.specs.SuiteFile.{TestListing, readTests}
-use Rattle.rules.specs.Sheet.{readSheet}
-use Rattle.rules.specs.Job.{Given, judged, outcome}
+use Rattle.rules.specs.Job.{checking, givenOf}
 use Rattle.answer.specs.declared.Answer.{Answer}
 use Rattle.answer.specs.Outcomes.{Answered}
 use Rattle.suite.specs.Rows.{Holds}
 use Rattle.versions.specs.Memory.{InMemory, Memory}
-
--- What the old program, the new one and the tests of a job give.
-abbrev pub given : Listing → Listing → TestListing → Given
-given o p l = record { old = o .program; new = p .program; suite = l .suite }
 
 -- `check_sheet`: the answer is what checking the sheet comes to. What the two tables that it is lent hold afterwards is left open.
 unfoldable pub Checks : Memory → Memory → ℕ → ℕ → ℕ → Bytes → List ℕ → List ℕ → ℕ → Bytes → Answer → Type 0
 Checks v v′ olds news edges tt tests rows count sheet r =
     (o p : Listing) (l : TestListing) → InMemory v o → InMemory v′ p → readTests (edgeCount (o .program)) tt ≡ accepted l → Holds (edgeCount (o .program)) tests rows count l
     → olds ≡ nodeCount (o .program) → news ≡ nodeCount (p .program) → edges ≡ edgeCount (o .program)
-    → Answered (outcome (readSheet (o .program) (p .program) (l .suite) sheet) (judged (given o p l))) r
+    → Answered (checking (givenOf o p l) sheet) r

@@ -1,6 +1,5 @@
 // The check of a sheet: its claims are read, and judged by the five rules. No pair is computed: the rules are tested within the sheet's own list.
 use answer::Answer;
-ghost use mathlib.Core.Path.{_≡_};
 ghost use Prim.Native.Nat.{_≤_, _<_};
 ghost use lib.ListN.{length};
 ghost use Rattle.versions.specs.Memory.{memory};
@@ -137,11 +136,10 @@ fn test_kept(rows: &[u64], sets: &[u64], i: usize) -> bool
     requires { ⌜ i < 200 ⌝ }
     ensures { λ r. ⌜ TestKept (now (rows .entry)) (now (sets .entry)) i r ⌝ }
 {
-    let first = suite::first_common(rows, i, sets);
-    if first < 1 {
-        return true;
+    if suite::row_meets(rows, i, sets) {
+        return suite::in_set(sets, 1024 + i);
     }
-    suite::in_set(sets, 1024 + i)
+    true
 }
 
 // Rule 5, for all tests.
@@ -161,7 +159,7 @@ fn rule5(rows: &[u64], count: usize, sets: &[u64]) -> bool
 }
 
 // The first broken rule, or 0, where the sheet lists m pairs.
-pub fn judge(
+fn judge(
     ot: &[u8],
     on: &[usize],
     ol: &[usize],

@@ -2,8 +2,7 @@
 use mathlib.Core.Path.{_≡_, refl, ap}
 use mathlib.Core.Bool.{true}
 use mathlib.Core.List.{[], _∷_}
-use Prim.Native.Nat.{ℕ, _+_, _*_, _^_, _≤_, _<_}
-use native.Mathlib.Nat.{pow-le-pow-right, pow-suc}
+use Prim.Native.Nat.{ℕ, _≤_, _<_}
 use native.Mathlib.Omega.{arith}
 use lib.Dec.{eqb}
 use lib.ListN.{length, take}
@@ -50,15 +49,3 @@ same-keys a b p q = same-test _ _ (λ t. eq-eqb _ _ (ap wordKey (same-true a b t
 pub word-short : (w : Bytes) → isWord w ≡ true → take 8 w ≡ w
 unfolding isWord between
 word-short w h = take-all 8 w (leb-true (length w) 8 (and-right _ _ (and-left _ _ h)))
-
-digits-fit : (w : Bytes) → allBytes wordByte w ≡ true → wordKey w < 256 ^ length w
-unfolding number allBytes
-digits-fit [] h = omega arith
-digits-fit (x ∷ w) h = rw (pow-suc 256 (length w)) (omega (arith, digit-of x (and-left _ _ h) .1, digits-fit w (and-right _ _ h)))
-
--- Its key has 64 bits.
-pub key-fits : (w : Bytes) → isWord w ≡ true → wordKey w < 2 ^ 64
-unfolding isWord between
-key-fits w h =
-    let l : length w ≤ 8 = leb-true (length w) 8 (and-right _ _ (and-left _ _ h)) in
-    omega (arith, digits-fit w (and-right _ _ h), pow-le-pow-right {n = 256} (omega arith) l)

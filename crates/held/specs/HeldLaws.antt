@@ -18,7 +18,7 @@ use Rattle.rules.specs.Proofs.ProgramLaws.{Sound, read-sound}
 use Rattle.rules.specs.Graph.{procCount, nodeCount, edgeCount}
 use Rattle.rules.specs.ProgramFile.{Listing, readListing, readProgram}
 use Rattle.rules.specs.SuiteFile.{TestListing, readSuite, readTests, testCount}
-use Rattle.rules.specs.Job.{readJob}
+use Rattle.rules.specs.Job.{readJob, givenOf}
 use Rattle.graph.specs.Table.{At, nodeBase, procBase, edgeBase, headBase, nodeRow, procRow, edgeRow, headOf, nodesAfter, linksAfter}
 use Rattle.graph.specs.Lookups.{in-table}
 use Rattle.reader.specs.Result.{Small}
@@ -269,7 +269,7 @@ held-tests-parts j v v′ text t w h e =
 
 -- Where job and tables are held at stage 3 the three texts are accepted, and give what is held.
 pub texts-accepted : (j : Job) (v v′ : Lent) (text t w : List ℕ) (h : AllRead) → heldTests j v v′ text t w ≡ some h
-    → readJob (v .text) (v′ .text) text ≡ accepted (record { old = h .old .program; new = h .new .program; suite = h .tests .suite })
+    → readJob (v .text) (v′ .text) text ≡ accepted (givenOf (h .old) (h .new) (h .tests))
 unfolding readJob readProgram readSuite
 texts-accepted j v v′ text t w h e =
     let p = held-tests-parts j v v′ text t w h e in

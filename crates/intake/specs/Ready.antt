@@ -6,7 +6,7 @@ use Rattle.rules.specs.Text.{Bytes, Answer, refused, accepted}
 use Rattle.rules.specs.Graph.{edgeCount, nodeCount}
 use Rattle.rules.specs.ProgramFile.{Listing}
 use Rattle.rules.specs.SuiteFile.{TestListing, readTests}
-use Rattle.rules.specs.Job.{Given, readJob}
+use Rattle.rules.specs.Job.{Given, givenOf, readJob}
 use Rattle.reader.specs.Result.{linksOf}
 use Rattle.suite.specs.Rows.{Holds}
 use Rattle.versions.specs.Memory.{InMemory, Memory, memory}
@@ -21,7 +21,7 @@ pub record Ready (v v′ : Memory) (tt tests rows : List ℕ) (c : Texts) (g : G
   pub new-in : InMemory v′ p
   pub tests-read : readTests (edgeCount (o .program)) tt ≡ accepted l
   pub tests-in : Holds (edgeCount (o .program)) tests rows (c .tests) l
-  pub given-is : g ≡ record { old = o .program; new = p .program; suite = l .suite }
+  pub given-is : g ≡ givenOf o p l
   pub old-nodes-n : c .«old_nodes» ≡ nodeCount (o .program)
   pub old-edges-n : c .«old_edges» ≡ edgeCount (o .program)
   pub new-nodes-n : c .«new_nodes» ≡ nodeCount (p .program)

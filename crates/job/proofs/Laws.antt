@@ -24,7 +24,7 @@ use Rattle.records.specs.Nodes.{nodesOf}
 use Rattle.held.specs.Held.{jobOld}
 use Rattle.job.specs.declared.Taken.{Taken}
 use Rattle.job.specs.ReadOldLaws.{none-due, records-are, roomy-parts}
-use Rattle.job.specs.ReadOld.{roomy, freshDue, oldDue, programRead, answered, recordsRead, countRead, linksRead, oldJob, refusedTaken, withOld, takenOf, TakenBy, LeftBy, OldTaken, ReadOld}
+use Rattle.job.specs.ReadOld.{roomy, freshDue, oldDue, programRead, answered, recordsRead, countRead, linksRead, oldJob, refusedTaken, withOld, takenOf, TakenBy, LeftBy, OldTaken, ReadOld, pastDue}
 
 -- ---- `long_enough`
 
@@ -102,14 +102,14 @@ module _ (after : Reading Listing → Job) (j : Job) (still : (k p : ℕ) → af
   left-refused k p w = record { taken = ap (λ (x : Job). refusedTaken x k p) (sym (still k p)); links-are = refl; nodes-are = refl }
 
   pub due-taken : (due : ℕ) (w : List ℕ) (r : Taken) → (due ≡ 0 → ⊥) → r ≡ refusedTaken j due 0 → TakenBy after (programRead due text) r l l w
-  unfolding programRead choose
+  unfolding pastDue choose
   due-taken due w r h e =
       let a : programRead due text ≡ refused due 0 = simp (ne-eqb _ _ h) in
       subst (λ (x : Taken). TakenBy after (programRead due text) x l l w) (sym e) (subst (λ (x : Reading Listing). TakenBy after x (refusedTaken j due 0) l l w) (sym a) (left-refused due 0 w))
 
   module _ (due : ℕ) (z : due ≡ 0) (had : Count) (w : List ℕ) (h : ReadInto text had w) where
     goes-by : programRead due text ≡ readListing text
-    unfolding programRead choose
+    unfolding pastDue choose
     goes-by = simp (eq-eqb _ _ z)
 
     stop : (x : Reading Listing) → Told x had w → (had .number ≡ 0 → ⊥) → TakenBy after x (refusedTaken j (had .number) (had .place)) l l w

@@ -26,7 +26,7 @@ use Rattle.records.specs.NodeLaws.{flat-length}
 use Rattle.held.specs.Held.{Lent, Versions, numbers, lent, versionLeft, countLeft, jobNew, heldNew}
 use Rattle.held.specs.HeldLaws.{front-left, version-sound}
 use Rattle.job.specs.declared.Moved.{Moved}
-use Rattle.job.specs.ReadOld.{answered, roomy, withOld}
+use Rattle.job.specs.ReadOld.{answered, roomy, withOld, pastDue}
 use Rattle.job.specs.ReadOldLaws.{none-due, roomy-parts}
 use Rattle.job.specs.ReadNew.{oldPart, newPart, withNew}
 use Rattle.job.specs.ReadTests.{bothDue, testsDue, testsBy, withTests, testsJob, namesLeft, rowsLeft, movedBy, MovedBy, TestsTaken, ReadTests}
@@ -179,11 +179,11 @@ module _ (j : Job) (v v′ : Lent) (text : Bytes) (t w : List ℕ) (work due : �
       record { by = subst (λ (x : Reading TestListing). MovedBy j x r t t′ w w′) (e ∙ ap (λ (k : ℕ). testsBy k (j .«old_edges») text) ed) m }
 
   pub tests-refused : (due ≡ 0 → ⊥) → TestsTaken j v v′ text (record { job = j; number = due; place = 0 }) t t w w work
-  unfolding testsBy choose
+  unfolding pastDue choose
   tests-refused h = by-due _ t w (refused due 0) (simp (ne-eqb _ _ h)) (stopped j t w due 0)
 
   pub tests-taken : due ≡ 0 → (c : Read) (t′ w′ : List ℕ) (r : Moved) → ReadLent (j .«old_edges») text c t t′ w w′ → r ≡ movedBy j c → TestsTaken j v v′ text r t t′ w w′ work
-  unfolding testsBy choose
+  unfolding pastDue choose
   tests-taken z c t′ w′ r h e =
       by-due r t′ w′ (readTests (j .«old_edges») text) (simp (eq-eqb _ _ z))
       (subst (λ (x : Moved). MovedBy j (readTests (j .«old_edges») text) x t t′ w w′) (sym e) (read-by j t w (readTests (j .«old_edges») text) c t′ w′ (h .leaves)))

@@ -35,9 +35,12 @@ freshDue j = choose (sameJob j fresh) 0 14
 unfoldable pub oldDue : Job → ℕ → ℕ → ℕ → ℕ
 oldDue j nodes links work = choose (ofStage read-old (j .stage)) (choose (roomy 512 6080 nodes links work) (freshDue j) 14) 13
 
--- What a call that reads a program has to go by: the refusal that is due, or what reading the text gives.
-unfoldable pub programRead : ℕ → Bytes → Reading Listing
-programRead due text = choose (eqb due 0) (readListing text) (refused due 0)
+-- What a call has to go by: the refusal that is due, or what reading its text gives; for a program.
+unfoldable pub pastDue : {A : Type 0} → ℕ → Reading A → Reading A
+pastDue due a = choose (eqb due 0) a (refused due 0)
+
+abbrev pub programRead : ℕ → Bytes → Reading Listing
+programRead due text = pastDue due (readListing text)
 
 abbrev pub oldRead : Job → ℕ → ℕ → ℕ → Bytes → Reading Listing
 oldRead j nodes links work text = programRead (oldDue j nodes links work) text
@@ -86,10 +89,11 @@ refusedTaken j k p = record { job = j; number = k; place = p; nodes = 0 }
 unfoldable pub withOld : Count → Job
 withOld c = jobAt (stageAfter read-old) c uncounted 0
 
--- Reading a program on values, where `after` is the job afterwards by what the call goes by; the numbers of the nodes are in the work table.
+-- The job, with the answer and the count by what the call goes by.
 unfoldable pub takenOf : Job → Reading Listing → Taken
 takenOf j a = record { job = j; number = answered a .number; place = answered a .place; nodes = countRead a }
 
+-- Reading a program on values, where `after` is the job afterwards by what the call goes by; the numbers of the nodes are in the work table.
 pub record TakenBy (after : Reading Listing → Job) (a : Reading Listing) (r : Taken) (l l′ w : List ℕ) : Type 0 where
   pub taken : r ≡ takenOf (after a) a
   pub links-are : l′ ≡ linksRead a l

@@ -22,7 +22,7 @@ use Rattle.records.specs.declared.Node.{Node}
 use Rattle.records.specs.Jobs.{fresh, job-self}
 use Rattle.records.specs.Nodes.{flat, nodeAt, nodesOf}
 use Rattle.records.specs.NodeLaws.{flat-append, flat-sets}
-use Rattle.job.specs.ReadOld.{roomy, freshDue, oldDue, programRead, oldRead, answered, recordOf, recordsOf}
+use Rattle.job.specs.ReadOld.{roomy, freshDue, oldDue, oldRead, answered, recordOf, recordsOf, pastDue}
 
 -- ---- the records
 
@@ -77,5 +77,5 @@ answer-old text = by-case (readListing text)
 
 -- For a fresh job and tables that are long enough nothing is due before reading.
 pub read-fresh : (n l w : ℕ) (text : Bytes) → 512 ≤ n → 6080 ≤ l → 8128 ≤ w → oldRead fresh n l w text ≡ readListing text
-unfolding programRead oldDue freshDue roomy ofStage _and_ choose
+unfolding pastDue oldDue freshDue roomy ofStage _and_ choose
 read-fresh n l w text hn hl hw = simp (le-leb 512 n hn, le-leb 6080 l hl, le-leb 8128 w hw, job-self fresh)

@@ -15,7 +15,7 @@ use Rattle.lent_tests.specs.Lent.{testsAfter, rowsAfter}
 use Rattle.records.specs.declared.Job.{Job}
 use Rattle.held.specs.Held.{Lent, heldNew, jobAt}
 use Rattle.job.specs.declared.Moved.{Moved}
-use Rattle.job.specs.ReadOld.{answered, roomy}
+use Rattle.job.specs.ReadOld.{answered, roomy, pastDue}
 use Rattle.job.specs.ReadNew.{oldCounts}
 
 -- ---- what is due before reading
@@ -28,9 +28,9 @@ bothDue j v v′ = after (heldNew j v v′) 14 (λ h. 0)
 unfoldable pub testsDue : Job → Lent → Lent → ℕ → ℕ → ℕ → ℕ
 testsDue j v v′ tests rows work = choose (ofStage read-tests (j .stage)) (choose (roomy 400 3200 tests rows work) (bothDue j v v′) 14) 13
 
--- What the call has to go by: the refusal that is due, or what reading the tests gives, where the old program has as many edges as the job says.
-unfoldable pub testsBy : ℕ → ℕ → Bytes → Reading TestListing
-testsBy due edges text = choose (eqb due 0) (readTests edges text) (refused due 0)
+-- What the call has to go by, where the old program has as many edges as the job says.
+abbrev pub testsBy : ℕ → ℕ → Bytes → Reading TestListing
+testsBy due edges text = pastDue due (readTests edges text)
 
 abbrev pub testsRead : Job → Lent → Lent → ℕ → ℕ → ℕ → Bytes → Reading TestListing
 testsRead j v v′ tests rows work text = testsBy (testsDue j v v′ tests rows work) (j .«old_edges») text

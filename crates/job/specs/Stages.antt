@@ -32,10 +32,10 @@ use Rattle.records.specs.Jobs.{sameJob, job-self}
 use Rattle.records.specs.Nodes.{flat}
 use Rattle.held.specs.Held.{Lent, Versions, lent, longEnough, leftBy, versionLeft, testsLong, testsBy as suiteBy, suiteLeft, jobOld, jobNew, jobTests, heldOld, heldNew, heldTests}
 use Rattle.held.specs.HeldLaws.{procsOf, edgesOf, headsOf, sound-of, held-old-parts, held-new-parts}
-use Rattle.job.specs.ReadOld.{roomy, freshDue, oldDue, programRead, oldRead, answered, recordsOf, recordsRead, linksRead, oldJob, LeftBy, ReadOld}
+use Rattle.job.specs.ReadOld.{roomy, freshDue, oldDue, oldRead, answered, recordsOf, recordsRead, linksRead, oldJob, LeftBy, ReadOld, pastDue}
 use Rattle.job.specs.ReadOldLaws.{none-due, records-after, roomy-parts}
 use Rattle.job.specs.ReadNew.{oldHeldDue, newDue, newRead, newJob, withNew, ReadNew}
-use Rattle.job.specs.ReadTests.{bothDue, testsDue, testsBy, testsRead, withTests, testsJob, namesLeft, rowsLeft, TestsLeftBy, ReadTests}
+use Rattle.job.specs.ReadTests.{bothDue, testsDue, testsRead, withTests, testsJob, namesLeft, rowsLeft, TestsLeftBy, ReadTests}
 
 -- ---- stores that change nothing
 
@@ -113,11 +113,11 @@ refused-accepted : {A : Type 0} (k p : ℕ) (a : A) → refused k p ≡ accepted
 refused-accepted k p a e = true≢false (let z : true ≡ false = cc in z)
 
 -- Where a call goes by an accepted text nothing was due.
-pub program-read : (due : ℕ) (text : Bytes) (s : Listing) → programRead due text ≡ accepted s → (due ≡ 0) × (readListing text ≡ accepted s)
-unfolding programRead choose
-program-read due text s h = go (eqb due 0) refl h
+pub due-none : {A : Type 0} (due : ℕ) (a : Reading A) (s : A) → pastDue due a ≡ accepted s → (due ≡ 0) × (a ≡ accepted s)
+unfolding pastDue choose
+due-none {A} due a s h = go (eqb due 0) refl h
   where
-    go : (u : Bool) → eqb due 0 ≡ u → choose u (readListing text) (refused due 0) ≡ accepted s → (due ≡ 0) × (readListing text ≡ accepted s)
+    go : (u : Bool) → eqb due 0 ≡ u → choose u a (refused due 0) ≡ accepted s → (due ≡ 0) × (a ≡ accepted s)
     go true e q = (eqb-true due 0 e, q)
     go false e q = absurd (refused-accepted due 0 s q)
 
@@ -132,7 +132,7 @@ module _ (j : Job) (text : Bytes) (n : List Node) (l w : List ℕ) (r : Answer) 
   read-old-due : (512 ≤ length n) × (6080 ≤ length l)
   unfolding oldDue
   read-old-due =
-      let r = roomy-parts 512 6080 _ _ (length w) (none-due (ofStage read-old (j .stage)) (roomy 512 6080 (length n) (length l) (length w)) (freshDue j) (program-read _ text s e .0) .1) in (r .0, r .1)
+      let r = roomy-parts 512 6080 _ _ (length w) (none-due (ofStage read-old (j .stage)) (roomy 512 6080 (length n) (length l) (length w)) (freshDue j) (due-none _ _ s e .0) .1) in (r .0, r .1)
 
   held-by : (v : Lent) → versionLeft v ≡ some s → heldOld (jobOld s) v ≡ some s
   unfolding heldOld choose
@@ -146,7 +146,7 @@ module _ (j : Job) (text : Bytes) (n : List Node) (l w : List ℕ) (r : Answer) 
       let b : LeftBy (oldJob j) (accepted s) n l w r j′ n′ l′ w′ = subst (λ (a : Reading Listing). LeftBy (oldJob j) a n l w r j′ n′ l′ w′) e (h .left) in
       ap (λ (k : Job). heldOld k (lent text n′ l′)) (b .job-is ∙ job-old j s)
       ∙ ap₂ (λ (x : List Node) (y : List ℕ). heldOld (jobOld s) (lent text x y)) (b .nodes-are) (b .links-are)
-      ∙ held-by _ (version-again text s (program-read _ text s e .1) n l (read-old-due .0) (read-old-due .1))
+      ∙ held-by _ (version-again text s (due-none _ _ s e .1) n l (read-old-due .0) (read-old-due .1))
 
 -- ---- after `read_new`
 
@@ -165,7 +165,7 @@ module _ (j : Job) (v : Lent) (text : Bytes) (n : List Node) (l w : List ℕ) (r
   read-new-due : (512 ≤ length n) × (6080 ≤ length l)
   unfolding newDue
   read-new-due =
-      let r = roomy-parts 512 6080 _ _ (length w) (none-due (ofStage read-new (j .stage)) (roomy 512 6080 (length n) (length l) (length w)) (oldHeldDue j v) (program-read _ text p e .0) .1) in (r .0, r .1)
+      let r = roomy-parts 512 6080 _ _ (length w) (none-due (ofStage read-new (j .stage)) (roomy 512 6080 (length n) (length l) (length w)) (oldHeldDue j v) (due-none _ _ p e .0) .1) in (r .0, r .1)
 
   -- The job and the tables of both versions are held after `read_new`.
   pub new-held : heldNew j′ v (lent text n′ l′) ≡ some (record { old = o; new = p })
@@ -175,18 +175,9 @@ module _ (j : Job) (v : Lent) (text : Bytes) (n : List Node) (l w : List ℕ) (r
       let parts : (versionLeft v ≡ some o) × (j ≡ jobOld o) = held-old-parts j v o held in
       ap (λ (k : Job). heldNew k v (lent text n′ l′)) (b .job-is ∙ job-new j o p (parts .1))
       ∙ ap₂ (λ (x : List Node) (y : List ℕ). heldNew (jobNew o p) v (lent text x y)) (b .nodes-are) (b .links-are)
-      ∙ held-both v _ o p (parts .0) (version-again text p (program-read _ text p e .1) n l (read-new-due .0) (read-new-due .1))
+      ∙ held-both v _ o p (parts .0) (version-again text p (due-none _ _ p e .1) n l (read-new-due .0) (read-new-due .1))
 
 -- ---- after `read_tests`
-
--- Where the call goes by accepted tests nothing was due.
-pub tests-read : (due m : ℕ) (text : Bytes) (l : TestListing) → testsBy due m text ≡ accepted l → (due ≡ 0) × (readTests m text ≡ accepted l)
-unfolding testsBy choose
-tests-read due m text l h = go (eqb due 0) refl h
-  where
-    go : (u : Bool) → eqb due 0 ≡ u → choose u (readTests m text) (refused due 0) ≡ accepted l → (due ≡ 0) × (readTests m text ≡ accepted l)
-    go true e q = (eqb-true due 0 e, q)
-    go false e q = absurd (refused-accepted due 0 l q)
 
 -- The tables that reading the tests leaves are found to be left.
 module _ (m : ℕ) (text : Bytes) (l : TestListing) (e : readTests m text ≡ accepted l) (t w : List ℕ) (ht : 400 ≤ length t) (hw : 3200 ≤ length w) where
@@ -221,11 +212,11 @@ module _ (j : Job) (v v′ : Lent) (text : Bytes) (t w s : List ℕ) (r : Answer
   read-tests-due : (400 ≤ length t) × (3200 ≤ length w)
   unfolding testsDue
   read-tests-due =
-      let r = roomy-parts 400 3200 _ _ (length s) (none-due (ofStage read-tests (j .stage)) (roomy 400 3200 (length t) (length w) (length s)) (bothDue j v v′) (tests-read _ _ text l e .0) .1) in (r .0, r .1)
+      let r = roomy-parts 400 3200 _ _ (length s) (none-due (ofStage read-tests (j .stage)) (roomy 400 3200 (length t) (length w) (length s)) (bothDue j v v′) (due-none _ _ l e .0) .1) in (r .0, r .1)
 
   -- The rows were read for as many edges as the old program has.
   pub edges-read : readTests (edgeCount (k .old .program)) text ≡ accepted l
-  edges-read = ap (λ (m : ℕ). readTests m text) (sym (edges-new j (k .old) (k .new) (held-new-parts j v v′ k held .2))) ∙ tests-read _ _ text l e .1
+  edges-read = ap (λ (m : ℕ). readTests m text) (sym (edges-new j (k .old) (k .new) (held-new-parts j v v′ k held .2))) ∙ due-none _ _ l e .1
 
   -- The job and all tables are held after `read_tests`, with what the three texts read to.
   pub tests-held : heldTests j′ v v′ text t′ w′ ≡ some (record { old = k .old; new = k .new; tests = l })

@@ -1,4 +1,4 @@
-// The calls of a job, over lent memory. The work of each is done on values and tables of numbers; the call itself takes the job and the
+// The reading calls of a job, at the stages 0 to 2, over lent memory. The work of each is done on values and tables of numbers; the call itself takes the job and the
 // nodes out of what is lent and puts them back.
 use answer::Answer;
 use reader::Count;

@@ -15,7 +15,7 @@ use Rattle.rules.specs.Text.{Bytes, Answer as Reading, refused, accepted}
 use Rattle.rules.specs.Graph.{nodeCount, edgeCount}
 use Rattle.rules.specs.ProgramFile.{Listing}
 use Rattle.rules.specs.SuiteFile.{TestListing, testCount}
-use Rattle.rules.specs.Job.{Call, Given, Outcome, Version, bySide, check-sheet, isNodeOfVersion, judged, labelAnswer, labelPart, labelShown, numberOf, ofStage, outcome, placeOf, read-tests, recordBytes, refusal, sheetBytes, show-label, stageAfter, success, write-record, write-sheet, writing}
+use Rattle.rules.specs.Job.{Call, Given, Outcome, Version, bySide, check-sheet, isNodeOfVersion, labelAnswer, labelPart, labelShown, numberOf, ofStage, outcome, placeOf, read-tests, refusal, sheetBytes, show-label, stageAfter, success, write-record, write-sheet, writing, checking, recording}
 use Rattle.rules.specs.Proofs.ProgramLaws.{Sound}
 use Rattle.answer.specs.declared.Answer.{Answer}
 use Rattle.answer.specs.Outcomes.{Answered, Told, answered-as, refusal-told, told-as}
@@ -25,7 +25,6 @@ use Rattle.versions.specs.Memory.{InMemory, memory}
 use Rattle.intake.specs.declared.Texts.{Texts}
 use Rattle.intake.specs.Ready.{Few, Ready, refusedTexts}
 use Rattle.intake.proofs.Laws.{few-none}
-use Rattle.rules.specs.Sheet.{readSheet}
 use Rattle.checker.specs.Checking.{Checks}
 use Rattle.work.specs.Work.{Done, RecordDone, SheetDone}
 use Rattle.records.specs.declared.Job.{Job}
@@ -306,7 +305,7 @@ module _ (j : Job) (olds : ℕ) (ot on ol : List ℕ) (news : ℕ) (nt nn nl tt 
     check-goes sheet r z d =
         subst (λ (k : LentJob). Answered (checkCall k sheet) r) is-loaded
         (due-goes 16912 the-job had eh _ (λ x. Answered x r) z wide-old wide-new
-        (λ h room y. subst (λ (g : Given). Answered (outcome (readSheet (g .old) (g .new) (g .suite) sheet) (judged g)) r) (sym (y .given-is))
+        (λ h room y. subst (λ (g : Given). Answered (checking g sheet) r) (sym (y .given-is))
         (d (y .o) (y .p) (y .l) (y .old-in) (y .new-in) (y .tests-read) (y .tests-in) (y .old-nodes-n) (y .new-nodes-n) (y .old-edges-n))))
 
 -- ---- `label_at`, `label_of`
@@ -528,7 +527,7 @@ module _ (j : Job) (ot : Bytes) (on : List Node) (ol nt : List ℕ) (nn : List N
   record-same : (i room : ℕ) → recordCall job-loaded i room ≡ recordCall job-lent i room
   unfolding recordCall
   record-same i room =
-      ap (λ (x : Reading AllRead). outcome x (λ h. choose (ltb i (testCount (givenBy h .suite))) (writing (givenBy h) room (recordBytes (givenBy h) i)) (refusal 6 0))) (goes-same write-record 16912 (omega arith))
+      ap (λ (x : Reading AllRead). outcome x (λ h. recording (givenBy h) i room)) (goes-same write-record 16912 (omega arith))
 
   -- `write_record`
   pub record-is : (i : ℕ) (r : Answer) (w₂ out out′ : List ℕ) → WroteOn (recordCall job-loaded i (length out)) r w₁ w₂ out out′ → Wrote (recordCall job-lent i (length out)) r j j w w₂ out out′
@@ -542,7 +541,7 @@ module _ (j : Job) (ot : Bytes) (on : List Node) (ol nt : List ℕ) (nn : List N
   check-same : (sheet : Bytes) → checkCall job-loaded sheet ≡ checkCall job-lent sheet
   unfolding checkCall
   check-same sheet =
-      ap (λ (x : Reading AllRead). outcome x (λ h. outcome (readSheet (h .old .program) (h .new .program) (h .tests .suite) sheet) (judged (givenBy h)))) (goes-same check-sheet 16912 (omega arith))
+      ap (λ (x : Reading AllRead). outcome x (λ h. checking (givenBy h) sheet)) (goes-same check-sheet 16912 (omega arith))
 
   -- `check_sheet`
   pub check-is : (sheet : Bytes) (r : Answer) (w₂ : List ℕ) → CalledOn (checkCall job-loaded sheet) r w₁ w₂ → Called (checkCall job-lent sheet) r j j w w₂

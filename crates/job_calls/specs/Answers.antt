@@ -1,8 +1,8 @@
 -- Past 13 and 14 the calls of stage 3 answer as the definitions over the job's three texts do. So what is proved of those holds of the lent job, demand 3 entire.
-use mathlib.Core.Path.{_≡_, sym, ap, ap₂, _∙_, subst}
-use mathlib.Core.Bool.{true, false}
+use mathlib.Core.Path.{_≡_, refl, sym, ap, ap₂, _∙_, subst}
+use mathlib.Core.Bool.{Bool, true, false}
 use mathlib.Core.List.{List, [], _∷_}
-use Prim.Native.Nat.{ℕ, _≤_, _<_}
+use Prim.Native.Nat.{ℕ, zero, suc, _≤_, _<_}
 use native.Mathlib.Omega.{arith}
 use lib.ListN.{length}
 use borrow.Author.Tests.{lt-ltb}
@@ -110,9 +110,26 @@ pub record LentPlain (k : LentJob) : Type 0 where
   pub of-sheet : (room : ℕ) → Plain (sheetCall k room)
   pub of-record : (i room : ℕ) → Plain (recordCall k i room)
   pub of-check : (sheet : Bytes) → Plain (checkCall k sheet)
+  pub of-label : (side n : ℕ) → Plain (labelCall k side n)
 
 due-plain : (q : ℕ) → 13 ≤ q → q ≤ 14 → Plain (refusal q 0)
 due-plain q a b = record { zero-succeeds = λ z. absurd (let v : ⊥ = omega arith in v); few-numbers = omega arith; fits-beside = omega arith }
+
+label-plain : (v v′ : Version) (side n : ℕ) → Plain (labelAnswer v v′ side n)
+unfolding labelAnswer bySide choose
+label-plain v v′ side n = by side
+  where
+    six : Plain (refusal 6 0)
+    six = record { zero-succeeds = λ z. absurd (let x : ⊥ = omega arith in x); few-numbers = omega arith; fits-beside = omega arith }
+
+    node : (t : Bool) → Plain (choose t success (refusal 6 0))
+    node true = record { zero-succeeds = λ z. ([], refl); few-numbers = omega arith; fits-beside = omega arith }
+    node false = six
+
+    by : (side : ℕ) → Plain (labelAnswer v v′ side n)
+    by zero = node (isNodeOfVersion v n)
+    by (suc zero) = node (isNodeOfVersion v′ n)
+    by (suc (suc side)) = six
 
 outcome-plain : (asked : ℕ) (k : LentJob) (f : AllRead → Outcome) → ((h : AllRead) → goesBy write-sheet asked k ≡ accepted h → Plain (outcome (goesBy write-sheet asked k) f))
     → Plain (outcome (goesBy write-sheet asked k) f)
@@ -121,13 +138,16 @@ outcome-plain asked k f goes =
     due-cases asked k (λ q a b e. subst Plain (sym (ap (λ (x : Reading AllRead). outcome x f) e)) (due-plain q a b)) (λ h e room held. goes h e)
 
 pub lent-plain : (k : LentJob) → LentPlain k
-unfolding sheetCall recordCall checkCall goesBy ofStage
+unfolding sheetCall recordCall checkCall labelCall goesBy ofStage outcome
 lent-plain k =
     let a = answers-plain (k .old .text) (k .new .text) (k .text) in
     record {
       of-sheet = λ room. outcome-plain _ k _ (λ h e. subst Plain (sym (by-texts k h e .sheet-is room)) (a .of-sheet room));
       of-record = λ i room. outcome-plain _ k _ (λ h e. subst Plain (sym (by-texts k h e .record-is i room)) (a .of-record i room));
       of-check = λ sheet. outcome-plain _ k _ (λ h e. subst Plain (sym (by-texts k h e .check-is sheet)) (a .of-check sheet));
+      of-label = λ side n.
+          let f : AllRead → Outcome = λ h. labelAnswer (versionOf (k .old) (h .old)) (versionOf (k .new) (h .new)) side n in
+          outcome-plain _ k f (λ h e. subst Plain (sym (ap (λ (x : Reading AllRead). outcome x f) e)) (label-plain (versionOf (k .old) (h .old)) (versionOf (k .new) (h .new)) side n));
     }
 
 -- ---- demand 3

@@ -11,8 +11,7 @@ use Rattle.rules.specs.Text.{Bytes, Answer as Reading, refused, accepted}
 use Rattle.rules.specs.Graph.{nodeCount, edgeCount}
 use Rattle.rules.specs.ProgramFile.{Listing}
 use Rattle.rules.specs.SuiteFile.{TestListing, testCount}
-use Rattle.rules.specs.Sheet.{readSheet}
-use Rattle.rules.specs.Job.{Call, Given, Outcome, Version, check-sheet, judged, labelAnswer, labelShown, ofStage, outcome, read-tests, recordBytes, refusal, sheetBytes, show-label, stageAfter, write-record, write-sheet, writing}
+use Rattle.rules.specs.Job.{Call, Given, Outcome, Version, check-sheet, checking, givenOf, labelAnswer, labelShown, ofStage, outcome, read-tests, recording, sheetBytes, show-label, stageAfter, write-record, write-sheet, writing}
 use Rattle.answer.specs.declared.Answer.{Answer}
 use Rattle.answer.specs.Outcomes.{Answered, Told}
 use Rattle.reader.specs.declared.Count.{Count}
@@ -60,7 +59,7 @@ labelScratch = 8128
 
 -- What the texts give.
 abbrev pub givenBy : AllRead → Given
-givenBy h = record { old = h .old .program; new = h .new .program; suite = h .tests .suite }
+givenBy h = givenOf (h .old) (h .new) (h .tests)
 
 -- Write the sheet into an output of `room` bytes.
 unfoldable pub sheetCall : LentJob → ℕ → Outcome
@@ -68,15 +67,11 @@ sheetCall k room = outcome (goesBy write-sheet pairScratch k) (λ h. writing (gi
 
 -- Write the record line of the test i: 6 where there is none.
 unfoldable pub recordCall : LentJob → ℕ → ℕ → Outcome
-recordCall k i room =
-    outcome (goesBy write-record pairScratch k)
-    (λ h. choose (ltb i (testCount (givenBy h .suite))) (writing (givenBy h) room (recordBytes (givenBy h) i)) (refusal 6 0))
+recordCall k i room = outcome (goesBy write-record pairScratch k) (λ h. recording (givenBy h) i room)
 
 -- Check a sheet.
 unfoldable pub checkCall : LentJob → Bytes → Outcome
-checkCall k sheet =
-    outcome (goesBy check-sheet pairScratch k)
-    (λ h. outcome (readSheet (h .old .program) (h .new .program) (h .tests .suite) sheet) (judged (givenBy h)))
+checkCall k sheet = outcome (goesBy check-sheet pairScratch k) (λ h. checking (givenBy h) sheet)
 
 -- Show a label: number and place; the part, which is empty when refused.
 abbrev pub versionOf : Lent → Listing → Version

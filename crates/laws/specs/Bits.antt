@@ -10,7 +10,7 @@ use native.Mathlib.Omega.{arith}
 use lib.Dec.{eqb}
 use lib.Arith.{le-zero, digits-mod}
 use lib.Bits.{bitAnd, and-step, and-shr}
-use lib.Count.{ones, ones-step, ones-le, under, trailingZeros}
+use lib.Count.{ones, ones-step, ones-le, under, trailingZeros, trailing-le}
 use lib.ListN.{length, getD, take, drop, length-take, List·getD-eq-default}
 use lib.Pow.{shr-shr}
 use lib.Seq.{drop-drop, getD-take, getD-drop}
@@ -97,16 +97,6 @@ unfolding wordOf
 bit-word [] j = bit-none j
 bit-word (b ∷ l) zero = bit-zero _ ∙ plus-low b (wordOf l)
 bit-word (b ∷ l) (suc j) = bit-suc _ j ∙ ap (λ (w : ℕ). bitAt w j) (plus-half b (wordOf l)) ∙ bit-word l j
-
-plus-small : (b : Bool) (n k : ℕ) → n < 2 ^ k → plus b (2 * n) < 2 ^ suc k
-unfolding plus
-plus-small true n k h = omega arith
-plus-small false n k h = omega arith
-
-pub word-small : (l : List Bool) → wordOf l < 2 ^ length l
-unfolding wordOf
-word-small [] = omega arith
-word-small (b ∷ l) = plus-small b (wordOf l) (length l) (word-small l)
 
 -- Lists that have the same bits make one number, however many spare zeros they end with.
 pub word-agree : (l m : List Bool) → ((j : ℕ) → getD l j false ≡ getD m j false) → wordOf l ≡ wordOf m
@@ -263,3 +253,7 @@ module _ (f : ℕ → Bool) (k w : ℕ) (small : w < 2 ^ 64) (is : (j : ℕ) →
       before i a b =
           let q : 64 * k + (i - 64 * k) ≡ i = omega arith in
           ap f (sym q) ∙ is (i - 64 * k) (omega arith) ∙ ap (λ (v : ℕ). bitAt v (i - 64 * k)) z ∙ bit-none (i - 64 * k)
+
+-- How many zeros stand below the lowest bit is a number of 64 bits.
+pub zeros-fit : (w : ℕ) → trailingZeros 64 w < 2 ^ 64
+zeros-fit w = omega (arith, trailing-le 64 w)

@@ -10,7 +10,7 @@ use native.Mathlib.Decide.{decLt}
 use lib.Dec.{eqb}
 use lib.ListN.{length}
 use borrow.Author.Tests.{eqb-true, eq-eqb}
-use Rattle.laws.specs.Tests.{_and_, _or_, _⇒_, isnt, every, any, orElse, ifTrue, first, plus, count, those, has, anyOf, listed, allPairs, anyPair, keep, pick, gridRow, grid, firstFailed}
+use Rattle.laws.specs.Tests.{_and_, _or_, _⇒_, isnt, every, any, orElse, ifTrue, first, plus, count, those, has, anyOf, listed, allPairs, anyPair, keep, pick, gridRow, grid, firstFailed, found}
 
 pub and-left : (a b : Bool) → (a and b) ≡ true → a ≡ true
 unfolding _and_
@@ -559,3 +559,12 @@ pub none-failed : (k : ℕ) {b : Bool} (l : List Bool) → b ≡ true → firstF
 unfolding firstFailed
 none-failed k {b = true} l p e = e
 none-failed k {b = false} l p e = absurd (false≢true p)
+
+-- ---- nothing below 0; one that is found
+
+pub none-below : {X : Type 0} (n : ℕ) → n < 0 → X
+none-below n h = absurd (not-below-zero n h)
+
+pub found-some : (o : Option ℕ) → 0 < found o → (i : ℕ) × (o ≡ some i)
+found-some none h = absurd (not-below-zero 0 h)
+found-some (some i) h = (i, refl)

@@ -6,6 +6,7 @@ use Prim.Native.Nat.{ℕ, suc, _+_, _<_}
 use native.Mathlib.Omega.{arith}
 use lib.ListN.{length, getD}
 use Rattle.laws.specs.Lists.{snoc-length, snoc-cases, snoc-old, snoc-new}
+use Rattle.laws.specs.TestLaws.{none-below}
 use Rattle.rules.specs.Text.{Bytes, fieldsOf, value, accepted}
 use Rattle.rules.specs.Graph.{Node, Edge, noNode, noEdge, nameAt, labelAt, calleeAt, procCount, nodeCount, edgeCount}
 use Rattle.rules.specs.ProgramFile.{Line, proc-line, node-line, edge-line, malformed, formOf, Listing, nothingRead, current, takeLine, stepProgram}
@@ -29,9 +30,6 @@ pub record Known (text : Bytes) (s : Listing) : Type 0 where
   pub wordStarts : length (s .places .wordStarts) ≡ edgeCount (s .program)
 
 -- ---- nothing read
-
-none-below : {X : Type 0} (n : ℕ) → n < 0 → X
-none-below n h = absurd (let z : ⊥ = omega arith in z)
 
 pub known-none : (text : Bytes) → Known text nothingRead
 known-none text =

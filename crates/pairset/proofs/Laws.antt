@@ -16,7 +16,7 @@ use Rattle.laws.specs.TestLaws.{and-right, fails, first-none}
 use Rattle.laws.specs.Lists.{choose-yes, choose-no}
 use Rattle.laws.specs.Counting.{first-agree}
 use Rattle.laws.specs.Slices.{below-or, sets-three}
-use Rattle.laws.specs.Bits.{bitAt, bitIn, first-no-word, first-within, first-word}
+use Rattle.laws.specs.Bits.{bitAt, bitIn, first-no-word, first-within, first-word, zeros-fit}
 use Rattle.laws.specs.BitSets.{bit-from, withBit, word-bit}
 use Rattle.pairset.specs.Store.{dangerBit, dangerWord, pairBase, pairBit, oldAt, newAt, linkAt, pairsIn, Store, lastPair, pairBefore, Has, Appends, Appended, MarksDanger, DangerMarked, Empties, Emptied, NextPartner, RowFrom}
 use Rattle.pairset.specs.StoreLaws.{danger-more, dangers-stay, listed-at, listed-inside, marked-length, more, more-length, new-stays, no-dangers, old-stays, pairs-more, store-marked, store-more, store-none}
@@ -158,9 +158,6 @@ module _ (w : List ℕ) (a k from word : ℕ) (e : word ≡ getD w (512 + 8 * a 
       (λ q. lt-leb skip j q ∙ sym (lt-leb from (64 * k + j) (omega arith)))
       (λ q. le-leb skip j q ∙ sym (le-leb from (64 * k + j) (omega arith))) in
       ap (λ (n : ℕ). bitAt n j) exact ∙ bit-from skip word j ∙ ap₂ (λ (t u : Bool). t and u) same (row-bit j h)
-
-pub zeros-fit : (w : ℕ) → trailingZeros 64 w < 2 ^ 64
-zeros-fit w = omega (arith, trailing-le 64 w)
 
 pub ruleset rows = (row-whole, row-part, zeros-fit)
 

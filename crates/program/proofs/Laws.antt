@@ -18,7 +18,7 @@ use Rattle.graph.specs.Table.{At, nodeRow, procRow, edgeRow, headOf, nodesAfter
 use Rattle.graph.specs.Lookups.{in-table}
 use Rattle.reader.specs.declared.Count.{Count}
 use Rattle.reader.specs.Result.{linksOf, InTable, Told, Small, ReadInto}
-use Rattle.program.specs.Lent.{copiedNodes, copiedLinks, Counted, Leaves, ReadProgram, isLeft, leftNumber, TablesLeft}
+use Rattle.program.specs.Lent.{copiedNodes, copiedLinks, Counted, isLeft, leftNumber, TablesLeft}
 
 -- ---- what is copied
 
@@ -52,10 +52,6 @@ module _ (w : List ℕ) (c : Count) (s : Listing) (h : InTable w c s) (sm : Smal
 
 -- ---- the returns
 
-pub nodes-copy : (w r t t′ : List ℕ) (n : ℕ) → r ≡ take (4 * n) (drop 0 w) → t′ ≡ sets t 0 r → t′ ≡ copiedNodes w n t
-unfolding copiedNodes
-nodes-copy w r t t′ n e q = q ∙ ap (sets t 0) e
-
 pub links-copy : (w m a b d t t₁ t₂ t₃ : List ℕ) (c : Count) → m ≡ linksOf w → a ≡ take (7 * c .procs) (drop 0 m) → t₁ ≡ sets t 0 a → b ≡ take (5 * c .edges) (drop 448 m) → t₂ ≡ sets t₁ 448 b
     → d ≡ take (c .nodes) (drop 5568 m) → t₃ ≡ sets t₂ 5568 d → t₃ ≡ copiedLinks w c t
 unfolding copiedLinks
@@ -63,24 +59,7 @@ links-copy w m a b d t t₁ t₂ t₃ c em ea e₁ eb e₂ ed e₃ =
     e₃ ∙ ap₂ (λ (x y : List ℕ). sets x 5568 y) (e₂ ∙ ap₂ (λ (x y : List ℕ). sets x 448 y) (e₁ ∙ ap (sets t 0) (ea ∙ ap (λ (l : List ℕ). take (7 * c .procs) (drop 0 l)) em))
     (eb ∙ ap (λ (l : List ℕ). take (5 * c .edges) (drop 448 l)) em)) (ed ∙ ap (λ (l : List ℕ). take (c .nodes) (drop 5568 l)) em)
 
-told-stop : (x : Answer Listing) (r : Count) (w n l : List ℕ) → Told x r w → (r .number ≡ 0 → ⊥) → Leaves x r n n l l
-told-stop (refused k p) r w n l t z = (t .0, t .1, t .2, refl, refl)
-told-stop (accepted s) r w n l t z = absurd (z (t .0))
-
-told-leaves : (x : Answer Listing) (r : Count) (w n l : List ℕ) → Told x r w → Small r → 8128 ≤ length w → r .number ≡ 0 → Leaves x r n (copiedNodes w (r .nodes) n) l (copiedLinks w r l)
-told-leaves (refused k p) r w n l t sm room z = absurd (let y : ⊥ = omega (arith, t .0, t .2) in y)
-told-leaves (accepted s) r w n l t sm room z =
-    (t .0, t .1, record { procs-n = t .2 .procs-n; nodes-n = t .2 .nodes-n; edges-n = t .2 .edges-n }, nodes-copied w r s (t .2) sm room n, links-copied w r s (t .2) sm room l)
-
-pub program-stop : (text w n l : List ℕ) (r : Count) → ReadInto text r w → (r .number ≡ 0 → ⊥) → ReadProgram text r n n l l
-program-stop text w n l r h z = record { leaves = told-stop (readListing text) r w n l (h .told) z }
-
-pub program-read : (text w n n′ l l′ : List ℕ) (r : Count) → ReadInto text r w → 8128 ≤ length w → r .number ≡ 0 → n′ ≡ copiedNodes w (r .nodes) n → l′ ≡ copiedLinks w r l → ReadProgram text r n n′ l l′
-program-read text w n n′ l l′ r h room z en el =
-    subst (λ (x : List ℕ). ReadProgram text r n x l l′) (sym en)
-    (subst (λ (x : List ℕ). ReadProgram text r n (copiedNodes w (r .nodes) n) l x) (sym el) (record { leaves = told-leaves (readListing text) r w n l (h .told) (h .small) room z }))
-
-pub ruleset copies = (nodes-copy, links-copy, program-stop, program-read)
+pub ruleset copies = (links-copy)
 
 -- ---- `same_nodes`, `same_links`
 

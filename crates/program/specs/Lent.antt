@@ -2,7 +2,7 @@
 use mathlib.Core.Path.{_≡_}
 use mathlib.Core.Bool.{Bool}
 use mathlib.Core.List.{List}
-use Prim.Native.Nat.{ℕ, _*_, _<_}
+use Prim.Native.Nat.{ℕ, _*_}
 use lib.ListN.{take, drop}
 use lib.Seq.{sets}
 use Rattle.laws.specs.Tests.{_and_, choose}
@@ -26,15 +26,6 @@ pub record Counted (c : Count) (s : Listing) : Type 0 where
   pub procs-n : c .procs ≡ procCount (s .program)
   pub nodes-n : c .nodes ≡ nodeCount (s .program)
   pub edges-n : c .edges ≡ edgeCount (s .program)
-
--- The answer is the definition's; a refusal leaves the tables n and l as they were, and else they hold what reading leaves, entries beyond the counts staying.
-abbrev pub Leaves : Answer Listing → Count → List ℕ → List ℕ → List ℕ → List ℕ → Type 0
-Leaves (refused k p) r n n′ l l′ = (r .number ≡ k) × (r .place ≡ p) × (0 < k) × (n′ ≡ n) × (l′ ≡ l)
-Leaves (accepted s) r n n′ l l′ = (r .number ≡ 0) × (r .place ≡ 0) × Counted r s × (n′ ≡ nodesAfter s n) × (l′ ≡ linksAfter s l)
-
--- `read_program`
-pub record ReadProgram (text : Bytes) (r : Count) (n n′ l l′ : List ℕ) : Type 0 where
-  pub leaves : Leaves (readListing text) r n n′ l l′
 
 -- The tables n and l are what reading the text leaves: storing it would change nothing.
 unfoldable pub isLeft : Listing → List ℕ → List ℕ → Bool

@@ -1,5 +1,4 @@
-// Reading a program file into lent tables, and testing whether lent tables are what reading a text leaves. A refusal changes nothing
-// but the work table.
+// Copying the links of a program that was read to lent tables, and testing whether lent tables are what reading a text leaves.
 use reader::Count;
 use text::copy;
 use text::run;
@@ -9,15 +8,7 @@ ghost use Prim.Native.Nat.{_≤_};
 ghost use lib.ListN.{length};
 ghost use Rattle.reader.specs.Result.{Small};
 ghost use Rattle.rules.specs.Text.{same as sameNumbers};
-ghost use Rattle.program.specs.Lent.{ReadProgram, TablesLeft, copiedLinks, copiedNodes};
-
-// Copies the rows of the nodes.
-fn copy_nodes(work: &[usize], count: usize, nodes: &mut [usize])
-    requires { ⌜ count ≤ 512 ⌝ }
-    ensures { λ _. ⌜ now (nodes .exit) ≡ copiedNodes (now (work .entry)) count (now (nodes .entry)) ⌝ }
-{
-    copy(nodes, 0, run(work, 0, 4 * count));
-}
+ghost use Rattle.program.specs.Lent.{TablesLeft, copiedLinks, copiedNodes};
 
 // Copies the rows of the procedures and the edges, and the heads of the chains.
 pub fn copy_links(work: &[usize], had: Count, lent: &mut [usize])
@@ -31,26 +22,6 @@ pub fn copy_links(work: &[usize], had: Count, lent: &mut [usize])
     copy(lent, 0, run(from, 0, 7 * procs));
     copy(lent, 448, run(from, 448, 5 * edges));
     copy(lent, 5568, run(from, 5568, nodes));
-}
-
-// Reads a program file into the lent tables `nodes` and `lent` (the links). After a refusal they are as they were.
-pub fn read_program(
-    text: &[u8],
-    nodes: &mut [usize],
-    lent: &mut [usize],
-    work: &mut [usize],
-) -> Count
-    requires { ⌜ 8128 ≤ length (now work) ⌝ }
-    ensures { λ r. ⌜ ReadProgram (now (text .entry)) r (now (nodes .entry)) (now (nodes .exit)) (now (lent .entry)) (now (lent .exit)) ⌝ }
-{
-    let r = reader::read_into(text, work);
-    let number = r.number;
-    if number != 0 {
-        return r;
-    }
-    copy_nodes(work, r.nodes, nodes);
-    copy_links(work, r, lent);
-    r
 }
 
 // ---- are these tables what reading this text leaves

@@ -1,6 +1,6 @@
 // Writes the table of the fewest and the most edges that leave a node, a line for each kind: KIND,FEWEST,MOST. Then
 // reads the old and the new program file of each case in the file `cases`, and writes one line for the case: NAME,read, or, for the first of
-// the two that is refused, NAME,old,NUMBER,PLACE or NAME,new,NUMBER,PLACE. tools/reader_vectors.py makes the cases and the lines expected.
+// the two that is refused, NAME,old,NUMBER,PLACE or NAME,new,NUMBER,PLACE. tools/read_vectors.py makes the cases and the lines expected.
 //
 // A case is a head of 48 bytes, the bytes of the old text and the bytes of the new one. The head is `OLD NEW NAME`, blanks up to 47 bytes, and
 // byte 10: the lengths of the two texts, of six digits each, and a name of at most 32 bytes without blanks.

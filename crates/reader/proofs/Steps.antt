@@ -10,7 +10,7 @@ use lib.ListN.{length, getD, take, drop}
 use lib.Seq.{sets}
 use borrow.Author.Tests.{eqb-true, ltb-true, lt-ltb, le-ltb, leb-true, le-leb, lt-leb}
 use Rattle.laws.specs.Tests.{_and_, _or_, isnt, any, first, found}
-use Rattle.laws.specs.TestLaws.{and-left, and-right, and-both, or-left, or-right, fails, both-ways, true-isnt, false-isnt, same-test, any-of, any-at, first-at, first-none}
+use Rattle.laws.specs.TestLaws.{and-left, and-right, and-both, or-left, or-right, fails, both-ways, true-isnt, false-isnt, same-test, any-of, any-at, first-at, first-none, found-some}
 use Rattle.laws.specs.Lists.{choose-yes, choose-no}
 use Rattle.rules.specs.Text.{Bytes, same, isWord, value, maxProcs, maxEdges, Answer, refused, unless}
 use Rattle.rules.specs.Graph.{Kind, nameAt, ownerAt, procCount, nodeCount, edgeCount, kindNumber, leaves, edgeTaken}
@@ -48,10 +48,6 @@ after-same : (x y : Answer Listing) (r : Count) (w : List ℕ) → x ≡ y → A
 after-same x y r w e a = subst (λ (z : Answer Listing). After z r w) (sym e) a
 
 -- ---- what a look-up found
-
-pub found-some : (o : Option ℕ) → 0 < found o → (i : ℕ) × (o ≡ some i)
-found-some none h = absurd (let z : ⊥ = omega arith in z)
-found-some (some i) h = (i, refl)
 
 pub found-none : (o : Option ℕ) → found o ≤ 0 → o ≡ none
 found-none none h = refl

@@ -7,6 +7,7 @@ use lib.ListN.{length, getD, take, drop, length-take, length-drop}
 use lib.Seq.{length-take-le}
 use Rattle.laws.specs.Tests.{isnt}
 use Rattle.laws.specs.Slices.{drop-end, drop-next}
+use Rattle.laws.specs.TestLaws.{none-below}
 use Rattle.rules.specs.Text.{Bytes, empty, split, fieldsOf, Answer, refused, accepted, then, unless, readLines}
 use Rattle.rules.specs.ProgramFile.{Line, proc-line, node-line, edge-line, malformed, formOf, Listing, nothingRead, takeLine, stepProgram, finishProgram}
 use Rattle.rules.specs.Proofs.TextLaws.{split-cons}
@@ -41,9 +42,6 @@ pub record So (text : Bytes) (at n : ℕ) (c : Count) (w : List ℕ) : Type 0 wh
   pub known : Known text listing
   pub holds : Holds w c listing
   pub goes : wholeText text ≡ readLines stepProgram finishProgram n at listing (split 10 (drop at text))
-
-none-below : {X : Type 0} (n : ℕ) → n < 0 → X
-none-below n h = absurd (let z : ⊥ = omega arith in z)
 
 so-start : (text w : Bytes) → So text 0 1 (record { number = 0; place = 0; procs = 0; nodes = 0; edges = 0 }) w
 unfolding wholeText

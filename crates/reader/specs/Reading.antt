@@ -95,7 +95,7 @@ pub record LinkedEdge (text : Bytes) (n f start len t : ℕ) (c : Count) (w : Li
   pub linked : Linked text n f start len t c w r w′
   pub small : Small r
 
--- How far into its line a form reaches.
+-- The length that `step` adds to a place or stores with a line: of a name, of a callee, of the field before a word.
 abbrev pub spread : Form → ℕ
 spread Malformed = 0
 spread (Proc len) = len
@@ -134,14 +134,15 @@ Completes w c r = (s : Listing) → Sound (s .program) → Holds w c s → 0 < p
 
 -- ---- what the stores leave in the work table
 
--- The row of the procedure c.
+-- The first five numbers of the row of the procedure c.
 unfoldable pub storedProc : List ℕ → ℕ → ℕ → ℕ → ℕ → ℕ → ℕ → List ℕ
 storedProc w c start len line nodes edges = sets w (2048 + 7 * c) (start ∷ len ∷ line ∷ nodes ∷ edges ∷ [])
 
--- The row of the node c, with the head of its chain; an E or X is the entry or exit of the procedure q.
+-- An E or X is noted as the entry or exit of the procedure q.
 unfoldable pub marked : ℕ → ℕ → ℕ → List ℕ → List ℕ
 marked kind q c w = choose (eqb kind 0) (set w (2048 + 7 * q + 5) c) (choose (eqb kind 3) (set w (2048 + 7 * q + 6) c) w)
 
+-- The row of the node c, with the head of its chain.
 unfoldable pub storedNode : List ℕ → ℕ → ℕ → ℕ → ℕ → ℕ → ℕ → List ℕ
 storedNode w q c kind start len last = marked kind q c (set (sets w (4 * c) (kind ∷ start ∷ len ∷ last ∷ [])) (7616 + c) 0)
 
@@ -184,10 +185,11 @@ ResolvedNode text w procs n r w′ =
     (s : Listing) (c : Count) (w₀ : List ℕ) → Known text s → Holds w₀ c s → procs ≡ procCount (s .program) → n < nodeCount (s .program) → Partly w₀ w s n
     → (r ≡ 0 → Partly w₀ w′ s (n + 1)) × ((r ≡ 0 → ⊥) → (lost (s .program) n ≡ true) × (r ≡ suc (getD (s .places .nodeLines) n 0)))
 
--- `resolve`: 0 where all callees are known, else 1 + the line of the first that is not.
+-- The callees of the nodes below n are known.
 unfoldable pub ResolvedTo : Bytes → List ℕ → ℕ → ℕ → ℕ → List ℕ → Type 0
 ResolvedTo text w₀ procs nodes n w = (s : Listing) (c : Count) → Known text s → Holds w₀ c s → procs ≡ procCount (s .program) → nodes ≡ nodeCount (s .program) → Partly w₀ w s n
 
+-- `resolve`: 0 where all callees are known, else 1 + the line of the first that is not.
 unfoldable pub Resolved : Bytes → List ℕ → ℕ → ℕ → ℕ → List ℕ → Type 0
 Resolved text w₀ procs nodes r w =
     (s : Listing) (c : Count) → Known text s → Holds w₀ c s → procs ≡ procCount (s .program) → nodes ≡ nodeCount (s .program)

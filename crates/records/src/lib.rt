@@ -1,5 +1,5 @@
-// What callers lend beside texts and tables: the nodes of a program, one record after another, and the job. Only here are records behind a
-// reference: `load` and `save` carry nodes to and from a table of numbers, and all other work is done on numbers and on values.
+// What callers lend beside texts and tables: the nodes of a program, one record after another, and the job. Only here are node
+// records read and written: `load` and `save` carry them to and from a table of numbers, and all other work is done on numbers and on values.
 use text::clear;
 use text::get;
 use text::part;

@@ -18,7 +18,7 @@ module _ (old new : Program) (s : Sheet) where
   unfoldable pub rule2 : Bool
   rule2 = allPairs (alike old new) (s .M)
 
-  -- 3: for a listed pair of C nodes, the entries of their procedures are listed.
+  -- 3: for a listed pair of C nodes, the entries of the procedures that they call are listed.
   unfoldable pub entered : ℕ → ℕ → Bool
   entered n n′ = bothCall old new n n′ ⇒ listed (s .M) (entry old (called old n)) (entry new (called new n′))
 

@@ -5,7 +5,7 @@ use mathlib.Core.List.{List, []}
 use Prim.Native.Nat.{ℕ, zero, suc, _<_}
 use lib.Dec.{eqb}
 use lib.ListN.{length, getD}
-use Rattle.laws.specs.Tests.{_and_, _or_, _⇒_, isnt, every, any, those, anyOf, listed, anyPair, pick, grid}
+use Rattle.laws.specs.Tests.{_and_, _or_, _⇒_, choose, isnt, every, any, those, anyOf, listed, anyPair, pick, grid}
 use Rattle.rules.specs.Text.{same, Bytes}
 use Rattle.rules.specs.Graph.{C, Program, nodeCount, edgeCount, kindAt, labelAt, calleeAt, sourceAt, wordAt, targetAt, entry, exit, called, sameKind}
 
@@ -133,11 +133,6 @@ repeated old new suite = those (length suite) (λ i. meets (dangers old new) (ge
 pub data Mark : Type 0 where
   mark-0 mark-1 mark-? : Mark
 
--- The first mark where the test passes, else the second.
-abbrev pub chosen : Bool → Mark → Mark → Mark
-chosen true x y = x
-chosen false x y = y
-
 module _ (old new : Program) (coverage : Coverage) where
   -- The old edge e was crossed and has the new edge e′ as a counterpart; as its only one.
   unfoldable pub carries : ℕ → ℕ → Bool
@@ -149,5 +144,5 @@ module _ (old new : Program) (coverage : Coverage) where
   -- The mark of the new edge e′: `?` for a repeated test; else `0` if no old counterpart was crossed, `1` if some crossed one has it as only counterpart, else `?`.
   unfoldable pub mark : ℕ → Mark
   mark e′ =
-      chosen (meets (dangers old new) coverage) mark-?
-      (chosen (isnt (any (edgeCount old) (carries e′))) mark-0 (chosen (any (edgeCount old) (carriesOnly e′)) mark-1 mark-?))
+      choose (meets (dangers old new) coverage) mark-?
+      (choose (isnt (any (edgeCount old) (carries e′))) mark-0 (choose (any (edgeCount old) (carriesOnly e′)) mark-1 mark-?))

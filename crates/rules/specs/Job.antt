@@ -9,7 +9,7 @@ use Rattle.laws.specs.Tests.{after, choose}
 use Rattle.rules.specs.Text.{Answer, Bytes, accepted, maxPairs, refused, then}
 use Rattle.rules.specs.Graph.{Program, edgeCount, labelAt, nodeCount}
 use Rattle.rules.specs.ProgramFile.{Listing, readProgram}
-use Rattle.rules.specs.SuiteFile.{Suite, coverageAt, readSuite, testCount, testName}
+use Rattle.rules.specs.SuiteFile.{TestListing, Suite, coverageAt, readSuite, testCount, testName}
 use Rattle.rules.specs.Closing.{pairs}
 use Rattle.rules.specs.Sheet.{Sheet, readSheet, recordText, selected, sheetText}
 use Rattle.rules.specs.Check.{broken}
@@ -87,6 +87,9 @@ pub record Given : Type 0 where
   pub new : Program
   pub suite : Suite
 
+abbrev pub givenOf : Listing → Listing → TestListing → Given
+givenOf old new tests = record { old = old .program; new = new .program; suite = tests .suite }
+
 -- Reading the old program, the new one and the tests, in this order; the first refusal is the answer.
 unfoldable pub readJob : Bytes → Bytes → Bytes → Answer Given
 readJob old new tests =
@@ -120,8 +123,11 @@ unfoldable pub sheetAnswer : Bytes → Bytes → Bytes → ℕ → Outcome
 sheetAnswer old new tests room = outcome (readJob old new tests) (λ g. writing g room (sheetBytes g))
 
 -- Write the record line of the test i: 6 where there is none.
+abbrev pub recording : Given → ℕ → ℕ → Outcome
+recording g i room = choose (ltb i (testCount (g .suite))) (writing g room (recordBytes g i)) (refusal 6 0)
+
 unfoldable pub recordAnswer : Bytes → Bytes → Bytes → ℕ → ℕ → Outcome
-recordAnswer old new tests i room = outcome (readJob old new tests) (λ g. choose (ltb i (testCount (g .suite))) (writing g room (recordBytes g i)) (refusal 6 0))
+recordAnswer old new tests i room = outcome (readJob old new tests) (λ g. recording g i room)
 
 -- ---- checking
 
@@ -131,8 +137,11 @@ judged g s =
     choose (eqb (broken (g .old) (g .new) (g .suite .coverages) s) 0) passed (refusal 12 (broken (g .old) (g .new) (g .suite .coverages) s))
 
 -- Check a sheet.
+abbrev pub checking : Given → Bytes → Outcome
+checking g sheet = outcome (readSheet (g .old) (g .new) (g .suite) sheet) (judged g)
+
 unfoldable pub checkAnswer : Bytes → Bytes → Bytes → Bytes → Outcome
-checkAnswer old new tests sheet = outcome (readJob old new tests) (λ g. outcome (readSheet (g .old) (g .new) (g .suite) sheet) (judged g))
+checkAnswer old new tests sheet = outcome (readJob old new tests) (λ g. checking g sheet)
 
 -- ---- showing a label
 

@@ -23,7 +23,7 @@ use Rattle.versions.specs.Found.{found-none, none-found}
 use Rattle.versions.specs.Claims.{GoesOn, Taken}
 use Rattle.versions.proofs.Laws.{one-taken}
 use Rattle.selection.specs.Compared.{Compared, Fitting, ends-pair, partner-below}
-use Rattle.selection.specs.Dangers.{DangersMarked, Marks}
+use Rattle.selection.specs.Dangers.{Copies, DangersCopied}
 use Rattle.rules.specs.Proofs.ClosingLaws.{fits-ends, fits-of, fits-word}
 
 -- ---- walks along the pairs of an old node
@@ -97,7 +97,7 @@ module _ (on ol nn nl w : List ℕ) (e n m : ℕ) (g : Bool) (go : GoesOn on ol 
 
 pub ruleset fittings = (fitting-none, fitting-ends, fitting-not)
 
--- ---- `mark_dangers`
+-- ---- `copy_dangers`
 
 -- The first k words are those of the table.
 pub record CopiedTo (w s t : List ℕ) (k : ℕ) : Type 0 where
@@ -110,13 +110,13 @@ module _ (w s : List ℕ) where
   copy-start = record { bits = λ e l _. absurd (let z : ⊥ = omega arith in z); rest = refl; size = refl }
 
   module _ (t : List ℕ) (k : ℕ) (inv : CopiedTo w s t k) where
-    pub copy-short : k < 16 → length t ≤ k → DangersMarked w s t
-    unfolding Marks
-    copy-short l m = record { marks = λ old new d i. absurd (let z : ⊥ = omega (arith, inv .size) in z); rest = inv .rest; size = inv .size }
+    pub copy-short : k < 16 → length t ≤ k → DangersCopied w s t
+    unfolding Copies
+    copy-short l m = record { copies = λ old new d i. absurd (let z : ⊥ = omega (arith, inv .size) in z); rest = inv .rest; size = inv .size }
 
-    pub copy-end : 16 ≤ k → DangersMarked w s t
-    unfolding Marks
-    copy-end l = record { marks = λ old new d i. record { bits = λ e j. inv .bits e (omega arith) j ∙ d e }; rest = inv .rest; size = inv .size }
+    pub copy-end : 16 ≤ k → DangersCopied w s t
+    unfolding Copies
+    copy-end l = record { copies = λ old new d i. record { bits = λ e j. inv .bits e (omega arith) j ∙ d e }; rest = inv .rest; size = inv .size }
 
     pub copy-on : (x : ℕ) → x ≡ dangerWord w k → k < 16 → k < length t → CopiedTo w s (set t k x) (k + 1)
     unfolding bitIn

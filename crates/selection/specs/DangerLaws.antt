@@ -13,5 +13,4 @@ use Rattle.selection.specs.Dangers.{DangerSet}
 module _ (old new : Program) (set : List ℕ) (few : edgeCount old ≤ 1024) (h : DangerSet old new set) where
   -- A row that has an edge of the set is that of a test to repeat.
   pub row-meets : (rows : List ℕ) (i : ℕ) (coverage : Coverage) → Row (edgeCount old) rows i coverage → rowMeets rows set i ≡ meets (dangers old new) coverage
-  unfolding rowMeets
   row-meets rows i coverage r = common-meets (edgeCount old) rows i coverage few r set (dangers old new) (λ e l. h .bits e (omega arith)) (dangers-inside old new)

@@ -13,11 +13,11 @@ use Rattle.pairset.specs.Store.{dangerIn}
 pub record DangerSet (old new : Program) (set : List ℕ) : Type 0 where
   pub bits : (e : ℕ) → e < 1024 → bitIn set e ≡ has (dangers old new) e
 
--- `mark_dangers`: where the table holds the dangerous edges, the first 16 words are the set; what stands behind them stays.
-unfoldable pub Marks : List ℕ → List ℕ → List ℕ → Type 0
-Marks w set set′ = (old new : Program) → ((e : ℕ) → dangerIn w e ≡ has (dangers old new) e) → 16 ≤ length set → DangerSet old new set′
+-- `copy_dangers`: where the table holds the dangerous edges, the first 16 words are the set; what stands behind them stays.
+unfoldable pub Copies : List ℕ → List ℕ → List ℕ → Type 0
+Copies w set set′ = (old new : Program) → ((e : ℕ) → dangerIn w e ≡ has (dangers old new) e) → 16 ≤ length set → DangerSet old new set′
 
-pub record DangersMarked (w set set′ : List ℕ) : Type 0 where
-  pub marks : Marks w set set′
+pub record DangersCopied (w set set′ : List ℕ) : Type 0 where
+  pub copies : Copies w set set′
   pub rest : drop 16 set′ ≡ drop 16 set
   pub size : length set′ ≡ length set

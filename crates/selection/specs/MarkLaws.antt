@@ -8,10 +8,10 @@ use lib.Dec.{eqb}
 use lib.ListN.{getD, length, take}
 use lib.Seq.{sets, ext-getD, length-sets}
 use Rattle.laws.specs.Tests.{_and_, _or_, any, choose, isnt}
-use Rattle.laws.specs.TestLaws.{and-left, any-at, any-of}
+use Rattle.laws.specs.TestLaws.{and-left, any-at, any-of, or-swap}
 use Rattle.laws.specs.Slices.{below-or, take-sets-end, getD-sets-after, getD-sets-in}
 use Rattle.rules.specs.Graph.{Program, edgeCount}
-use Rattle.rules.specs.Closing.{Coverage, carries, carriesOnly, chosen, dangers, mark, mark-0, mark-1, mark-?, meets}
+use Rattle.rules.specs.Closing.{Coverage, carries, carriesOnly, dangers, mark, mark-0, mark-1, mark-?, meets}
 use Rattle.rules.specs.Sheet.{markByte, marksOf}
 use Rattle.rules.specs.Proofs.JobLaws.{marks-at, marks-length}
 use Rattle.selection.specs.Marks.{carried}
@@ -45,13 +45,7 @@ carried-more m c u d v = go c u d v (eqb m 48) refl
 -- What raises a mark `0`, in either order.
 pub carried-before : (m : ℕ) (c d : Bool) → carried (carried m d false) c false ≡ carried m (c or d) false
 unfolding _or_
-carried-before m c d = carried-more m d false c false ∙ ap (λ (t : Bool). carried m t false) (swap d c)
-  where
-    swap : (a b : Bool) → (a or b) ≡ (b or a)
-    swap true true = refl
-    swap true false = refl
-    swap false true = refl
-    swap false false = refl
+carried-before m c d = carried-more m d false c false ∙ ap (λ (t : Bool). carried m t false) (or-swap d c)
 
 -- An only counterpart is marked `1`, whether raised or not.
 pub carried-only : (m : ℕ) (c : Bool) → carried m c true ≡ 49
@@ -61,7 +55,7 @@ carried-only m c = refl
 -- ---- the mark at the end
 
 -- From `0`, after all old edges.
-end-byte : (c u : Bool) → (u ≡ true → c ≡ true) → carried 48 c u ≡ markByte (chosen (isnt c) mark-0 (chosen u mark-1 mark-?))
+end-byte : (c u : Bool) → (u ≡ true → c ≡ true) → carried 48 c u ≡ markByte (choose (isnt c) mark-0 (choose u mark-1 mark-?))
 unfolding carried choose _and_ isnt markByte
 end-byte true true h = refl
 end-byte true false h = refl
@@ -75,15 +69,15 @@ module _ (old new : Program) (coverage : Coverage) (x : ℕ) where
 
   pub mark-left : meets (dangers old new) coverage ≡ false
       → carried 48 (any (edgeCount old) (carries old new coverage x)) (any (edgeCount old) (carriesOnly old new coverage x)) ≡ markByte (mark old new coverage x)
-  unfolding mark
+  unfolding mark choose
   mark-left e =
       end-byte _ _ only-carries
-      ∙ sym (ap (λ (t : Bool). markByte (chosen t mark-? (chosen (isnt (any (edgeCount old) (carries old new coverage x))) mark-0 (chosen (any (edgeCount old) (carriesOnly old new coverage x)) mark-1 mark-?)))) e)
+      ∙ sym (ap (λ (t : Bool). markByte (choose t mark-? (choose (isnt (any (edgeCount old) (carries old new coverage x))) mark-0 (choose (any (edgeCount old) (carriesOnly old new coverage x)) mark-1 mark-?)))) e)
 
   pub mark-repeated : meets (dangers old new) coverage ≡ true → 63 ≡ markByte (mark old new coverage x)
-  unfolding mark markByte
+  unfolding mark markByte choose
   mark-repeated e =
-      sym (ap (λ (t : Bool). markByte (chosen t mark-? (chosen (isnt (any (edgeCount old) (carries old new coverage x))) mark-0 (chosen (any (edgeCount old) (carriesOnly old new coverage x)) mark-1 mark-?)))) e)
+      sym (ap (λ (t : Bool). markByte (choose t mark-? (choose (isnt (any (edgeCount old) (carries old new coverage x))) mark-0 (choose (any (edgeCount old) (carriesOnly old new coverage x)) mark-1 mark-?)))) e)
 
 -- ---- all marks
 

@@ -51,7 +51,7 @@ raised marks f = choose (ltb 0 f and eqb (getD marks (f - 1) 0) 48) (set marks (
 unfoldable pub markedOne : List ℕ → ℕ → List ℕ
 markedOne marks f = choose (ltb 0 f) (set marks (f - 1) 49) marks
 
--- `raise_all`: so do those of all counterparts of the old edge e.
+-- `raise_all`: each mark `0` of a counterpart of the old edge e becomes `?`.
 unfoldable pub Raises : List ℕ → List ℕ → List ℕ → List ℕ → List ℕ → ℕ → List ℕ → List ℕ → Type 0
 Raises on ol nn nl w e marks marks′ =
     (o p : Listing) (c : ℕ) → Compared on ol nn nl w c o p → e < edgeCount (o .program) → (x : ℕ) → x < length marks
@@ -61,7 +61,7 @@ pub record AllRaised (on ol nn nl w : List ℕ) (e : ℕ) (marks marks′ : List
   pub raises : Raises on ol nn nl w e marks marks′
   pub size : length marks′ ≡ length marks
 
--- The old edge e was crossed and has the new edge x as a counterpart, as its only one.
+-- The old edge e was crossed and has the new edge x as a counterpart; as its only one.
 abbrev pub carriesTo : Program → Program → Coverage → ℕ → ℕ → Bool
 carriesTo old new coverage x e = ltb x (edgeCount new) and carries old new coverage x e
 

@@ -1,10 +1,10 @@
-// What the pairs of two versions say of the tests: which old edges are dangerous, which tests are repeated, and the marks of a test.
+// What the pairs of two versions say: the set of the dangerous old edges, and the marks of a test.
 ghost use mathlib.Core.Path.{_≡_};
 ghost use Prim.Native.Nat.{_≤_};
 ghost use lib.ListN.{replicate};
 ghost use lib.Seq.{sets};
 ghost use Rattle.selection.specs.Compared.{Fitting};
-ghost use Rattle.selection.specs.Dangers.{DangersMarked};
+ghost use Rattle.selection.specs.Dangers.{DangersCopied};
 ghost use Rattle.selection.specs.Marks.{AllCarried, AllRaised, Carried, Joins, MarksFound, Only, differs, eitherOf, markedOne, raised};
 
 // ---- an old edge at a pair
@@ -29,8 +29,8 @@ fn fitting(ol: &[usize], nl: &[usize], w: &[usize], e: usize, m: usize) -> usize
 // ---- dangerous edges
 
 // Makes the set that of the dangerous edges in the table of the pairs.
-pub fn mark_dangers(w: &[usize], set: &mut [u64])
-    ensures { λ _. ⌜ DangersMarked (now (w .entry)) (now (set .entry)) (now (set .exit)) ⌝ }
+pub fn copy_dangers(w: &[usize], set: &mut [u64])
+    ensures { λ _. ⌜ DangersCopied (now (w .entry)) (now (set .entry)) (now (set .exit)) ⌝ }
 {
     let mut k = 0;
     while k < 16 {

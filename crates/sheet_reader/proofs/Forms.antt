@@ -2,11 +2,10 @@
 use mathlib.Core.Path.{_≡_, refl, sym, ap, _∙_}
 use mathlib.Core.Bool.{Bool, true, false}
 use mathlib.Core.List.{List, [], _∷_, _++_}
-use Prim.Native.Nat.{ℕ, _+_, _-_, _≤_, _<_, min}
+use Prim.Native.Nat.{ℕ, _+_, _≤_, _<_, min}
 use native.Mathlib.Omega.{arith}
 use lib.Dec.{eqb}
 use lib.ListN.{length, take, drop, take-append-drop}
-use lib.Seq.{length-take-le}
 use Rattle.laws.specs.Tests.{_and_, choose}
 use Rattle.laws.specs.TestLaws.{both-ways}
 use Rattle.laws.specs.Slices.{below-or}
@@ -17,7 +16,6 @@ use Rattle.rules.specs.Proofs.TextLaws.{join-split, name-free, number-free, sam
 use Rattle.text.specs.NumberLaws.{a-number, no-number, number-kept}
 use Rattle.text.specs.Scans.{span}
 use Rattle.text.specs.SplitLaws.{cut, first-last, first-more, uncut}
-use Rattle.text.proofs.Laws.{after-in}
 use Rattle.sheet_reader.specs.declared.Form.{Form}
 use Rattle.sheet_reader.specs.declared.Form.the-variants.{Edge, End, Head, Nothing, Pair, Test}
 use Rattle.sheet_reader.specs.Forms.{shape}
@@ -56,39 +54,34 @@ unfolding sheetForm choose same _and_
 m-more a b c [] = refl
 m-more a b c (d ∷ ds) = refl
 
-pub front-long : (n : ℕ) (s : Bytes) → n < length s → length (take n s) ≡ n
-front-long n s h = length-take-le n s (omega arith)
-
-module _ (s : Bytes) (n : ℕ) (en : n ≡ span 44 s) where
-  pub pair-one : length s ≤ n → Nothing ≡ shape (sheetForm ((77 ∷ []) ∷ split 44 s))
+module _ (s a : Bytes) (ea : a ≡ take (span 44 s) s) where
+  pub pair-one : length s ≤ length a → Nothing ≡ shape (sheetForm ((77 ∷ []) ∷ split 44 s))
   unfolding sheetForm shape choose same _and_
-  pair-one h = sym (simp (uncut 44 s n en h))
+  pair-one h = sym (simp (first-last 44 s a ea h))
 
-  module _ (h : n < length s) (i : ℕ) (p : i ≡ choose (isNumber (take n s)) (min (valueFrom 0 (take n s)) 65536) 65537) where
-    cut-pair : split 44 s ≡ take n s ∷ split 44 (take (length s - (n + 1)) (drop (n + 1) s))
-    cut-pair = cut 44 s (take n s) (take (length s - (n + 1)) (drop (n + 1) s)) n en h refl (after-in s (n + 1))
-
+  module _ (h : length a < length s) (i : ℕ) (p : i ≡ choose (isNumber a) (min (valueFrom 0 a) 65536) 65537) where
     pub pair-first : 65536 < i → Nothing ≡ shape (sheetForm ((77 ∷ []) ∷ split 44 s))
     unfolding shape
-    pair-first k = sym (simp (cut-pair, m-first (take n s) (split 44 (take (length s - (n + 1)) (drop (n + 1) s))) (no-number (take n s) i p k)))
+    pair-first k =
+        let rest = drop (length a + 1) s in
+        sym (simp (first-more 44 s a ea rest h refl, m-first a (split 44 rest) (no-number a i p k)))
 
-    module _ (k : i ≤ 65536) (b : Bytes) (eb : b ≡ take (length s - (n + 1)) (drop (n + 1) s)) (j : ℕ) (q : j ≡ choose (isNumber b) (min (valueFrom 0 b) 65536) 65537) where
-      fields : split 44 s ≡ take n s ∷ split 44 b
-      fields = cut-pair ∙ ap (λ (x : Bytes). take n s ∷ split 44 x) (sym eb)
+    module _ (k : i ≤ 65536) (b : Bytes) (eb : b ≡ drop (length a + 1) s) (j : ℕ) (q : j ≡ choose (isNumber b) (min (valueFrom 0 b) 65536) 65537) where
+      fields : split 44 s ≡ a ∷ split 44 b
+      fields = first-more 44 s a ea b h eb
 
       pub pair-second : 65536 < j → Nothing ≡ shape (sheetForm ((77 ∷ []) ∷ split 44 s))
       unfolding sheetForm shape choose same _and_
       pair-second l =
           pieces b
-          (λ e. sym (simp (fields, e, a-number (take n s) i p k, no-number b j q l)))
-          (λ x y ys e. sym (ap (λ (ps : List Bytes). shape (sheetForm ((77 ∷ []) ∷ ps))) (fields ∙ ap (λ (ps : List Bytes). take n s ∷ ps) e) ∙ ap shape (m-more (take n s) x y ys)))
+          (λ e. sym (simp (fields, e, a-number a i p k, no-number b j q l)))
+          (λ x y ys e. sym (ap (λ (ps : List Bytes). shape (sheetForm ((77 ∷ []) ∷ ps))) (fields ∙ ap (λ (ps : List Bytes). a ∷ ps) e) ∙ ap shape (m-more a x y ys)))
 
       pub pair-both : j ≤ 65536 → Pair i j ≡ shape (sheetForm ((77 ∷ []) ∷ split 44 s))
       unfolding sheetForm shape choose same _and_
-      pair-both l =
-          sym (simp (fields, number-whole b j q l, a-number (take n s) i p k, a-number b j q l, ← number-kept (take n s) i p k, ← number-kept b j q l))
+      pair-both l = sym (simp (fields, number-whole b j q l, a-number a i p k, a-number b j q l, ← number-kept a i p k, ← number-kept b j q l))
 
-pub ruleset pairForms = (front-long, pair-one, pair-first, pair-second, pair-both)
+pub ruleset pairForms = (pair-one, pair-first, pair-second, pair-both)
 
 -- ---- `edge`, `test`
 

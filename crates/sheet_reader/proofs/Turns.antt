@@ -2,7 +2,7 @@
 -- whole sheet reads to is what its rest from `at` on reads to after what the state and the tables hold.
 use mathlib.Core.Path.{_≡_, refl, sym, ap, ap₂, _∙_, subst}
 use mathlib.Core.Bool.{true, false, true≢false}
-use mathlib.Core.List.{List, [], _∷_}
+use mathlib.Core.List.{List, _∷_}
 use Prim.Native.Nat.{ℕ, suc, _+_, _-_, _≤_, _<_}
 use native.Mathlib.Numerals.{add-one}
 use native.Mathlib.Omega.{arith}
@@ -18,7 +18,7 @@ use Rattle.rules.specs.Graph.{Program}
 use Rattle.rules.specs.SuiteFile.{Suite}
 use Rattle.rules.specs.Sheet.{Sheet, SheetLine, SheetRead, d-line, end-line, finishSheet, head-line, m-line, noSheet, no-form, r-line, readSheet, sheetForm, stepSheet, takeSheetLine}
 use Rattle.rules.specs.Proofs.SheetLayout.{SheetFormed, sheet-formed}
-use Rattle.rules.specs.Proofs.TextLaws.{join-split, split-cons}
+use Rattle.rules.specs.Proofs.TextLaws.{join-split, split-cons, empty-not}
 use Rattle.text.specs.Scans.{span}
 use Rattle.text.specs.SplitLaws.{cut-at, uncut-at}
 use Rattle.pairset.specs.Store.{Emptied, Empties}
@@ -240,11 +240,6 @@ module _ (olds news edges : ℕ) (tt : Bytes) (table : List ℕ) (count : ℕ) (
         wide = refl;
         so = λ old new suite for fresh. record { s = noSheet; hold = subst (λ (c : State). Holds w sets c noSheet) (sym e) (none-held w sets fresh); goes = refl };
       }
-
-  empty-not : (s : Bytes) → 0 < length s → empty s ≡ false
-  unfolding empty
-  empty-not [] h = absurd (let z : ⊥ = omega arith in z)
-  empty-not (x ∷ s) h = refl
 
   module _ (w₀ sets₀ : List ℕ) (at n : ℕ) (c : State) (w sets : List ℕ) (head : Head olds news edges tt table count sheet w₀ sets₀ at n c w sets) (rest : Bytes) (er : rest ≡ drop at sheet) (len : ℕ) (e : len ≡ span 10 rest) where
     -- The last line is not ended.

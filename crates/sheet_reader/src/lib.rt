@@ -67,15 +67,15 @@ pub enum Form {
 fn pair(s: &[u8]) -> Form
     ensures { λ r. ⌜ r ≡ shape (sheetForm ((77 ∷ []) ∷ split 44 (now (s .entry)))) ⌝ }
 {
-    let n = text::find_short(s, 44);
-    if s.len() <= n {
+    let a = text::first_short(s, 44);
+    if s.len() <= a.len() {
         return Form::Nothing;
     }
-    let i = text::number(&s[..n]);
+    let i = text::number(a);
     if 65536 < i {
         return Form::Nothing;
     }
-    let j = text::number(&s[n + 1..]);
+    let j = text::number(text::after(s, a.len() + 1));
     if 65536 < j {
         return Form::Nothing;
     }

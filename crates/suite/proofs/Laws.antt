@@ -15,7 +15,7 @@ use Rattle.laws.specs.Tests.{_and_, count, first, found}
 use Rattle.laws.specs.TestLaws.{and-both, and-left, and-right}
 use Rattle.laws.specs.Counting.{count-few}
 use Rattle.laws.specs.Slices.{drop-end, sets-more, part-short}
-use Rattle.laws.specs.Bits.{bitAt, bitIn, wordOf, wordsOf, bit-and, count-word, first-word, first-no-word}
+use Rattle.laws.specs.Bits.{bitAt, bitIn, wordOf, wordsOf, bit-and, count-word, first-word, first-no-word, zeros-fit}
 use Rattle.laws.specs.BitSets.{word-bit}
 use Rattle.rules.specs.Text.{Bytes, allBytes}
 use Rattle.rules.specs.SuiteFile.{bitsOf, hexByte, hexValue, odd}
@@ -26,9 +26,6 @@ use Rattle.suite.specs.Rows.{edgeBit, rowCommon, rowMeets, rowOnes, stor
 
 pub ones-fit : (w : ℕ) → w < 2 ^ 64 → ones w < 2 ^ 64
 ones-fit w h = omega (arith, ones-le 64 w h)
-
-pub zeros-fit : (w : ℕ) → trailingZeros 64 w < 2 ^ 64
-zeros-fit w = omega (arith, trailing-le 64 w)
 
 pub ruleset words = (get-out, put-out, ones-fit, zeros-fit)
 

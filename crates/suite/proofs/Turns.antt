@@ -11,9 +11,10 @@ use lib.Seq.{length-take-le, take-at}
 use borrow.Author.Tests.{le-ltb, lt-ltb}
 use Rattle.laws.specs.Tests.{isnt}
 use Rattle.laws.specs.Slices.{drop-end, part-part}
+use Rattle.laws.specs.TestLaws.{none-below}
 use Rattle.rules.specs.Text.{Answer, Bytes, accepted, empty, joinBy, readLines, readText, refused, split, then, unless}
 use Rattle.rules.specs.SuiteFile.{TestLine, TestListing, finishSuite, no-test, noTests, readTests, stepSuite, takeTest, test-line, testForm}
-use Rattle.rules.specs.Proofs.TextLaws.{accepted-same, join-split, split-cons, unless-accepted}
+use Rattle.rules.specs.Proofs.TextLaws.{accepted-same, join-split, split-cons, unless-accepted, empty-not}
 use Rattle.rules.specs.Proofs.SuiteLaws.{TestFormed, test-formed}
 use Rattle.text.specs.Scans.{span}
 use Rattle.text.specs.SplitLaws.{cut-at, uncut-at}
@@ -73,9 +74,6 @@ pub record Head (m : ℕ) (text : Bytes) (f₀ t₀ w₀ : List ℕ) (at n c : �
   pub wide : length w ≡ length w₀
   pub so : So m text at n c f t w
 
-none-below : {X : Type 0} (i : ℕ) → i < 0 → X
-none-below i h = absurd (let z : ⊥ = omega arith in z)
-
 pub head-start : (m : ℕ) (text : Bytes) (f t w : List ℕ) → Head m text f t w 0 1 0 f t w
 unfolding Marked
 head-start m text f t w =
@@ -100,11 +98,6 @@ lines-more : (m n at : ℕ) (l : TestListing) (line : Bytes) (ps : List Bytes) (
 unfolding readLines
 lines-more m n at l line ps p qs e =
     subst (λ (x : List Bytes). linesFrom m n at l (line ∷ x) ≡ then (stepSuite m n at l line) (λ s. linesFrom m (suc n) (at + length line + 1) s x)) (sym e) refl
-
-empty-not : (s : Bytes) → 0 < length s → empty s ≡ false
-unfolding empty
-empty-not [] h = absurd (let z : ⊥ = omega arith in z)
-empty-not (x ∷ s) h = refl
 
 module _ (m : ℕ) (text : Bytes) (f₀ t₀ w₀ : List ℕ) (at n c : ℕ) (f t w : List ℕ) (head : Head m text f₀ t₀ w₀ at n c f t w) (rest : Bytes) (er : rest ≡ drop at text) (len : ℕ) (e : len ≡ span 10 rest) where
   -- The last line is not ended.

@@ -5,11 +5,10 @@ use mathlib.Core.Option.{Option, none, some}
 use mathlib.Core.List.{List}
 use Prim.Native.Nat.{ℕ, _+_, _-_, _≤_, _<_}
 use native.Mathlib.Omega.{arith}
-use lib.Dec.{ltb}
 use lib.ListN.{take, drop}
 use borrow.Author.Tests.{lt-ltb, ltb-true}
 use Rattle.laws.specs.Tests.{_and_, first, count, found, has}
-use Rattle.laws.specs.TestLaws.{and-left, and-right, and-both, anyOf-at, anyOf-of, first-at, first-none, same-test}
+use Rattle.laws.specs.TestLaws.{and-left, and-right, and-both, anyOf-at, anyOf-of, first-at, first-none, same-test, found-some}
 use Rattle.laws.specs.Lists.{count-agree}
 use Rattle.laws.specs.Counting.{first-agree}
 use Rattle.laws.specs.Bits.{bitIn, count-within, first-within}
@@ -19,7 +18,7 @@ use Rattle.rules.specs.SuiteFile.{TestListing, readSuite, readTests, testCount,
 use Rattle.rules.specs.Proofs.SuiteLaws.{SoundSuite, suite-sound}
 use Rattle.rules.specs.Proofs.TextLaws.{then-passes}
 use Rattle.rules.specs.Proofs.Places.{part-is, tests-placed}
-use Rattle.suite.specs.Rows.{Holds, Row, edgeBit, rowCommon, rowOnes}
+use Rattle.suite.specs.Rows.{rowMeets, Holds, Row, edgeBit, rowCommon, rowOnes}
 use Rattle.suite.specs.Reading.{nameAt}
 
 module _ (m : ℕ) (rows : List ℕ) (i : ℕ) (coverage : Coverage) (few : m ≤ 1024) (row : Row m rows i coverage) where
@@ -49,17 +48,13 @@ module _ (m : ℕ) (rows : List ℕ) (i : ℕ) (coverage : Coverage) (few : m �
         ∙ first-within f m (1024 - m) (λ e a b. ap (λ (t : Bool). t and bitIn set e) (row .spare e a (omega arith)))
         ∙ first-agree f both m (λ e h. ap (λ (t : Bool). t and bitIn set e) (row .edges e h)))
 
-    found-some : (o : Option ℕ) → 0 < found o → (e : ℕ) × (o ≡ some e)
-    found-some none h = absurd (let z : ⊥ = omega arith in z)
-    found-some (some e) h = (e, refl)
-
-    found-none : (o : Option ℕ) → (o ≡ none → ⊥) → 0 < found o
-    found-none none h = absurd (h refl)
-    found-none (some e) h = omega arith
+    found-one : (o : Option ℕ) → (o ≡ none → ⊥) → 0 < found o
+    found-one none h = absurd (h refl)
+    found-one (some e) h = omega arith
 
     -- One is found exactly if the coverage holds an edge of the list, where the set has the edges of the list.
-    pub common-meets : (D : List ℕ) → ((e : ℕ) → e < m → bitIn set e ≡ has D e) → ((e : ℕ) → has D e ≡ true → e < m) → ltb 0 (rowCommon rows i set) ≡ meets D coverage
-    unfolding meets
+    pub common-meets : (D : List ℕ) → ((e : ℕ) → e < m → bitIn set e ≡ has D e) → ((e : ℕ) → has D e ≡ true → e < m) → rowMeets rows set i ≡ meets D coverage
+    unfolding meets rowMeets
     common-meets D is inside =
         same-test _ _
         (λ t.
@@ -69,7 +64,7 @@ module _ (m : ℕ) (rows : List ℕ) (i : ℕ) (coverage : Coverage) (few : m �
         (λ t.
         let a = anyOf-at (holds coverage) D t in
         let l : a .0 < m = inside (a .0) (a .1) in
-        let p : 0 < found (first m both) = found-none (first m both) (λ n. first-none both m n (a .0) l (and-both (a .2) (is (a .0) l ∙ a .1))) in
+        let p : 0 < found (first m both) = found-one (first m both) (λ n. first-none both m n (a .0) l (and-both (a .2) (is (a .0) l ∙ a .1))) in
         lt-ltb 0 (rowCommon rows i set) (omega (arith, common-is)))
 
 -- The part of the text that the table gives as a test's name is its name.

@@ -36,7 +36,7 @@ pub record Holds (m : ℕ) (tests rows : List ℕ) (n : ℕ) (l : TestListing) :
 unfoldable pub turn : ℕ → ℕ
 turn w = bitAnd w 1229782938247303441 * 8 + bitAnd w 2459565876494606882 * 2 + bitAnd w 4919131752989213764 / 2 + bitAnd w 9838263505978427528 / 8
 
--- `store_row`: the row of the test i is that of the digits, whatever they are.
+-- `store_row`: the row of the test i is that of the digits.
 unfoldable pub storedRow : List ℕ → ℕ → Bytes → List ℕ
 storedRow rows i row = sets rows (16 * i) (wordsOf 16 (bitsOf row))
 

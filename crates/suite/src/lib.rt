@@ -457,7 +457,7 @@ pub fn ones(rows: &[u64], test: usize) -> usize
 }
 
 // 1 + the lowest edge that the test covers and the set has, or 0.
-pub fn first_common(rows: &[u64], test: usize, set: &[u64]) -> usize
+fn first_common(rows: &[u64], test: usize, set: &[u64]) -> usize
     requires { ⌜ test ≤ 200 ⌝ }
     ensures { λ r. ⌜ r ≡ rowCommon (now (rows .entry)) test (now (set .entry)) ⌝ }
 {

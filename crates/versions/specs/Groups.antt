@@ -1,6 +1,6 @@
 -- Groups of the nodes of one program, by which alike nodes are told without their labels: a table that has, for a node, 1 + a node that is alike to it, or 0. Nodes
 -- with one number are alike to the same nodes. Which nodes have one number is left open: nodes with two numbers may be alike too.
-use mathlib.Core.Path.{_≡_, sym, ap, _∙_}
+use mathlib.Core.Path.{_≡_}
 use mathlib.Core.Bool.{Bool, true}
 use mathlib.Core.List.{List}
 use Prim.Native.Nat.{ℕ, _-_, _<_}

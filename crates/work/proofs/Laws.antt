@@ -13,24 +13,23 @@ use Rattle.rules.specs.Graph.{Program, edgeCount}
 use Rattle.rules.specs.ProgramFile.{Listing}
 use Rattle.rules.specs.SuiteFile.{coverageAt, readTests, testCount}
 use Rattle.rules.specs.Closing.{pairs}
-use Rattle.rules.specs.Job.{Given, recordBytes, refusal, sheetBytes, writing}
+use Rattle.rules.specs.Job.{Given, recordBytes, recording, refusal, sheetBytes, writing}
 use Rattle.rules.specs.Proofs.ReadBack.{selected-short}
 use Rattle.answer.specs.declared.Answer.{Answer}
 use Rattle.answer.specs.Outcomes.{Told, refusal-told, told-as}
 use Rattle.versions.specs.Memory.{InMemory, Memory, memory}
 use Rattle.versions.specs.MemoryLaws.{sound}
 use Rattle.closure.specs.Claims.{Closes, Found, Sized}
-use Rattle.selection.specs.Dangers.{DangersMarked, Marks}
+use Rattle.selection.specs.Dangers.{Copies, DangersCopied}
 use Rattle.selection.specs.DangerLaws.{row-meets}
 use Rattle.selection.specs.Marks.{Finds, MarksFound}
 use Rattle.selection.specs.MarkLaws.{marks-front}
 use Rattle.suite.specs.Rows.{Holds, rowMeets}
 use Rattle.suite.specs.RowLaws.{suite-read}
 use Rattle.writer.specs.Sheets.{RecordWrites, RecordWritten, SheetWrites, SheetWritten, selection, writing-written}
-use Rattle.writer.specs.Sheets as writer
 use Rattle.intake.specs.declared.Texts.{Texts}
 use Rattle.intake.specs.Ready.{Few, Ready}
-use Rattle.work.specs.Work.{Chosen, Done, RecordDone, RecordFrom, Selected, Selects, SheetDone, recording}
+use Rattle.work.specs.Work.{Chosen, Done, RecordDone, RecordFrom, Selected, Selects, SheetDone}
 
 -- ---- `select`
 
@@ -52,13 +51,13 @@ module _ (v v′ : Memory) (w w′ : List ℕ) (c : ℕ) (h : Sized w w′ (Clos
         set-size = refl;
       }
 
-  pub select-few : (set set′ : List ℕ) → c ≤ 4096 → DangersMarked w′ set set′ → Selected v v′ w w′ set set′ c
-  unfolding Selects Marks
+  pub select-few : (set set′ : List ℕ) → c ≤ 4096 → DangersCopied w′ set set′ → Selected v v′ w w′ set set′ c
+  unfolding Selects Copies
   select-few set set′ m d =
       record {
         selects = λ o p io ip l k.
             let f = found o p io ip l in
-            record { answer = f .answer; held = f .held; marked = λ n. d .marks (o .program) (p .program) (f .marked m) k };
+            record { answer = f .answer; held = f .held; marked = λ n. d .copies (o .program) (p .program) (f .marked m) k };
         size = h .size;
         set-size = d .size;
       }

@@ -2,15 +2,14 @@
 use mathlib.Core.Path.{_≡_}
 use mathlib.Core.List.{List}
 use Prim.Native.Nat.{ℕ, _≤_, _<_}
-use lib.Dec.{leb, ltb}
+use lib.Dec.{leb}
 use lib.ListN.{length}
 use Rattle.laws.specs.Tests.{choose}
 use Rattle.rules.specs.Text.{Bytes, maxPairs}
 use Rattle.rules.specs.Graph.{Program}
 use Rattle.rules.specs.ProgramFile.{Listing}
-use Rattle.rules.specs.SuiteFile.{testCount}
 use Rattle.rules.specs.Closing.{pairs}
-use Rattle.rules.specs.Job.{Given, Outcome, recordBytes, refusal, sheetBytes, writing}
+use Rattle.rules.specs.Job.{Given, recording, sheetBytes, writing}
 use Rattle.answer.specs.declared.Answer.{Answer}
 use Rattle.answer.specs.Outcomes.{Told}
 use Rattle.versions.specs.Memory.{InMemory, Memory, memory}
@@ -34,10 +33,6 @@ pub record Selected (v v′ : Memory) (w w′ set set′ : List ℕ) (r : ℕ) :
   pub selects : Selects v v′ w w′ set set′ r
   pub size : length w′ ≡ length w
   pub set-size : length set′ ≡ length set
-
--- The record line of the test i: 6 where there is none.
-abbrev pub recording : Given → ℕ → ℕ → Outcome
-recording g i room = choose (ltb i (testCount (g .suite))) (writing g room (recordBytes g i)) (refusal 6 0)
 
 -- `write_sheet`: the sheet, 15 or 16.
 unfoldable pub SheetDone : Memory → Memory → Bytes → List ℕ → List ℕ → Texts → List ℕ → Bytes → Answer → Bytes → Type 0

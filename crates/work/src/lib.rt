@@ -24,7 +24,7 @@ pub fn select(
     if 4096 < c {
         return c;
     }
-    selection::mark_dangers(w, set);
+    selection::copy_dangers(w, set);
     c
 }
 

@@ -7,7 +7,7 @@ use native.Mathlib.Omega.{arith}
 use lib.ListN.{length, getD, take, length-take}
 use lib.Seq.{take-all}
 use borrow.Author.Tests.{le-ltb, leb-true, lt-ltb}
-use Rattle.laws.specs.Tests.{_and_, count, has, listed, pick, grid, those}
+use Rattle.laws.specs.Tests.{count, has, listed, pick, grid, those}
 use Rattle.laws.specs.TestLaws.{and-left, and-right, grid-ascends, grid-of, pick-ascends, pick-at, pick-of, same-test}
 use Rattle.laws.specs.Lists.{choose-no, choose-yes}
 use Rattle.laws.specs.Those.{those-agree, those-count}
@@ -86,7 +86,7 @@ module _ (old new : Program) (set : List ℕ) (few : edgeCount old ≤ 1024) (is
     again = repeated old new (l .suite .coverages)
 
     rows-repeated : those n (rowMeets rows set) ≡ again
-    unfolding repeated rowMeets
+    unfolding repeated
     rows-repeated =
         let q : n ≡ length (l .suite .coverages) = hold .counted ∙ sym (suite-read (edgeCount old) text l e .paired) in
         those-agree (rowMeets rows set) (λ i. meets (dangers old new) (coverageAt (l .suite) i)) n

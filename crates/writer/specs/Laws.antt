@@ -10,9 +10,9 @@ use native.Mathlib.Nat.{add-zero, add-suc}
 use native.Mathlib.Omega.{arith}
 use lib.Dec.{leb}
 use borrow.Author.Tests.{eqb-true, le-leb, leb-true}
-use Rattle.laws.specs.Tests.{_and_, _or_, first, found, gridRow, has, ifTrue, keep, listed, orElse, pick, those}
-use Rattle.laws.specs.TestLaws.{Ascending, Before, and-both, and-left, and-right, asc-more, asc-none, both-ways, eqb-self, fails, first-at, first-none, or-cases, or-left, or-right, same-test}
-use Rattle.laws.specs.Lists.{none-listed}
+use Rattle.laws.specs.Tests.{_and_, first, found, gridRow, has, ifTrue, keep, listed, orElse, pick, those}
+use Rattle.laws.specs.TestLaws.{Ascending, Before, and-both, and-left, and-right, asc-more, asc-none, both-ways, eqb-self, fails, first-at, first-none, or-cases, or-left, same-test}
+use Rattle.laws.specs.Lists.{none-listed, listed-rest}
 use Rattle.laws.specs.Those.{those-agree, those-has}
 use Rattle.rules.specs.Text.{Bytes, textOf}
 
@@ -146,10 +146,6 @@ listed-cases : (x : ℕ × ℕ) (l : List (ℕ × ℕ)) (n k : ℕ) → listed (
 unfolding listed
 listed-cases x l n k t = ⊎-elim (λ u. inl (eqb-true _ _ (and-left _ _ u), eqb-true _ _ (and-right _ _ u))) (λ u. inr u) (or-cases _ _ t)
 
-listed-later : (x : ℕ × ℕ) (l : List (ℕ × ℕ)) (n k : ℕ) → listed l n k ≡ true → listed (x ∷ l) n k ≡ true
-unfolding listed
-listed-later x l n k t = or-right _ t
-
 -- No pair stands before itself, and of two only one before the other.
 before-once : (a b n k : ℕ) → Before (a, b) (n, k) → Before (n, k) (a, b) → ⊥
 before-once a b n k p q = ⊎-elim (λ u. ⊎-elim (λ v. let z : ⊥ = omega arith in z) (λ v. let z : ⊥ = omega (arith, v .0) in z) q) (λ u. ⊎-elim (λ v. let z : ⊥ = omega (arith, u .0) in z) (λ v. let z : ⊥ = omega (arith, u .1, v .1) in z) q) p
@@ -185,5 +181,5 @@ asc-same (asc-more {x = x} {l = l} f p) (asc-more {x = y} {l = m} g q) h =
     rest-same : (n k : ℕ) → listed l n k ≡ listed m n k
     rest-same n k =
         same-test _ _
-        (λ t. ⊎-elim (λ u. absurd (later n k (f n k t) u)) (λ u. u) (listed-cases y m n k (sym (h n k) ∙ listed-later x l n k t)))
-        (λ t. ⊎-elim (λ u. absurd (later-back n k (g n k t) u)) (λ u. u) (listed-cases x l n k (h n k ∙ listed-later y m n k t)))
+        (λ t. ⊎-elim (λ u. absurd (later n k (f n k t) u)) (λ u. u) (listed-cases y m n k (sym (h n k) ∙ listed-rest x l n k t)))
+        (λ t. ⊎-elim (λ u. absurd (later-back n k (g n k t) u)) (λ u. u) (listed-cases x l n k (h n k ∙ listed-rest y m n k t)))

@@ -1,5 +1,5 @@
-//! The test selector three ways: an implementation of its own, the calls of
-//! the linked library, and jobs to compare the two on.
+//! Two implementations of the test selector behind the same calls, an
+//! independent one and the linked library, and jobs to compare them on.
 
 pub mod answer;
 pub mod calls;

@@ -1,4 +1,4 @@
--- `label_shown` is safe and ends: a walk of its code, by hand. The local job and records are lent to the call, and come back; the part that it answers is of a text.
+-- `label_shown` is safe and ends: a walk of its code, written by tools/walk.py. The local job and records are lent to the call, and come back; the part that it answers is of a text.
 use mathlib.Core.Path.{refl}
 use Prim.Native.Nat.{ℕ, _<_, _≤_, _^_}
 use mathlib.Core.List.{[], _∷_, List}

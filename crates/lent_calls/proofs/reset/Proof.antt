@@ -1,4 +1,4 @@
--- `reset` is safe and ends: a walk of its code, by hand. The local job is lent to the call and comes back.
+-- `reset` is safe and ends: a walk of its code, written by tools/walk.py. The local job is lent to the call and comes back.
 use mathlib.Core.Path.{refl}
 use Prim.Native.Nat.{ℕ}
 use mathlib.Core.List.{[], _∷_}

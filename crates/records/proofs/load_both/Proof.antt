@@ -1,4 +1,4 @@
--- `load_both` meets its contract: a walk of its code, by hand. All that it knows of `load` is that it meets its contract.
+-- `load_both` meets its contract: a walk of its code, written by tools/walk.py. All that it knows of `load` is that it meets its contract.
 use mathlib.Core.Path.{_≡_, refl, _∙_, ap}
 use Prim.Native.Nat.{ℕ, _<_}
 use mathlib.Core.List.{[], _∷_, List}

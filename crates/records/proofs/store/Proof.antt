@@ -1,4 +1,4 @@
--- `store` meets its contract: a walk of its code, by hand. All that it knows of `save` and of `clear` is that they meet their contracts.
+-- `store` meets its contract: a walk of its code, written by tools/walk.py. All that it knows of `save` and of `clear` is that they meet their contracts.
 -- The scratch is lent as `&` to the first call, and goes to the second at its own lifetime; the records go to the first at theirs.
 use mathlib.Core.Path.{_≡_, refl}
 use Prim.Native.Nat.{ℕ, _<_, _^_}

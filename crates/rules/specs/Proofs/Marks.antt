@@ -7,11 +7,11 @@ use mathlib.Core.List.{List, []}
 use Prim.Native.Nat.{ℕ, _<_}
 use lib.ListN.{length, getD}
 use borrow.Author.Tests.{eqb-true}
-use Rattle.laws.specs.Tests.{isnt, any, has}
+use Rattle.laws.specs.Tests.{isnt, any, has, choose}
 use Rattle.laws.specs.TestLaws.{and-left, and-right, and-both, implied, or-cases, or-left, or-right, both-ways, fails, isnt-true, eqb-self, every-at, any-at, any-of, anyOf-of, those-of, those-at}
 use Rattle.rules.specs.Graph.{Program, WellFormed, edgeCount}
 use Rattle.rules.specs.Run.{Meaning, Config, start, run, trail, ended}
-use Rattle.rules.specs.Closing.{pairs, dangers, Coverage, holds, meets, repeated, mark-0, mark-1, mark-?, chosen, carries, carriesOnly, mark}
+use Rattle.rules.specs.Closing.{pairs, dangers, Coverage, holds, meets, repeated, mark-0, mark-1, mark-?, carries, carriesOnly, mark}
 use Rattle.rules.specs.Sheet.{selected}
 use Rattle.rules.specs.Promises.{Alongside}
 use Rattle.rules.specs.Proofs.Closure.{selected-passes}
@@ -37,21 +37,21 @@ module _ (old new : Program) (M : List (ℕ × ℕ)) where
 module _ (old new : Program) (coverage : Coverage) where
   -- What a mark says.
   mark-one : (e′ : ℕ) → mark old new coverage e′ ≡ mark-1 → any (edgeCount old) (carriesOnly old new coverage e′) ≡ true
-  unfolding mark
+  unfolding mark choose
   mark-one e′ e = go (meets (dangers old new) coverage) (isnt (any (edgeCount old) (carries old new coverage e′))) (any (edgeCount old) (carriesOnly old new coverage e′)) e
     where
-      go : (a b c : Bool) → chosen a mark-? (chosen b mark-0 (chosen c mark-1 mark-?)) ≡ mark-1 → c ≡ true
+      go : (a b c : Bool) → choose a mark-? (choose b mark-0 (choose c mark-1 mark-?)) ≡ mark-1 → c ≡ true
       go true b c e = cc
       go false true c e = cc
       go false false true e = refl
       go false false false e = cc
 
   mark-zero : (e′ : ℕ) → mark old new coverage e′ ≡ mark-0 → any (edgeCount old) (carries old new coverage e′) ≡ false
-  unfolding mark
+  unfolding mark choose
   mark-zero e′ e =
       isnt-true _ (go (meets (dangers old new) coverage) (isnt (any (edgeCount old) (carries old new coverage e′))) (any (edgeCount old) (carriesOnly old new coverage e′)) e)
     where
-      go : (a b c : Bool) → chosen a mark-? (chosen b mark-0 (chosen c mark-1 mark-?)) ≡ mark-0 → b ≡ true
+      go : (a b c : Bool) → choose a mark-? (choose b mark-0 (choose c mark-1 mark-?)) ≡ mark-0 → b ≡ true
       go true b c e = cc
       go false true c e = refl
       go false false true e = cc

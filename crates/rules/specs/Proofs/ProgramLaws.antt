@@ -11,7 +11,7 @@ use lib.Dec.{eqb, leb}
 use lib.ListN.{length, getD}
 use borrow.Author.Tests.{eqb-true, eq-eqb, ne-eqb, ltb-true, ltb-false, leb-true, leb-false}
 use Rattle.laws.specs.Tests.{_and_, _or_, any, first, plus, count, after, choose}
-use Rattle.laws.specs.TestLaws.{and-left, and-right, and-both, implied, isnt-false, true-isnt, both-ways, passes?, fails, every-at, any-at, any-none, first-none}
+use Rattle.laws.specs.TestLaws.{and-left, and-right, and-both, implied, isnt-false, true-isnt, both-ways, passes?, fails, every-at, any-at, any-none, first-none, none-below}
 use Rattle.laws.specs.Lists.{snoc-length, snoc-cases, snoc-old, snoc-new, snoc-all, count-agree}
 use Rattle.rules.specs.Text.{Bytes, same, empty, bytes, maxProcs, maxNodes, maxEdges, between, isName, isLabel, isWord, value, fieldsOf, Answer, refused, accepted}
 use Rattle.rules.specs.Graph.{Kind, E, S, C, X, Node, Edge, Program, WellFormed, noNode, noEdge, nodeAt, edgeAt, nameAt, ownerAt, kindAt, labelAt, calleeAt, sourceAt, wordAt, targetAt, procCount, nodeCount, edgeCount, sameKind, isOf, leaves, degree, fewest, most, filled, worded}
@@ -61,9 +61,6 @@ pub record Sound (p : Program) : Type 0 where
   pub closed : (q : ℕ) → suc q < procCount p → Complete p q
 
 -- ---- nothing read
-
-none-below : {X : Type 0} (n : ℕ) → n < 0 → X
-none-below n h = absurd (let z : ⊥ = omega arith in z)
 
 pub sound-none : Sound (nothingRead .program)
 sound-none =

@@ -38,6 +38,11 @@ unfolding empty
 empty-true [] e = refl
 empty-true (a ∷ s) e = absurd (false≢true e)
 
+pub empty-not : (s : Bytes) → 0 < length s → empty s ≡ false
+unfolding empty
+empty-not [] h = absurd (let z : ⊥ = omega arith in z)
+empty-not (x ∷ s) h = refl
+
 -- ---- answers
 
 -- What an accepted answer behind a refusal says.

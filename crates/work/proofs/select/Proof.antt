@@ -12,8 +12,8 @@ same-length c = search needs
 returns : tie.Need-returns
 returns c = search (all, needs)
 
-mark-dangers-requires : tie.Need-mark-dangers-requires
-mark-dangers-requires c κs = search needs
+copy-dangers-requires : tie.Need-copy-dangers-requires
+copy-dangers-requires c κs = search needs
 
 same-length-2 : tie.Need-same-length-2
 same-length-2 c = search needs
@@ -31,7 +31,7 @@ select-spec =
     close-requires
     same-length
     returns
-    mark-dangers-requires
+    copy-dangers-requires
     same-length-2
     same-length-3
     returns-2)

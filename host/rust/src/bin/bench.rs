@@ -6,7 +6,7 @@ use rivetyellow_host::calls::{Calls, INDEPENDENT, LINKED};
 use rivetyellow_host::generate::limits::{deep, groups, many_tests, ring, wide};
 use rivetyellow_host::generate::model::{joined, Program, Sheet};
 use rivetyellow_host::generate::random::Random;
-use rivetyellow_host::generate::sheets::{all_alike, complete};
+use rivetyellow_host::generate::sheets::all_alike;
 use rivetyellow_host::independent::job::Job;
 use std::hint::black_box;
 use std::time::{Duration, Instant};
@@ -40,7 +40,6 @@ fn largest_sheet(texts: &Texts) -> Vec<u8> {
     sheet.pairs.extend(all_alike(&old, &new));
     sheet.dangers.extend(0..job.old.edges.len());
     sheet.repeated.extend(0..job.suite.len());
-    complete(&job, &old, &new, &mut sheet);
     joined(&sheet.lines(|test| job.suite.name(test).to_vec()))
 }
 
@@ -115,7 +114,7 @@ fn main() {
                 answer.packed()
             }),
         ),
-        ("record: 200 lines in turn, each", write_records(&full, 200)),
+        ("record: one line of 200", write_records(&full, 200)),
         (
             "record: the same, 8 partners of each step",
             write_records(&groups, 200),

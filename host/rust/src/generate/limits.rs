@@ -125,7 +125,7 @@ pub fn deep(count: usize) -> Program {
     Program { procedures }
 }
 
-/// `count` procedures of two nodes, the first calling the last.
+/// `count` procedures of an entry and an exit; the first also calls the last.
 fn many(count: usize) -> Program {
     let name = |at: usize| format!("p{at}").into_bytes();
     let procedures = (0..count)

@@ -187,7 +187,7 @@ pub fn version(random: &mut Random, pools: &Pools, old: &Program) -> Program {
     new
 }
 
-/// Inner nodes of a kind.
+/// Nodes of these kinds.
 fn nodes_of(procedure: &Procedure, kinds: &[u8]) -> Vec<usize> {
     (0..procedure.nodes.len())
         .filter(|&node| kinds.contains(&procedure.nodes[node].kind))

@@ -88,7 +88,7 @@ fn close(
         }
         for (n, m) in found {
             let pair = (n as usize, m as usize);
-            // A callee's entries must be listed, even above the limit.
+            // Also above the limit: whoever made the list asks how long it is.
             if pairs.insert(pair) {
                 work.push(pair);
             }
@@ -97,7 +97,7 @@ fn close(
 }
 
 /// Adds the D and R lines that rules 4 and 5 ask for.
-pub fn complete(job: &Job, old: &Graph, new: &Graph, sheet: &mut Sheet) {
+fn complete(job: &Job, old: &Graph, new: &Graph, sheet: &mut Sheet) {
     for &(n, m) in &sheet.pairs {
         let (n, m) = (n as u16, m as u16);
         if old.kind(n) == Kind::Call {

@@ -99,8 +99,7 @@ pub fn graphs<'p>(old: &'p Program<'p>, new: &'p Program<'p>) -> (Graph<'p>, Gra
     (Graph::new(old, old_class), Graph::new(new, new_class))
 }
 
-/// Classes of nodes by open addressing; a class is the number of its first
-/// node.
+/// Classes of nodes by open addressing, numbered as they are first met.
 struct Classes<'p> {
     slots: Vec<u16>,
     keys: Vec<(Kind, &'p [u8], Name)>,

@@ -165,7 +165,7 @@ pub fn read(text: &[u8]) -> Outcome<Program<'_>> {
 impl<'a> Reader<'a> {
     fn procedure(&mut self, name: Name, line: u32) -> Outcome<()> {
         self.close()?;
-        if self.names.len() == PROCEDURE_LIMIT {
+        if self.program.procedures.len() == PROCEDURE_LIMIT {
             return Err(Answer::new(4, line));
         }
         if self.names.add(name).is_none() {

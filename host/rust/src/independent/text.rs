@@ -192,14 +192,6 @@ impl Names {
         slot
     }
 
-    pub fn len(&self) -> usize {
-        self.names.len()
-    }
-
-    pub fn is_empty(&self) -> bool {
-        self.names.is_empty()
-    }
-
     /// Adds a name; `None` if it is there already.
     pub fn add(&mut self, name: Name) -> Option<usize> {
         let slot = self.slot(name);

@@ -2,8 +2,8 @@ use borrow.Author.Needs.{needs}
 use Prim.Native.Nat.{_-_}
 use Rattle.selection.proofs.All.{all}
 use Rattle.selection.proofs.Dangers.{CopiedTo}
-use Rattle.selection.proofs.mark_dangers.Statement.{statement}
-use Rattle.selection.proofs.mark_dangers.Tie as tie
+use Rattle.selection.proofs.copy_dangers.Statement.{statement}
+use Rattle.selection.proofs.copy_dangers.Tie as tie
 
 abbrev Inv-loop : tie.InvT-loop
 Inv-loop w set₀ k₀ set k = CopiedTo w set₀ set k
@@ -44,8 +44,8 @@ same-length-2 c = search (all, needs)
 returns-2 : tie.Need-returns-2 Inv-loop μ-loop
 returns-2 c = search (all, needs)
 
-pub mark-dangers-spec : {M : Type 1} → statement M
-mark-dangers-spec =
+pub copy-dangers-spec : {M : Type 1} → statement M
+copy-dangers-spec =
     tie.close
     (tie.spec
     Inv-loop

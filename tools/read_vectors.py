@@ -1,5 +1,5 @@
 #!/usr/bin/env python3
-"""reader_vectors.py SOURCE_DIR: writes the cases of the program read_vectors, and the lines that it must print.
+"""read_vectors.py SOURCE_DIR: writes the cases of the program read_vectors, and the lines that it must print.
 
 SOURCE_DIR has a folder for each case, with the files old and new (program files), tests (a lift file) and out: what another
 implementation's sheet program printed for them. That is a sheet and records, or only `refused,NUMBER,PLACE`, for the first refusal met
@@ -322,7 +322,7 @@ def folders(source):
 
 def main():
     if len(sys.argv) != 2:
-        raise SystemExit('usage: reader_vectors.py SOURCE_DIR')
+        raise SystemExit('usage: read_vectors.py SOURCE_DIR')
     source = sys.argv[1]
     cases, left_out = [], []
     for name, files in folders(source):
