@@ -94,7 +94,8 @@ fn enter(
 }
 
 // Rule 3 for the old edge e and the new node m, whose pair may go on: if m has no edge with the word of e, or the ends are not alike, e is
-// dangerous. Ends that are a pair already are alike, and are not compared again.
+// dangerous. Ends that are a pair already are alike, and are not compared again; nor are those that are known to be alike by the groups of the
+// new nodes.
 fn try_edge(
     ot: &[u8],
     on: &[usize],
@@ -355,12 +356,12 @@ fn repeat(
 // limit.
 //
 // The worst case. A pass visits each pair once, and a visit tries the edges of the old node, at most 8. A try compares the edge's word with
-// those of the new node, at most 8, and looks the pair of ends up by its bit; labels are compared only for ends that are no pair yet. There
-// is at most one pass more than old procedures; one pass is enough where no call waits for its exits. A pass leaves out only what stands behind
-// calls that wait, so one that adds a pair, after the first, does so from a call whose exits became a pair in the pass before; the callees of a
-// pair have one name, so there are at most as many such passes as old procedures. If there are as many, the exits of every callee are a pair
-// before the last of them, in which so no call waits, and no pass follows it. Otherwise one pass more, which adds nothing, is the last. At the
-// limits of the files that is at most 65 * 4,096 * 8 tries.
+// those of the new node, at most 8, and looks the pair of ends up by its bit; labels are compared only for ends that are no pair yet, and not
+// known to be alike by the groups. There is at most one pass more than old procedures; one pass is enough where no call waits for its exits. A
+// pass leaves out only what stands behind calls that wait, so one that adds a pair, after the first, does so from a call whose exits became a
+// pair in the pass before; the callees of a pair have one name, so there are at most as many such passes as old procedures. If there are as
+// many, the exits of every callee are a pair before the last of them, in which so no call waits, and no pass follows it. Otherwise one pass
+// more, which adds nothing, is the last. At the limits of the files that is at most 65 * 4,096 * 8 tries.
 pub fn close(
     ot: &[u8],
     on: &[usize],
@@ -378,6 +379,7 @@ pub fn close(
         (memory (now (nt .entry)) (now (nn .entry)) (now (nl .entry)))
         limit (now (w .entry)) (now (w .exit)) r) ⌝ }
 {
+    // for a table without room nothing is promised; behind this test the compiler knows its length
     if w.len() < 4624 + 3 * limit {
         return 0;
     }

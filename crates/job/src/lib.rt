@@ -1,5 +1,5 @@
-// The reading calls of a job, at the stages 0 to 2, over lent memory. The work of each is done on values and tables of numbers; the call itself takes the job and the
-// nodes out of what is lent and puts them back.
+// The reading calls of a job, at the stages 0 to 2, over lent memory. The work of each is done on values and tables of numbers; the call itself
+// takes the job and the nodes out of what is lent and puts them back.
 use answer::Answer;
 use reader::Count;
 use records::Job;

@@ -87,6 +87,7 @@ pub record Given : Type 0 where
   pub new : Program
   pub suite : Suite
 
+-- The same, of what reading the three texts leaves.
 abbrev pub givenOf : Listing → Listing → TestListing → Given
 givenOf old new tests = record { old = old .program; new = new .program; suite = tests .suite }
 
@@ -122,7 +123,7 @@ recordBytes g i = recordText (g .old) (g .new) (testName (g .suite) i) (coverage
 unfoldable pub sheetAnswer : Bytes → Bytes → Bytes → ℕ → Outcome
 sheetAnswer old new tests room = outcome (readJob old new tests) (λ g. writing g room (sheetBytes g))
 
--- Write the record line of the test i: 6 where there is none.
+-- Write the record line of the test i: 6 where there is none; of what the texts give, and of the texts.
 abbrev pub recording : Given → ℕ → ℕ → Outcome
 recording g i room = choose (ltb i (testCount (g .suite))) (writing g room (recordBytes g i)) (refusal 6 0)
 
@@ -136,7 +137,7 @@ unfoldable pub judged : Given → Sheet → Outcome
 judged g s =
     choose (eqb (broken (g .old) (g .new) (g .suite .coverages) s) 0) passed (refusal 12 (broken (g .old) (g .new) (g .suite .coverages) s))
 
--- Check a sheet.
+-- Check a sheet; likewise.
 abbrev pub checking : Given → Bytes → Outcome
 checking g sheet = outcome (readSheet (g .old) (g .new) (g .suite) sheet) (judged g)
 
