@@ -21,7 +21,7 @@ use Rattle.rules.specs.Proofs.TextLaws.{decimal-small, decimal-more, same-of, s
 use Rattle.text.specs.Scans.{span, plainByte, classByte, sized}
 use Rattle.text.specs.SplitLaws.{span-hit, span-miss, span-end, fields}
 use Rattle.text.specs.Puts.{Puts, puts-none, puts-then, puts-length}
-use Rattle.text.specs.Hash.{hashFrom, hashOf, hash-small}
+use Rattle.text.specs.Hash.{hashFrom, hashOf}
 
 -- The test of the code and that of the rules.
 also : (a b : Bool) → (a && b) ≡ (a and b)
@@ -629,9 +629,6 @@ module _ (s : Bytes) (h i : ℕ) (inv : hashOf s ≡ hashFrom h (drop i s)) wher
 pub hash-start : (s : Bytes) → hashOf s ≡ hashFrom 0 (drop 0 s)
 hash-start s = refl
 
-pub hash-below : (s : Bytes) (r : ℕ) → r ≡ hashOf s → r < 4096
-hash-below s r e = rw e (hash-small 0 s (omega arith))
-
-pub ruleset hashes = (hash-on, hash-done, hash-start, hash-below)
+pub ruleset hashes = (hash-on, hash-done, hash-start)
 
 pub ruleset all = (hashes, finds, sames, parts, stores, runs, classes, alls, sizes, fields, values, spelled, writes)

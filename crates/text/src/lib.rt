@@ -654,7 +654,7 @@ fn hash_with(h: usize, x: u8) -> usize
 
 // A number below 4,096 for some bytes.
 pub fn hash(s: &[u8]) -> usize
-    ensures { λ r. ⌜ (r ≡ hashOf (now (s .entry))) × (r < 4096) ⌝ }
+    ensures { λ r. ⌜ r ≡ hashOf (now (s .entry)) ⌝ }
 {
     let mut h = 0;
     let mut i = 0;
