@@ -3,13 +3,13 @@ use mathlib.Core.Path.{_≡_}
 use mathlib.Core.Logic.{_↔_}
 use mathlib.Core.Bool.{true, false}
 use mathlib.Core.Option.{some}
-use mathlib.Core.List.{List, [], _∷_}
-use Prim.Native.Nat.{ℕ, _≤_, _<_}
-use lib.ListN.{length, getD}
-use Rattle.laws.specs.Tests.{has, listed}
+use mathlib.Core.List.{List, [], _∷_, _++_}
+use Prim.Native.Nat.{ℕ, _≤_, _<_, _/_, _%_}
+use lib.ListN.{length, getD, drop}
+use Rattle.laws.specs.Tests.{has, listed, count}
 use Rattle.laws.specs.TestLaws.{Ascending}
 use Rattle.laws.specs.Lists.{Rising}
-use Rattle.rules.specs.Text.{Bytes, accepted, maxBytes, textOf}
+use Rattle.rules.specs.Text.{Bytes, accepted, maxBytes, maxPairs, textOf}
 use Rattle.rules.specs.Graph.{C, Program, WellFormed, called, edgeCount, entry, exit, kindAt, labelAt, nodeCount, sourceAt, targetAt}
 use Rattle.rules.specs.ProgramFile.{Listing, readListing, readProgram}
 use Rattle.rules.specs.SuiteFile.{Suite, TestListing, coverageAt, readSuite, readTests, testCount, testName}
@@ -17,7 +17,7 @@ use Rattle.rules.specs.Run.{Config, Meaning, ended, run, start, trail}
 use Rattle.rules.specs.Closing.{Counterparts, Coverage, Dangerous, Pair, alike, dangers, fits, holds, joined, pairs, repeated}
 use Rattle.rules.specs.Sheet.{Sheet, crossed, leftOff, sheetText, vLine}
 use Rattle.rules.specs.Check.{rule1, rule2, rule3, rule4, rule5}
-use Rattle.rules.specs.Job.{Outcome, Given, Version, checkAnswer, labelPart, numberOf, passed, placeOf, readJob, readNewAnswer, readOldAnswer, readTestsAnswer, recordAnswer, sheetAnswer, wrote}
+use Rattle.rules.specs.Job.{Outcome, Given, Version, checkAnswer, labelPart, numberOf, outputAfter, packed, passed, placeOf, readJob, readNewAnswer, readOldAnswer, readTestsAnswer, recordAnswer, recordBytes, refusal, sheetAnswer, sheetBytes, wrote}
 use Rattle.rules.specs.Layout.{Follows, SheetFollows, SuiteFollows, writeProgram, writeSuite}
 use Rattle.rules.specs.Places.{Placed, TestsPlaced}
 
@@ -69,6 +69,38 @@ pub record Exact (old new : Program) : Type 1 where
 -- Of the programs that texts give.
 abbrev pub ClosingRulesExact : Type 1
 ClosingRulesExact = (old new : Bytes) (p p′ : Program) → readProgram old ≡ accepted p → readProgram new ≡ accepted p′ → Exact p p′
+
+-- ---- demand 2: the sheet and the record lines that are written are exactly those of the closing rules
+
+-- A test is repeated: its coverage holds a dangerous edge.
+abbrev pub Repeated : Program → Program → Coverage → Type 0
+Repeated old new coverage = (e : ℕ) × Dangerous old new e × (holds coverage e ≡ true)
+
+-- The sheet is the writing of claims, in order, that are exactly those of the closing rules.
+pub record SheetExact (g : Given) (sheet : Bytes) : Type 0 where
+  pub claims : Sheet
+  pub text : sheet ≡ sheetText (g .suite .names) claims
+  pub order : SheetFollows (g .old) (g .new) (g .suite) claims
+  pub pairs-are : (n n′ : ℕ) → (listed (claims .M) n n′ ≡ true) ↔ Pair (g .old) (g .new) n n′
+  pub dangers-are : (e : ℕ) → (has (claims .D) e ≡ true) ↔ Dangerous (g .old) (g .new) e
+  pub repeated-are : (i : ℕ) → (has (claims .R) i ≡ true) ↔ ((i < testCount (g .suite)) × Repeated (g .old) (g .new) (coverageAt (g .suite) i))
+
+-- The record line of a test: the number of old edges that it crossed, and a mark for each new edge, `?` (63) throughout if it is repeated, and else `0` (48) exactly if no old
+-- counterpart was crossed, `1` (49) exactly if some crossed one has it as only counterpart.
+pub record LineExact (old new : Program) (name : Bytes) (coverage : Coverage) (line : Bytes) : Type 0 where
+  pub marks : Bytes
+  pub text : line ≡ textOf (vLine name (count (edgeCount old) (holds coverage)) marks ∷ [])
+  pub long : length marks ≡ edgeCount new
+  pub again : Repeated old new coverage → (x : ℕ) → x < edgeCount new → getD marks x 0 ≡ 63
+  pub zero : (Repeated old new coverage → ⊥) → (x : ℕ) → x < edgeCount new → (getD marks x 0 ≡ 48) ↔ ((e : ℕ) → Counterparts old new e x → holds coverage e ≡ true → ⊥)
+  pub one : (Repeated old new coverage → ⊥) → (x : ℕ) → x < edgeCount new
+      → (getD marks x 0 ≡ 49) ↔ ((e : ℕ) × Counterparts old new e x × (holds coverage e ≡ true) × ((f : ℕ) → Counterparts old new e f → f ≡ x))
+
+-- Demand 2, of the texts of a job.
+pub record Demand2 (old new tests : Bytes) : Type 0 where
+  pub sheet-exact : (room : ℕ) (sheet : Bytes) → sheetAnswer old new tests room ≡ wrote sheet → (g : Given) × (readJob old new tests ≡ accepted g) × SheetExact g sheet
+  pub line-exact : (i room : ℕ) (line : Bytes) → recordAnswer old new tests i room ≡ wrote line
+      → (g : Given) × (readJob old new tests ≡ accepted g) × (i < testCount (g .suite)) × LineExact (g .old) (g .new) (testName (g .suite) i) (coverageAt (g .suite) i) line
 
 -- ---- the check passes exactly the sheets whose limits, layout and rules hold
 
@@ -138,6 +170,20 @@ module _ {ℓ κ} (St : Type ℓ) (Out : Type κ) where
         × (line ≡ textOf (vLine (testName (g .suite) i) (crossed (g .old) (coverageAt (g .suite) i)) marks ∷ []))
         × (has (repeated (g .old) (g .new) (g .suite .coverages)) i ≡ false → MarksTrue g i marks)
 
+  -- Demand 3, of the one number that an exported call returns and of the output that it leaves.
+  pub record ExportedDemand3 (old new tests : Bytes) : Type (ℓ ⊔ κ) where
+    -- `ry_check` returns 0: every test with no R line on the sheet goes the same.
+    pub checker : (sheet : Bytes) (r : ℕ) → r ≡ packed (checkAnswer old new tests sheet) → r ≡ 0
+        → (g : Given) × (readJob old new tests ≡ accepted g) × ((i : ℕ) → i < testCount (g .suite) → leftOff sheet (testName (g .suite) i) ≡ true → RunsAlike g i)
+    -- `ry_sheet` returns a number below 4,294,967,296: it is how many bytes of a sheet stand at the front of the output, and for these `ry_check` returns 0.
+    pub passes : (out out′ : Bytes) (r : ℕ) → r ≡ packed (sheetAnswer old new tests (length out)) → out′ ≡ outputAfter (sheetAnswer old new tests (length out)) out → r < 4294967296
+        → (sheet : Bytes) × (sheetAnswer old new tests (length out) ≡ wrote sheet) × (r ≡ length sheet) × (out′ ≡ sheet ++ drop r out) × (packed (checkAnswer old new tests sheet) ≡ 0)
+    -- `ry_record` returns one below it: so many bytes of a record line, whose marks are true if the selector leaves the test off.
+    pub marked : (i : ℕ) (out out′ : Bytes) (r : ℕ) → r ≡ packed (recordAnswer old new tests i (length out)) → out′ ≡ outputAfter (recordAnswer old new tests i (length out)) out → r < 4294967296
+        → (g : Given) × (readJob old new tests ≡ accepted g) × (marks : Bytes)
+        × (out′ ≡ textOf (vLine (testName (g .suite) i) (crossed (g .old) (coverageAt (g .suite) i)) marks ∷ []) ++ drop r out)
+        × (has (repeated (g .old) (g .new) (g .suite .coverages)) i ≡ false → MarksTrue g i marks)
+
 -- ---- answers
 
 -- A call's answer has number 0 only where it succeeds, else one up to 16, and its place fits beside the number.
@@ -153,3 +199,22 @@ pub record AnswersPlain (old new tests : Bytes) : Type 0 where
   pub of-sheet : (room : ℕ) → Plain (sheetAnswer old new tests room)
   pub of-record : (i room : ℕ) → Plain (recordAnswer old new tests i room)
   pub of-check : (sheet : Bytes) → Plain (checkAnswer old new tests sheet)
+
+-- Number and place are taken out of the one number that an exported call returns.
+abbrev pub Unpacks : Type 0
+Unpacks = (o : Outcome) → Plain o → (packed o / 4294967296 ≡ numberOf o) × (packed o % 4294967296 ≡ placeOf o)
+
+-- A sheet and a record line are written, refused with 15 or refused with 16, each exactly for its reason.
+
+-- The answer o to writing the bytes b into an output of `room` bytes, for the texts that give g.
+pub record Writes (g : Given) (room : ℕ) (b : Bytes) (o : Outcome) : Type 0 where
+  pub written : (c : Bytes) → (o ≡ wrote c) ↔ ((length (pairs (g .old) (g .new)) ≤ maxPairs) × (length b ≤ room) × (b ≡ c))
+  -- 15: more than 4,096 pairs exist.
+  pub too-many : (o ≡ refusal 15 0) ↔ (maxPairs < length (pairs (g .old) (g .new)))
+  -- 16: the output is shorter than what must be written.
+  pub too-short : (o ≡ refusal 16 0) ↔ ((length (pairs (g .old) (g .new)) ≤ maxPairs) × (room < length b))
+
+-- Of the sheet, and of the record line of a test that is there.
+abbrev pub WritesExactly : Type 0
+WritesExactly = (old new tests : Bytes) (g : Given) → readJob old new tests ≡ accepted g → (room : ℕ)
+    → Writes g room (sheetBytes g) (sheetAnswer old new tests room) × ((i : ℕ) → i < testCount (g .suite) → Writes g room (recordBytes g i) (recordAnswer old new tests i room))

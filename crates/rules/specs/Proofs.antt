@@ -16,3 +16,6 @@ pub mod WriteProgram
 pub mod WriteSuite
 pub mod SheetLayout
 pub mod Places
+pub mod Selection
+pub mod Written
+pub mod Exported

@@ -1,16 +1,19 @@
 -- The promises, proved.
 use Rattle.rules.specs.Text.{Bytes}
-use Rattle.rules.specs.Promises.{AnswersPlain, ClosingRulesExact, Demand3, LabelShown, PassesExactly, ProgramLayout, ProgramPlaced, ProgramWellFormed, SuiteLayout, SuitePlaced}
+use Rattle.rules.specs.Promises.{AnswersPlain, ClosingRulesExact, Demand2, Demand3, ExportedDemand3, LabelShown, PassesExactly, ProgramLayout, ProgramPlaced, ProgramWellFormed, SuiteLayout, SuitePlaced, Unpacks, WritesExactly}
 use Rattle.rules.specs.Proofs.Answers.{plain-answers}
 use Rattle.rules.specs.Proofs.Closure.{exact}
+use Rattle.rules.specs.Proofs.Exported.{exported, unpacked}
 use Rattle.rules.specs.Proofs.JobLaws.{checked-texts, marked-texts, unlisted-texts}
 use Rattle.rules.specs.Proofs.Lockstep.{unlisted}
 use Rattle.rules.specs.Proofs.Places.{listing-placed, label-part, tests-placed}
 use Rattle.rules.specs.Proofs.ProgramLaws.{read-well-formed}
 use Rattle.rules.specs.Proofs.ReadBack.{written-passes}
+use Rattle.rules.specs.Proofs.Selection.{selection-exact}
 use Rattle.rules.specs.Proofs.SheetLayout.{check-exact}
 use Rattle.rules.specs.Proofs.WriteProgram.{reads-layout}
 use Rattle.rules.specs.Proofs.WriteSuite.{reads-suite-layout}
+use Rattle.rules.specs.Proofs.Written.{written-exactly}
 
 pub program-layout : ProgramLayout
 program-layout = reads-layout
@@ -33,6 +36,9 @@ label-shown = label-part
 pub closing-rules-exact : ClosingRulesExact
 closing-rules-exact old new p p′ e e′ = exact p p′ (read-well-formed old p e) (read-well-formed new p′ e′)
 
+pub demand2 : (old new tests : Bytes) → Demand2 old new tests
+demand2 = selection-exact
+
 pub passes-exactly : PassesExactly
 passes-exactly = check-exact
 
@@ -47,3 +53,12 @@ demand3 St Out old new tests =
 
 pub answers-plain : (old new tests : Bytes) → AnswersPlain old new tests
 answers-plain old new tests = plain-answers old new tests
+
+pub exported-demand3 {ℓ κ} : (St : Type ℓ) (Out : Type κ) (old new tests : Bytes) → ExportedDemand3 St Out old new tests
+exported-demand3 St Out old new tests = exported St Out old new tests (demand3 St Out old new tests) (answers-plain old new tests)
+
+pub unpacks : Unpacks
+unpacks = unpacked
+
+pub writes-exactly : WritesExactly
+writes-exactly = written-exactly

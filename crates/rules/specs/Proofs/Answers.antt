@@ -235,7 +235,7 @@ unfolding judged
 judged-wrote g s b e = nothing-wrote b (wrote-choose _ _ _ _ _ e .1)
 
 -- A record line has at most 1,045 bytes.
-record-short : (old new tests : Bytes) (i room : ℕ) (b : Bytes) → recordAnswer old new tests i room ≡ wrote b → length b < big
+pub record-short : (old new tests : Bytes) (i room : ℕ) (b : Bytes) → recordAnswer old new tests i room ≡ wrote b → length b ≤ 1045
 unfolding recordBytes recordText textOf vLine joinBy crossed
 record-short old new tests i room b e =
     let v = record-wrote old new tests i room b e in
@@ -268,7 +268,7 @@ plain-answers old new tests =
           plain _ (outcome-told _ _ (job-good old new tests) (λ g. writing-told g room (sheetBytes g))) (λ b e. omega (arith, written-passes old new tests room b e .1));
       of-record = λ i room.
           plain _ (outcome-told _ _ (job-good old new tests) (λ g. choose-told _ _ _ (writing-told g room (recordBytes g i)) ((let z : 0 < 6 = omega arith in z, let z : 6 ≤ 16 = omega arith in z), let z : 0 < big = omega arith in z)))
-          (λ b e. record-short old new tests i room b e);
+          (λ b e. omega (arith, record-short old new tests i room b e));
       of-check = λ sheet.
           plain _ (outcome-told _ _ (job-good old new tests) (λ g. outcome-told _ _ (sheet-good (g .old) (g .new) (g .suite) sheet) (judged-told g)))
           (unwritten _ (success-only _ _ (λ g. success-only _ _ (judged-wrote g))));

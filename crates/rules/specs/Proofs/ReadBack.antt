@@ -297,7 +297,7 @@ read-back old new suite so sn w h c o f =
 
 -- The selector's sheet keeps the order.
 module _ (g : Given) (w : ℕ) (h : SoundSuite w (g .suite)) (few : length (pairs (g .old) (g .new)) ≤ maxPairs) where
-  chosen-orderly : SheetFollows (g .old) (g .new) (g .suite) (selected (g .old) (g .new) (g .suite .coverages))
+  pub chosen-orderly : SheetFollows (g .old) (g .new) (g .suite) (selected (g .old) (g .new) (g .suite .coverages))
   unfolding selected dangers repeated
   chosen-orderly =
       record {

@@ -1,0 +1,59 @@
+-- What the one number of an exported call says: number and place are taken out of it again, and demand 3 of the numbers that the calls return.
+use mathlib.Core.Path.{_≡_, refl, sym, ap, _∙_, subst}
+use mathlib.Core.List.{[], _∷_, _++_}
+use Prim.Native.Nat.{ℕ, _+_, _<_}
+use native.Mathlib.Omega.{arith}
+use lib.ListN.{length, drop}
+use Rattle.rules.specs.Text.{Bytes}
+use Rattle.rules.specs.Job.{Outcome, numberOf, outputAfter, packed, passed, placeOf, wrote}
+use Rattle.rules.specs.Promises.{AnswersPlain, Demand3, ExportedDemand3, Plain, Unpacks}
+
+-- ---- number and place
+
+-- The number and the place, taken out of the one number.
+pub unpacked : Unpacks
+unfolding packed
+unpacked o h =
+    let p : placeOf o < 4294967296 = h .fits-beside in
+    (omega arith, omega arith)
+
+nothing : (b : Bytes) → length b ≡ 0 → b ≡ []
+nothing [] e = refl
+nothing (x ∷ b) e = absurd (let z : ⊥ = omega arith in z)
+
+-- One that is below 4,294,967,296 is success, and says how many bytes were written.
+pub below-wrote : (o : Outcome) → Plain o → packed o < 4294967296 → (b : Bytes) × (o ≡ wrote b) × (packed o ≡ length b)
+unfolding packed
+below-wrote o h l =
+    let z : numberOf o ≡ 0 = omega arith in
+    let w = h .zero-succeeds z in
+    let n : placeOf o ≡ length (w .0) = ap placeOf (w .1) in
+    (w .0, w .1, omega (arith, z, n))
+
+-- 0 is success with nothing written.
+pub zero-passed : (o : Outcome) → Plain o → packed o ≡ 0 → o ≡ passed
+zero-passed o h e =
+    let w = below-wrote o h (omega (arith, e)) in
+    w .1 ∙ ap wrote (nothing (w .0) (omega (arith, w .2, e)))
+
+-- ---- demand 3
+
+written : (o : Outcome) (b out out′ : Bytes) (r : ℕ) → o ≡ wrote b → r ≡ length b → out′ ≡ outputAfter o out → out′ ≡ b ++ drop r out
+unfolding outputAfter
+written o b out out′ r e n l = l ∙ ap (λ (x : Outcome). outputAfter x out) e ∙ ap (λ (k : ℕ). b ++ drop k out) (sym n)
+
+pub exported {ℓ κ} : (St : Type ℓ) (Out : Type κ) (old new tests : Bytes) → Demand3 St Out old new tests → AnswersPlain old new tests → ExportedDemand3 St Out old new tests
+unfolding packed
+exported St Out old new tests d a =
+    record {
+      checker = λ sheet r e z. d .checker sheet (zero-passed _ (a .of-check sheet) (sym e ∙ z));
+      passes = λ out out′ r e l b.
+          let w = below-wrote _ (a .of-sheet (length out)) (subst (λ (k : ℕ). k < 4294967296) e b) in
+          let n : r ≡ length (w .0) = e ∙ w .2 in
+          (w .0, w .1, n, written _ (w .0) out out′ r (w .1) n l, ap packed (d .passes (length out) (w .0) (w .1) .0));
+      marked = λ i out out′ r e l b.
+          let w = below-wrote _ (a .of-record i (length out)) (subst (λ (k : ℕ). k < 4294967296) e b) in
+          let n : r ≡ length (w .0) = e ∙ w .2 in
+          let m = d .marked i (length out) (w .0) (w .1) in
+          (m .0, m .1, m .2, written _ (w .0) out out′ r (w .1) n l ∙ ap (λ (x : Bytes). x ++ drop r out) (m .4), m .5);
+    }
