@@ -1,25 +1,141 @@
 -- What is promised, as statements; each is proved in Theorems. Nothing is proved here.
 use mathlib.Core.Path.{_≡_}
-use mathlib.Core.Logic.{_↔_}
-use mathlib.Core.Bool.{true, false}
+use mathlib.Core.Logic.{_↔_, _⊎_}
+use mathlib.Core.Bool.{Bool, true, false}
 use mathlib.Core.Option.{some}
 use mathlib.Core.List.{List, [], _∷_, _++_}
-use Prim.Native.Nat.{ℕ, _≤_, _<_, _/_, _%_}
-use lib.ListN.{length, getD, drop}
-use Rattle.laws.specs.Tests.{has, listed, count}
+use Prim.Native.Nat.{ℕ, suc, _≤_, _<_, _/_, _%_}
+use lib.ListN.{length, getD, take, drop}
+use Rattle.laws.specs.Tests.{has, listed, count, plus}
 use Rattle.laws.specs.TestLaws.{Ascending}
 use Rattle.laws.specs.Lists.{Rising}
-use Rattle.rules.specs.Text.{Bytes, accepted, maxBytes, maxPairs, textOf}
+use Rattle.rules.specs.Text.{Bytes, accepted, fieldsOf, linesOf, maxBytes, maxPairs, refused, textOf}
 use Rattle.rules.specs.Graph.{C, Program, WellFormed, called, edgeCount, entry, exit, kindAt, labelAt, nodeCount, sourceAt, targetAt}
 use Rattle.rules.specs.ProgramFile.{Listing, readListing, readProgram}
 use Rattle.rules.specs.SuiteFile.{Suite, TestListing, coverageAt, readSuite, readTests, testCount, testName}
 use Rattle.rules.specs.Run.{Config, Meaning, ended, run, start, trail}
 use Rattle.rules.specs.Closing.{Counterparts, Coverage, Dangerous, Pair, alike, dangers, fits, holds, joined, pairs, repeated}
-use Rattle.rules.specs.Sheet.{Sheet, crossed, leftOff, sheetText, vLine}
+use Rattle.rules.specs.Sheet.{Sheet, SheetLine, crossed, d-line, end-line, head-line, leftOff, m-line, no-form, r-line, sheetForm, sheetText, vLine}
 use Rattle.rules.specs.Check.{rule1, rule2, rule3, rule4, rule5}
-use Rattle.rules.specs.Job.{Outcome, Given, Version, checkAnswer, labelPart, numberOf, outputAfter, packed, passed, placeOf, readJob, readNewAnswer, readOldAnswer, readTestsAnswer, recordAnswer, recordBytes, refusal, sheetAnswer, sheetBytes, wrote}
+use Rattle.rules.specs.Job.{Outcome, Given, Version, checkAnswer, labelAnswer, labelPart, labelShown, numberOf, outputAfter, packed, passed, placeOf, readJob, readNewAnswer, readOldAnswer, readTestsAnswer, recordAnswer, recordBytes, refusal, sheetAnswer, sheetBytes, success, wrote}
 use Rattle.rules.specs.Layout.{Follows, SheetFollows, SuiteFollows, writeProgram, writeSuite}
 use Rattle.rules.specs.Places.{Placed, TestsPlaced}
+
+-- ==== demand 1: what the calls answer, each number for its one reason
+
+-- A call's answer has number 0 only where it succeeds, else one up to 16, and its place fits beside the number.
+pub record Plain (o : Outcome) : Type 0 where
+  pub zero-succeeds : numberOf o ≡ 0 → (b : Bytes) × (o ≡ wrote b)
+  pub few-numbers : numberOf o ≤ 16
+  pub fits-beside : placeOf o < 4294967296
+
+pub record AnswersPlain (old new tests : Bytes) : Type 0 where
+  pub of-old : Plain (readOldAnswer old)
+  pub of-new : Plain (readNewAnswer old new)
+  pub of-tests : Plain (readTestsAnswer old new tests)
+  pub of-sheet : (room : ℕ) → Plain (sheetAnswer old new tests room)
+  pub of-record : (i room : ℕ) → Plain (recordAnswer old new tests i room)
+  pub of-check : (sheet : Bytes) → Plain (checkAnswer old new tests sheet)
+
+-- Number and place are taken out of the one number that an exported call returns.
+abbrev pub Unpacks : Type 0
+Unpacks = (o : Outcome) → Plain o → (packed o / 4294967296 ≡ numberOf o) × (packed o % 4294967296 ≡ placeOf o)
+
+-- The texts are read in the order old, new, tests: the first refusal is the answer, and where there is none reading succeeds.
+pub record TextsRead (old new tests : Bytes) : Type 0 where
+  pub old-refused : (k p : ℕ) → readProgram old ≡ refused k p → (readOldAnswer old ≡ refusal k p) × (readNewAnswer old new ≡ refusal k p) × (readJob old new tests ≡ refused k p)
+  pub new-refused : (a : Program) → readProgram old ≡ accepted a → (k p : ℕ) → readProgram new ≡ refused k p
+      → (readNewAnswer old new ≡ refusal k p) × (readJob old new tests ≡ refused k p)
+  pub tests-refused : (a b : Program) → readProgram old ≡ accepted a → readProgram new ≡ accepted b → (k p : ℕ) → readSuite (edgeCount a) tests ≡ refused k p
+      → readJob old new tests ≡ refused k p
+  pub old-read : (a : Program) → readProgram old ≡ accepted a → readOldAnswer old ≡ success
+  pub new-read : (a b : Program) → readProgram old ≡ accepted a → readProgram new ≡ accepted b → readNewAnswer old new ≡ success
+  pub all-read : (g : Given) → readProgram old ≡ accepted (g .old) → readProgram new ≡ accepted (g .new) → readSuite (edgeCount (g .old)) tests ≡ accepted (g .suite)
+      → (readJob old new tests ≡ accepted g) × (readTestsAnswer old new tests ≡ success)
+
+-- Where reading the texts refuses, every call that is given all of them gives that refusal, whatever else it is given.
+pub record TextsFirst (old new tests : Bytes) (k p : ℕ) : Type 0 where
+  pub of-tests : readTestsAnswer old new tests ≡ refusal k p
+  pub of-sheet : (room : ℕ) → sheetAnswer old new tests room ≡ refusal k p
+  pub of-record : (i room : ℕ) → recordAnswer old new tests i room ≡ refusal k p
+  pub of-check : (sheet : Bytes) → checkAnswer old new tests sheet ≡ refusal k p
+
+abbrev pub TextsRefused : Type 0
+TextsRefused = (old new tests : Bytes) (k p : ℕ) → readJob old new tests ≡ refused k p → TextsFirst old new tests k p
+
+-- The record line of a test that is not there is refused with 6, before 15.
+abbrev pub RecordUnnamed : Type 0
+RecordUnnamed = (old new tests : Bytes) (g : Given) → readJob old new tests ≡ accepted g → (i room : ℕ) → testCount (g .suite) ≤ i → recordAnswer old new tests i room ≡ refusal 6 0
+
+-- A sheet and a record line are written, refused with 15 or refused with 16, each exactly for its reason.
+
+-- The answer o to writing the bytes b into an output of `room` bytes, for the texts that give g.
+pub record Writes (g : Given) (room : ℕ) (b : Bytes) (o : Outcome) : Type 0 where
+  pub written : (c : Bytes) → (o ≡ wrote c) ↔ ((length (pairs (g .old) (g .new)) ≤ maxPairs) × (length b ≤ room) × (b ≡ c))
+  -- 15: more than 4,096 pairs exist.
+  pub too-many : (o ≡ refusal 15 0) ↔ (maxPairs < length (pairs (g .old) (g .new)))
+  -- 16: the output is shorter than what must be written.
+  pub too-short : (o ≡ refusal 16 0) ↔ ((length (pairs (g .old) (g .new)) ≤ maxPairs) × (room < length b))
+
+-- Of the sheet, and of the record line of a test that is there.
+abbrev pub WritesExactly : Type 0
+WritesExactly = (old new tests : Bytes) (g : Given) → readJob old new tests ≡ accepted g → (room : ℕ)
+    → Writes g room (sheetBytes g) (sheetAnswer old new tests room) × ((i : ℕ) → i < testCount (g .suite) → Writes g room (recordBytes g i) (recordAnswer old new tests i room))
+
+-- A record line has at most 1,045 bytes.
+abbrev pub RecordShort : Type 0
+RecordShort = (old new tests : Bytes) (i room : ℕ) (line : Bytes) → recordAnswer old new tests i room ≡ wrote line → length line ≤ 1045
+
+-- The check never gives a number above 12, so neither 15 nor 16.
+abbrev pub CheckNumbers : Type 0
+CheckNumbers = (old new tests sheet : Bytes) → numberOf (checkAnswer old new tests sheet) ≤ 12
+
+-- 12: the texts are accepted, the sheet keeps its layout, and of the five rules p, from 1, is the first that does not hold.
+abbrev pub fiveRules : Given → Sheet → List Bool
+fiveRules g c = rule1 (g .old) (g .new) c ∷ rule2 (g .old) (g .new) c ∷ rule3 (g .old) (g .new) c ∷ rule4 (g .old) (g .new) c ∷ rule5 (g .suite .coverages) c ∷ []
+
+pub record Breaks (old new tests sheet : Bytes) (p : ℕ) : Type 0 where
+  pub given : Given
+  pub reads : readJob old new tests ≡ accepted given
+  pub claims : Sheet
+  pub order : SheetFollows (given .old) (given .new) (given .suite) claims
+  pub text : sheet ≡ sheetText (given .suite .names) claims
+  pub rule : ℕ
+  pub place : p ≡ suc rule
+  pub broken : getD (fiveRules given claims) rule true ≡ false
+  pub kept : (j : ℕ) → j < rule → getD (fiveRules given claims) j true ≡ true
+
+abbrev pub ClaimsFalse : Type 0
+ClaimsFalse = (old new tests sheet : Bytes) (p : ℕ) → (checkAnswer old new tests sheet ≡ refusal 12 p) ↔ Breaks old new tests sheet p
+
+-- 4: the M line l that stands after 4,096 M lines is refused with 4, whatever it names and wherever it stands, unless a line before it is refused.
+unfoldable pub isM : SheetLine → Bool
+isM head-line = false
+isM (m-line a b) = true
+isM (d-line e) = false
+isM (r-line name) = false
+isM (end-line m d r) = false
+isM no-form = false
+
+unfoldable pub mCount : List Bytes → ℕ
+mCount [] = 0
+mCount (l ∷ ls) = plus (isM (sheetForm (fieldsOf l))) (mCount ls)
+
+abbrev pub LineAbove : Type 0
+LineAbove =
+    (old new tests sheet : Bytes) (g : Given) → readJob old new tests ≡ accepted g → length sheet ≤ maxBytes
+    → (ls : List Bytes) (l m : Bytes) (ms : List Bytes) → linesOf sheet ≡ ls ++ (l ∷ m ∷ ms) → mCount ls ≡ maxPairs → isM (sheetForm (fieldsOf l)) ≡ true
+    → (checkAnswer old new tests sheet ≡ refusal 4 (suc (length ls))) ⊎ ((k p : ℕ) × (checkAnswer old new tests sheet ≡ refusal k p) × (1 ≤ p) × (p ≤ length ls))
+
+-- A label is shown by side, 0 old and 1 new, and node number; 6 where there is no such side, or no such node of its version, and then nothing is shown.
+pub record LabelsAnswered (old new : Version) : Type 0 where
+  pub old-shown : (n : ℕ) → n < nodeCount (old .listing .program) → (labelAnswer old new 0 n ≡ success) × (labelShown old new 0 n ≡ labelPart old n)
+  pub new-shown : (n : ℕ) → n < nodeCount (new .listing .program) → (labelAnswer old new 1 n ≡ success) × (labelShown old new 1 n ≡ labelPart new n)
+  pub no-old-node : (n : ℕ) → nodeCount (old .listing .program) ≤ n → (labelAnswer old new 0 n ≡ refusal 6 0) × (labelShown old new 0 n ≡ [])
+  pub no-new-node : (n : ℕ) → nodeCount (new .listing .program) ≤ n → (labelAnswer old new 1 n ≡ refusal 6 0) × (labelShown old new 1 n ≡ [])
+  pub no-side : (side n : ℕ) → 1 < side → (labelAnswer old new side n ≡ refusal 6 0) × (labelShown old new side n ≡ [])
+
+-- ==== demand 2: files, pairs, dangerous edges, tests to repeat, records
 
 -- ---- files are accepted exactly when they follow the layouts
 
@@ -70,7 +186,7 @@ pub record Exact (old new : Program) : Type 1 where
 abbrev pub ClosingRulesExact : Type 1
 ClosingRulesExact = (old new : Bytes) (p p′ : Program) → readProgram old ≡ accepted p → readProgram new ≡ accepted p′ → Exact p p′
 
--- ---- demand 2: the sheet and the record lines that are written are exactly those of the closing rules
+-- ---- the sheet and the record lines that are written are exactly those of the closing rules
 
 -- A test is repeated: its coverage holds a dangerous edge.
 abbrev pub Repeated : Program → Program → Coverage → Type 0
@@ -86,7 +202,7 @@ pub record SheetExact (g : Given) (sheet : Bytes) : Type 0 where
   pub repeated-are : (i : ℕ) → (has (claims .R) i ≡ true) ↔ ((i < testCount (g .suite)) × Repeated (g .old) (g .new) (coverageAt (g .suite) i))
 
 -- The record line of a test: the number of old edges that it crossed, and a mark for each new edge, `?` (63) throughout if it is repeated, and else `0` (48) exactly if no old
--- counterpart was crossed, `1` (49) exactly if some crossed one has it as only counterpart.
+-- counterpart was crossed, `1` (49) exactly if some crossed one has it as only counterpart; no other byte stands there.
 pub record LineExact (old new : Program) (name : Bytes) (coverage : Coverage) (line : Bytes) : Type 0 where
   pub marks : Bytes
   pub text : line ≡ textOf (vLine name (count (edgeCount old) (holds coverage)) marks ∷ [])
@@ -95,12 +211,15 @@ pub record LineExact (old new : Program) (name : Bytes) (coverage : Coverage) (l
   pub zero : (Repeated old new coverage → ⊥) → (x : ℕ) → x < edgeCount new → (getD marks x 0 ≡ 48) ↔ ((e : ℕ) → Counterparts old new e x → holds coverage e ≡ true → ⊥)
   pub one : (Repeated old new coverage → ⊥) → (x : ℕ) → x < edgeCount new
       → (getD marks x 0 ≡ 49) ↔ ((e : ℕ) × Counterparts old new e x × (holds coverage e ≡ true) × ((f : ℕ) → Counterparts old new e f → f ≡ x))
+  pub three : (x : ℕ) → x < edgeCount new → (getD marks x 0 ≡ 48) ⊎ ((getD marks x 0 ≡ 49) ⊎ (getD marks x 0 ≡ 63))
 
 -- Demand 2, of the texts of a job.
 pub record Demand2 (old new tests : Bytes) : Type 0 where
   pub sheet-exact : (room : ℕ) (sheet : Bytes) → sheetAnswer old new tests room ≡ wrote sheet → (g : Given) × (readJob old new tests ≡ accepted g) × SheetExact g sheet
   pub line-exact : (i room : ℕ) (line : Bytes) → recordAnswer old new tests i room ≡ wrote line
       → (g : Given) × (readJob old new tests ≡ accepted g) × (i < testCount (g .suite)) × LineExact (g .old) (g .new) (testName (g .suite) i) (coverageAt (g .suite) i) line
+
+-- ==== demand 3: a test that is left off goes the same
 
 -- ---- the check passes exactly the sheets whose limits, layout and rules hold
 
@@ -123,7 +242,7 @@ pub record Passes (old new tests sheet : Bytes) : Type 0 where
 abbrev pub PassesExactly : Type 0
 PassesExactly = (old new tests sheet : Bytes) → (checkAnswer old new tests sheet ≡ passed) ↔ Passes old new tests sheet
 
--- ---- demand 3: a test that is left off goes the same
+-- ---- runs
 
 -- A new run stands where the old one does: on a node alike, with the same word chosen, as many open calls, equal states and equal outputs, and it has ended just if the old one has.
 pub record Alongside {ℓ κ} {St : Type ℓ} {Out : Type κ} (old new : Program) (c c′ : Config St Out) : Type (ℓ ⊔ κ) where
@@ -178,43 +297,11 @@ module _ {ℓ κ} (St : Type ℓ) (Out : Type κ) where
     -- `ry_sheet` returns a number below 4,294,967,296: it is how many bytes of a sheet stand at the front of the output, and for these `ry_check` returns 0.
     pub passes : (out out′ : Bytes) (r : ℕ) → r ≡ packed (sheetAnswer old new tests (length out)) → out′ ≡ outputAfter (sheetAnswer old new tests (length out)) out → r < 4294967296
         → (sheet : Bytes) × (sheetAnswer old new tests (length out) ≡ wrote sheet) × (r ≡ length sheet) × (out′ ≡ sheet ++ drop r out) × (packed (checkAnswer old new tests sheet) ≡ 0)
+    -- A test with no R line among these bytes is left off by the selector: it is not repeated.
+    pub unlisted : (out out′ : Bytes) (r : ℕ) → r ≡ packed (sheetAnswer old new tests (length out)) → out′ ≡ outputAfter (sheetAnswer old new tests (length out)) out → r < 4294967296
+        → (g : Given) → readJob old new tests ≡ accepted g → (i : ℕ) → leftOff (take r out′) (testName (g .suite) i) ≡ true → has (repeated (g .old) (g .new) (g .suite .coverages)) i ≡ false
     -- `ry_record` returns one below it: so many bytes of a record line, whose marks are true if the selector leaves the test off.
     pub marked : (i : ℕ) (out out′ : Bytes) (r : ℕ) → r ≡ packed (recordAnswer old new tests i (length out)) → out′ ≡ outputAfter (recordAnswer old new tests i (length out)) out → r < 4294967296
-        → (g : Given) × (readJob old new tests ≡ accepted g) × (marks : Bytes)
+        → (g : Given) × (readJob old new tests ≡ accepted g) × (marks : Bytes) × (length marks ≡ edgeCount (g .new))
         × (out′ ≡ textOf (vLine (testName (g .suite) i) (crossed (g .old) (coverageAt (g .suite) i)) marks ∷ []) ++ drop r out)
         × (has (repeated (g .old) (g .new) (g .suite .coverages)) i ≡ false → MarksTrue g i marks)
-
--- ---- answers
-
--- A call's answer has number 0 only where it succeeds, else one up to 16, and its place fits beside the number.
-pub record Plain (o : Outcome) : Type 0 where
-  pub zero-succeeds : numberOf o ≡ 0 → (b : Bytes) × (o ≡ wrote b)
-  pub few-numbers : numberOf o ≤ 16
-  pub fits-beside : placeOf o < 4294967296
-
-pub record AnswersPlain (old new tests : Bytes) : Type 0 where
-  pub of-old : Plain (readOldAnswer old)
-  pub of-new : Plain (readNewAnswer old new)
-  pub of-tests : Plain (readTestsAnswer old new tests)
-  pub of-sheet : (room : ℕ) → Plain (sheetAnswer old new tests room)
-  pub of-record : (i room : ℕ) → Plain (recordAnswer old new tests i room)
-  pub of-check : (sheet : Bytes) → Plain (checkAnswer old new tests sheet)
-
--- Number and place are taken out of the one number that an exported call returns.
-abbrev pub Unpacks : Type 0
-Unpacks = (o : Outcome) → Plain o → (packed o / 4294967296 ≡ numberOf o) × (packed o % 4294967296 ≡ placeOf o)
-
--- A sheet and a record line are written, refused with 15 or refused with 16, each exactly for its reason.
-
--- The answer o to writing the bytes b into an output of `room` bytes, for the texts that give g.
-pub record Writes (g : Given) (room : ℕ) (b : Bytes) (o : Outcome) : Type 0 where
-  pub written : (c : Bytes) → (o ≡ wrote c) ↔ ((length (pairs (g .old) (g .new)) ≤ maxPairs) × (length b ≤ room) × (b ≡ c))
-  -- 15: more than 4,096 pairs exist.
-  pub too-many : (o ≡ refusal 15 0) ↔ (maxPairs < length (pairs (g .old) (g .new)))
-  -- 16: the output is shorter than what must be written.
-  pub too-short : (o ≡ refusal 16 0) ↔ ((length (pairs (g .old) (g .new)) ≤ maxPairs) × (room < length b))
-
--- Of the sheet, and of the record line of a test that is there.
-abbrev pub WritesExactly : Type 0
-WritesExactly = (old new tests : Bytes) (g : Given) → readJob old new tests ≡ accepted g → (room : ℕ)
-    → Writes g room (sheetBytes g) (sheetAnswer old new tests room) × ((i : ℕ) → i < testCount (g .suite) → Writes g room (recordBytes g i) (recordAnswer old new tests i room))

@@ -19,3 +19,5 @@ pub mod Places
 pub mod Selection
 pub mod Written
 pub mod Exported
+pub mod Refused
+pub mod Checked

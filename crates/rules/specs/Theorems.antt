@@ -1,19 +1,81 @@
--- The promises, proved.
+-- The promises, proved, in the order of Promises.
 use Rattle.rules.specs.Text.{Bytes}
-use Rattle.rules.specs.Promises.{AnswersPlain, ClosingRulesExact, Demand2, Demand3, ExportedDemand3, LabelShown, PassesExactly, ProgramLayout, ProgramPlaced, ProgramWellFormed, SuiteLayout, SuitePlaced, Unpacks, WritesExactly}
-use Rattle.rules.specs.Proofs.Answers.{plain-answers}
+use Rattle.rules.specs.Job.{Version}
+use Rattle.rules.specs.Promises.{
+  AnswersPlain,
+  CheckNumbers,
+  ClaimsFalse,
+  ClosingRulesExact,
+  Demand2,
+  Demand3,
+  ExportedDemand3,
+  LabelShown,
+  LabelsAnswered,
+  LineAbove,
+  PassesExactly,
+  ProgramLayout,
+  ProgramPlaced,
+  ProgramWellFormed,
+  RecordShort,
+  RecordUnnamed,
+  SuiteLayout,
+  SuitePlaced,
+  TextsRead,
+  TextsRefused,
+  Unpacks,
+  WritesExactly,
+}
+use Rattle.rules.specs.Proofs.Answers.{check-number, plain-answers, record-short as short-record}
+use Rattle.rules.specs.Proofs.Checked as Checked
 use Rattle.rules.specs.Proofs.Closure.{exact}
 use Rattle.rules.specs.Proofs.Exported.{exported, unpacked}
 use Rattle.rules.specs.Proofs.JobLaws.{checked-texts, marked-texts, unlisted-texts}
-use Rattle.rules.specs.Proofs.Lockstep.{unlisted}
 use Rattle.rules.specs.Proofs.Places.{listing-placed, label-part, tests-placed}
 use Rattle.rules.specs.Proofs.ProgramLaws.{read-well-formed}
 use Rattle.rules.specs.Proofs.ReadBack.{written-passes}
+use Rattle.rules.specs.Proofs.Refused as Refused
 use Rattle.rules.specs.Proofs.Selection.{selection-exact}
 use Rattle.rules.specs.Proofs.SheetLayout.{check-exact}
 use Rattle.rules.specs.Proofs.WriteProgram.{reads-layout}
 use Rattle.rules.specs.Proofs.WriteSuite.{reads-suite-layout}
 use Rattle.rules.specs.Proofs.Written.{written-exactly}
+
+-- ---- demand 1
+
+pub answers-plain : (old new tests : Bytes) → AnswersPlain old new tests
+answers-plain = plain-answers
+
+pub unpacks : Unpacks
+unpacks = unpacked
+
+pub texts-read : (old new tests : Bytes) → TextsRead old new tests
+texts-read = Refused.texts-in-order
+
+pub texts-refused : TextsRefused
+texts-refused = Refused.texts-first
+
+pub record-unnamed : RecordUnnamed
+record-unnamed = Refused.no-test
+
+pub writes-exactly : WritesExactly
+writes-exactly = written-exactly
+
+pub record-short : RecordShort
+record-short = short-record
+
+pub check-numbers : CheckNumbers
+check-numbers = check-number
+
+pub claims-false : ClaimsFalse
+claims-false = Checked.claims-false
+
+pub line-above : LineAbove
+line-above = Checked.line-above
+
+pub labels-answered : (old new : Version) → LabelsAnswered old new
+labels-answered = Refused.labels-answered
+
+-- ---- demand 2
 
 pub program-layout : ProgramLayout
 program-layout = reads-layout
@@ -39,6 +101,8 @@ closing-rules-exact old new p p′ e e′ = exact p p′ (read-well-formed old p
 pub demand2 : (old new tests : Bytes) → Demand2 old new tests
 demand2 = selection-exact
 
+-- ---- demand 3
+
 pub passes-exactly : PassesExactly
 passes-exactly = check-exact
 
@@ -51,14 +115,5 @@ demand3 St Out old new tests =
       marked = λ i room line e. marked-texts old new tests i room line e;
     }
 
-pub answers-plain : (old new tests : Bytes) → AnswersPlain old new tests
-answers-plain old new tests = plain-answers old new tests
-
 pub exported-demand3 {ℓ κ} : (St : Type ℓ) (Out : Type κ) (old new tests : Bytes) → ExportedDemand3 St Out old new tests
 exported-demand3 St Out old new tests = exported St Out old new tests (demand3 St Out old new tests) (answers-plain old new tests)
-
-pub unpacks : Unpacks
-unpacks = unpacked
-
-pub writes-exactly : WritesExactly
-writes-exactly = written-exactly

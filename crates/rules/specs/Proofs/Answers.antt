@@ -1,4 +1,4 @@
--- Answers: a refusal's number is 1 to 16, and its place and the bytes written are below 4,294,967,296, so that one number holds both.
+-- Answers: a refusal's number is 1 to 16, of a reading at most 11, and its place and the bytes written are below 4,294,967,296, so that one number holds both.
 use mathlib.Core.Path.{_≡_, refl, sym, ap, subst}
 use mathlib.Core.Bool.{Bool, true, false}
 use mathlib.Core.Option.{Option, none, some}
@@ -19,8 +19,8 @@ use Rattle.rules.specs.SuiteFile.{Suite, TestLine, TestListing, coverage
 use Rattle.rules.specs.Closing.{Coverage, holds}
 use Rattle.rules.specs.Sheet.{Sheet, SheetLine, SheetRead, crossed, d-line, end-line, finishSheet, head-line, m-line, marksOf, no-form, noSheet, r-line, readSheet, recordText, sheetForm, stepSheet, takeSheetLine, testOf, vLine}
 use Rattle.rules.specs.Check.{broken, rule1, rule2, rule3, rule4, rule5}
-use Rattle.rules.specs.Job.{Given, Outcome, checkAnswer, judged, outcome, readJob, readNewAnswer, readOldAnswer, readTestsAnswer, recordAnswer, recordBytes, refusal, sheetAnswer, sheetBytes, success, writing, wrote}
-use Rattle.rules.specs.Promises.{AnswersPlain, Plain}
+use Rattle.rules.specs.Job.{Given, Outcome, checkAnswer, judged, numberOf, outcome, readJob, readNewAnswer, readOldAnswer, readTestsAnswer, recordAnswer, recordBytes, refusal, sheetAnswer, sheetBytes, success, writing, wrote}
+use Rattle.rules.specs.Promises.{AnswersPlain, CheckNumbers, Plain}
 use Rattle.rules.specs.Proofs.JobLaws.{known, marks-length, outcome-wrote, record-wrote, wrote-choose, wrote-same}
 use Rattle.rules.specs.Proofs.ReadBack.{name-short, written-passes}
 use Rattle.rules.specs.Proofs.SuiteLaws.{suite-sound}
@@ -30,24 +30,24 @@ use Rattle.rules.specs.Proofs.TextLaws.{decimal-most, split-cons}
 abbrev big : ℕ
 big = 4294967296
 
--- The number of a refusal; with its place.
-abbrev Number : ℕ → Type 0
-Number k = (0 < k) × (k ≤ 16)
+-- The number of a refusal, at most m; with its place.
+abbrev Number : ℕ → ℕ → Type 0
+Number m k = (0 < k) × (k ≤ m)
 
-abbrev Refusal : ℕ → ℕ → Type 0
-Refusal k p = Number k × (p < big)
+abbrev Refusal : ℕ → ℕ → ℕ → Type 0
+Refusal m k p = Number m k × (p < big)
 
--- An answer that refuses only so; what it accepts has P.
-abbrev Good : {A : Type 0} → (A → Type 0) → Answer A → Type 0
-Good P (refused k p) = Refusal k p
+-- The answer of a reading, whose numbers are at most 11; what it accepts has P.
+abbrev pub Good : {A : Type 0} → (A → Type 0) → Answer A → Type 0
+Good P (refused k p) = Refusal 11 k p
 Good P (accepted a) = P a
 
 -- Nothing is asked of it.
-abbrev Any : {A : Type 0} → A → Type 0
+abbrev pub Any : {A : Type 0} → A → Type 0
 Any a = Unit {0}
 
 module _ {A : Type 0} (P : A → Type 0) where
-  unless-good : (b : Bool) (k p : ℕ) (a : Answer A) → Number k → p < big → (b ≡ false → Good P a) → Good P (unless b k p a)
+  unless-good : (b : Bool) (k p : ℕ) (a : Answer A) → Number 11 k → p < big → (b ≡ false → Good P a) → Good P (unless b k p a)
   unfolding unless
   unless-good true k p a h l n = (h, l)
   unless-good false k p a h l n = n refl
@@ -162,43 +162,45 @@ sheet-line-good old new suite n s head-line h = unless-good Any _ _ _ _ (omega a
 sheet-line-good old new suite n s (m-line a b) h = unless-good Any _ _ _ _ (omega arith, omega arith) h (λ e. unless-good Any _ _ _ _ (omega arith, omega arith) h (λ e. tt))
 sheet-line-good old new suite n s (d-line e) h = unless-good Any _ _ _ _ (omega arith, omega arith) h (λ e. tt)
 sheet-line-good old new suite n s (r-line name) h =
-    after-good Any (testOf suite name) _ _ ((let z : 0 < 11 = omega arith in z, let z : 11 ≤ 16 = omega arith in z), h) (λ i. unless-good Any _ _ _ _ (omega arith, omega arith) h (λ e. tt))
+    after-good Any (testOf suite name) _ _ ((let z : 0 < 11 = omega arith in z, let z : 11 ≤ 11 = omega arith in z), h) (λ i. unless-good Any _ _ _ _ (omega arith, omega arith) h (λ e. tt))
 sheet-line-good old new suite n s (end-line m d r) h = unless-good Any _ _ _ _ (omega arith, omega arith) h (λ e. tt)
 sheet-line-good old new suite n s no-form h = ((omega arith, omega arith), h)
 
-sheet-good : (old new : Program) (suite : Suite) (text : Bytes) → Good Any (readSheet old new suite text)
+pub sheet-good : (old new : Program) (suite : Suite) (text : Bytes) → Good Any (readSheet old new suite text)
 unfolding readSheet stepSheet finishSheet
 sheet-good old new suite text =
     text-good Any Any (stepSheet old new suite) finishSheet (λ n at s l h k. sheet-line-good old new suite n s (sheetForm (fieldsOf l)) h)
     (λ n s h k. unless-good Any _ _ _ _ (omega arith, omega arith) h (λ e. tt)) noSheet text tt
 
-job-good : (old new tests : Bytes) → Good Any (readJob old new tests)
+pub job-good : (old new tests : Bytes) → Good Any (readJob old new tests)
 unfolding readJob
 job-good old new tests =
     then-good Any Any _ _ (program-good old) (λ p k. then-good Any Any _ _ (program-good new) (λ r k. then-good Any Any _ _ (suite-good (edgeCount p) tests) (λ s k. tt)))
 
 -- ---- outcomes
 
--- A refusal, or something written.
-abbrev Told : Outcome → Type 0
-Told (wrote b) = Unit {0}
-Told (refusal k p) = Refusal k p
+-- A refusal whose number is at most m, or something written.
+abbrev Told : ℕ → Outcome → Type 0
+Told m (wrote b) = Unit {0}
+Told m (refusal k p) = Refusal m k p
 
-outcome-told : {A : Type 0} (a : Answer A) (f : A → Outcome) → Good Any a → ((x : A) → Told (f x)) → Told (outcome a f)
+outcome-told : {A : Type 0} (m : ℕ) (a : Answer A) (f : A → Outcome) → 11 ≤ m → Good Any a → ((x : A) → Told m (f x)) → Told m (outcome a f)
 unfolding outcome
-outcome-told (refused k p) f h n = h
-outcome-told (accepted x) f h n = n x
+outcome-told m (refused k p) f l h n = ((h .0 .0, let z : k ≤ m = omega (arith, h .0 .1) in z), h .1)
+outcome-told m (accepted x) f l h n = n x
 
-choose-told : (b : Bool) (x y : Outcome) → Told x → Told y → Told (choose b x y)
+choose-told : (m : ℕ) (b : Bool) (x y : Outcome) → Told m x → Told m y → Told m (choose b x y)
 unfolding choose
-choose-told true x y h k = h
-choose-told false x y h k = k
+choose-told m true x y h k = h
+choose-told m false x y h k = k
 
-writing-told : (g : Given) (room : ℕ) (b : Bytes) → Told (writing g room b)
+-- A refusal with place 0.
+placeless : (m k : ℕ) → 0 < k → k ≤ m → Told m (refusal k 0)
+placeless m k h l = ((h, l), let z : 0 < big = omega arith in z)
+
+writing-told : (g : Given) (room : ℕ) (b : Bytes) → Told 16 (writing g room b)
 unfolding writing
-writing-told g room b =
-    choose-told _ _ _ ((let z : 0 < 15 = omega arith in z, let z : 15 ≤ 16 = omega arith in z), let z : 0 < big = omega arith in z)
-    (choose-told _ _ _ ((let z : 0 < 16 = omega arith in z, let z : 16 ≤ 16 = omega arith in z), let z : 0 < big = omega arith in z) tt)
+writing-told g room b = choose-told 16 _ _ _ (placeless 16 15 (omega arith) (omega arith)) (choose-told 16 _ _ _ (placeless 16 16 (omega arith) (omega arith)) tt)
 
 -- The place of a broken rule is at most 5.
 failed-few : (k : ℕ) (l : List Bool) → firstFailed k l ≤ k + length l
@@ -211,14 +213,28 @@ broken-few : (old new : Program) (suite : List Coverage) (s : Sheet) → broken 
 unfolding broken
 broken-few old new suite s = omega (arith, failed-few 1 (rule1 old new s ∷ rule2 old new s ∷ rule3 old new s ∷ rule4 old new s ∷ rule5 suite s ∷ []))
 
-judged-told : (g : Given) (s : Sheet) → Told (judged g s)
+judged-told : (g : Given) (s : Sheet) → Told 12 (judged g s)
 unfolding judged
-judged-told g s = choose-told _ _ _ tt ((let z : 0 < 12 = omega arith in z, let z : 12 ≤ 16 = omega arith in z), broken-few (g .old) (g .new) (g .suite .coverages) s)
+judged-told g s = choose-told 12 _ _ _ tt ((let z : 0 < 12 = omega arith in z, let z : 12 ≤ 12 = omega arith in z), broken-few (g .old) (g .new) (g .suite .coverages) s)
+
+check-told : (old new tests sheet : Bytes) → Told 12 (checkAnswer old new tests sheet)
+unfolding checkAnswer
+check-told old new tests sheet =
+    outcome-told 12 _ _ (omega arith) (job-good old new tests) (λ g. outcome-told 12 _ _ (omega arith) (sheet-good (g .old) (g .new) (g .suite) sheet) (judged-told g))
+
+few-told : (m : ℕ) (o : Outcome) → Told m o → numberOf o ≤ m
+few-told m (wrote b) t = omega arith
+few-told m (refusal k p) t = t .0 .1
+
+-- The check's numbers.
+pub check-number : CheckNumbers
+check-number old new tests sheet = few-told 12 (checkAnswer old new tests sheet) (check-told old new tests sheet)
 
 -- What is told is plain, if what was written is short.
-plain : (o : Outcome) → Told o → ((b : Bytes) → o ≡ wrote b → length b < big) → Plain o
-plain (wrote b) t h = record { zero-succeeds = λ e. (b, refl); few-numbers = omega arith; fits-beside = h b refl }
-plain (refusal k p) t h = record { zero-succeeds = λ e. absurd (let z : ⊥ = omega (arith, t .0 .0) in z); few-numbers = t .0 .1; fits-beside = t .1 }
+plain : (m : ℕ) (o : Outcome) → m ≤ 16 → Told m o → ((b : Bytes) → o ≡ wrote b → length b < big) → Plain o
+plain m (wrote b) l t h = record { zero-succeeds = λ e. (b, refl); few-numbers = omega arith; fits-beside = h b refl }
+plain m (refusal k p) l t h =
+    record { zero-succeeds = λ e. absurd (let z : ⊥ = omega (arith, t .0 .0) in z); few-numbers = omega (arith, t .0 .1); fits-beside = t .1 }
 
 -- Where nothing is written, nothing long is.
 unwritten : (o : Outcome) → ((b : Bytes) → o ≡ wrote b → b ≡ []) → (b : Bytes) → o ≡ wrote b → length b < big
@@ -260,16 +276,15 @@ pub plain-answers : (old new tests : Bytes) → AnswersPlain old new tests
 unfolding readOldAnswer readNewAnswer readTestsAnswer sheetAnswer recordAnswer checkAnswer
 plain-answers old new tests =
     record {
-      of-old = plain _ (outcome-told _ _ (program-good old) (λ p. tt)) (unwritten _ (success-only _ _ (λ p. nothing-wrote)));
-      of-new = plain _ (outcome-told _ _ (program-good old) (λ p. outcome-told _ _ (program-good new) (λ r. tt)))
+      of-old = plain 11 _ (omega arith) (outcome-told 11 _ _ (omega arith) (program-good old) (λ p. tt)) (unwritten _ (success-only _ _ (λ p. nothing-wrote)));
+      of-new = plain 11 _ (omega arith) (outcome-told 11 _ _ (omega arith) (program-good old) (λ p. outcome-told 11 _ _ (omega arith) (program-good new) (λ r. tt)))
           (unwritten _ (success-only _ _ (λ p. success-only _ _ (λ r. nothing-wrote))));
-      of-tests = plain _ (outcome-told _ _ (job-good old new tests) (λ g. tt)) (unwritten _ (success-only _ _ (λ g. nothing-wrote)));
+      of-tests = plain 11 _ (omega arith) (outcome-told 11 _ _ (omega arith) (job-good old new tests) (λ g. tt)) (unwritten _ (success-only _ _ (λ g. nothing-wrote)));
       of-sheet = λ room.
-          plain _ (outcome-told _ _ (job-good old new tests) (λ g. writing-told g room (sheetBytes g))) (λ b e. omega (arith, written-passes old new tests room b e .1));
+          plain 16 _ (omega arith) (outcome-told 16 _ _ (omega arith) (job-good old new tests) (λ g. writing-told g room (sheetBytes g))) (λ b e. omega (arith, written-passes old new tests room b e .1));
       of-record = λ i room.
-          plain _ (outcome-told _ _ (job-good old new tests) (λ g. choose-told _ _ _ (writing-told g room (recordBytes g i)) ((let z : 0 < 6 = omega arith in z, let z : 6 ≤ 16 = omega arith in z), let z : 0 < big = omega arith in z)))
+          plain 16 _ (omega arith)
+          (outcome-told 16 _ _ (omega arith) (job-good old new tests) (λ g. choose-told 16 _ _ _ (writing-told g room (recordBytes g i)) (placeless 16 6 (omega arith) (omega arith))))
           (λ b e. omega (arith, record-short old new tests i room b e));
-      of-check = λ sheet.
-          plain _ (outcome-told _ _ (job-good old new tests) (λ g. outcome-told _ _ (sheet-good (g .old) (g .new) (g .suite) sheet) (judged-told g)))
-          (unwritten _ (success-only _ _ (λ g. success-only _ _ (judged-wrote g))));
+      of-check = λ sheet. plain 12 _ (omega arith) (check-told old new tests sheet) (unwritten _ (success-only _ _ (λ g. success-only _ _ (judged-wrote g))));
     }

@@ -1,10 +1,14 @@
 -- What the one number of an exported call says: number and place are taken out of it again, and demand 3 of the numbers that the calls return.
-use mathlib.Core.Path.{_≡_, refl, sym, ap, _∙_, subst}
+use mathlib.Core.Path.{_≡_, refl, sym, ap, ap₂, _∙_, subst}
+use mathlib.Core.Bool.{true}
 use mathlib.Core.List.{[], _∷_, _++_}
 use Prim.Native.Nat.{ℕ, _+_, _<_}
 use native.Mathlib.Omega.{arith}
-use lib.ListN.{length, drop}
+use lib.ListN.{length, take, drop}
+use lib.Seq.{take-append-seam}
 use Rattle.rules.specs.Text.{Bytes}
+use Rattle.rules.specs.SuiteFile.{testName}
+use Rattle.rules.specs.Sheet.{leftOff}
 use Rattle.rules.specs.Job.{Outcome, numberOf, outputAfter, packed, passed, placeOf, wrote}
 use Rattle.rules.specs.Promises.{AnswersPlain, Demand3, ExportedDemand3, Plain, Unpacks}
 
@@ -51,9 +55,14 @@ exported St Out old new tests d a =
           let w = below-wrote _ (a .of-sheet (length out)) (subst (λ (k : ℕ). k < 4294967296) e b) in
           let n : r ≡ length (w .0) = e ∙ w .2 in
           (w .0, w .1, n, written _ (w .0) out out′ r (w .1) n l, ap packed (d .passes (length out) (w .0) (w .1) .0));
+      unlisted = λ out out′ r e l b g j i h.
+          let w = below-wrote _ (a .of-sheet (length out)) (subst (λ (k : ℕ). k < 4294967296) e b) in
+          let n : r ≡ length (w .0) = e ∙ w .2 in
+          let f : take r out′ ≡ w .0 = ap₂ (λ (k : ℕ) (x : Bytes). take k x) n (written _ (w .0) out out′ r (w .1) n l) ∙ take-append-seam (w .0) (drop r out) in
+          d .unlisted (length out) (w .0) (w .1) g j i (subst (λ (x : Bytes). leftOff x (testName (g .suite) i) ≡ true) f h);
       marked = λ i out out′ r e l b.
           let w = below-wrote _ (a .of-record i (length out)) (subst (λ (k : ℕ). k < 4294967296) e b) in
           let n : r ≡ length (w .0) = e ∙ w .2 in
           let m = d .marked i (length out) (w .0) (w .1) in
-          (m .0, m .1, m .2, written _ (w .0) out out′ r (w .1) n l ∙ ap (λ (x : Bytes). x ++ drop r out) (m .4), m .5);
+          (m .0, m .1, m .2, m .3, written _ (w .0) out out′ r (w .1) n l ∙ ap (λ (x : Bytes). x ++ drop r out) (m .4), m .5);
     }

@@ -1,6 +1,6 @@
 -- Demand 2 of what is written: the selector's sheet and the record lines are those of the closing rules.
-use mathlib.Core.Path.{_≡_, refl, sym, ap, _∙_}
-use mathlib.Core.Logic.{_↔_}
+use mathlib.Core.Path.{_≡_, refl, sym, ap, _∙_, subst}
+use mathlib.Core.Logic.{_↔_, _⊎_, inl, inr}
 use mathlib.Core.Bool.{Bool, true, false, true≢false}
 use Prim.Native.Nat.{ℕ, _<_}
 use native.Mathlib.Omega.{arith}
@@ -66,6 +66,13 @@ byte-one true true h = (λ e. refl, λ e. refl)
 byte-one true false h = (λ e. absurd (let z : ⊥ = omega arith in z), λ e. absurd (true≢false (sym e)))
 byte-one false true h = (λ e. refl, λ e. absurd (true≢false (sym (h refl))))
 byte-one false false h = (λ e. absurd (let z : ⊥ = omega arith in z), λ e. absurd (true≢false (sym e)))
+
+byte-three : (m a b : Bool) → (byteOf m a b ≡ 48) ⊎ ((byteOf m a b ≡ 49) ⊎ (byteOf m a b ≡ 63))
+unfolding byteOf choose isnt markByte
+byte-three true a b = inr (inr refl)
+byte-three false false b = inl refl
+byte-three false true true = inr (inl refl)
+byte-three false true false = inr (inr refl)
 
 module _ (old new : Program) (x : Exact old new) (coverage : Coverage) where
   repeated-of : meets (dangers old new) coverage ≡ true → Repeated old new coverage
@@ -157,6 +164,7 @@ module _ (old new : Program) (x : Exact old new) (coverage : Coverage) where
           λ b. one-crossed f l .0 (byte-one (some-crossed f) (only-crossed f) (only-some f l) .0 (sym (left h f l) ∙ b)),
           λ c. left h f l ∙ byte-one (some-crossed f) (only-crossed f) (only-some f l) .1 (one-crossed f l .1 c),
         );
+        three = λ f l. subst (λ (b : ℕ). (b ≡ 48) ⊎ ((b ≡ 49) ⊎ (b ≡ 63))) (sym (at f l)) (byte-three (meets (dangers old new) coverage) (some-crossed f) (only-crossed f));
       }
 
 pub selection-exact : (old new tests : Bytes) → Demand2 old new tests

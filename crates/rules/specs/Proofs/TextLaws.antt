@@ -57,6 +57,12 @@ unfolding unless
 unless-passes true k p a e = absurd (true≢false e)
 unless-passes false k p a e = refl
 
+-- What is refused.
+pub unless-refuses : {A : Type 0} (b : Bool) (k p : ℕ) (a : Answer A) → b ≡ true → unless b k p a ≡ refused k p
+unfolding unless
+unless-refuses true k p a e = refl
+unless-refuses false k p a e = absurd (true≢false (sym e))
+
 pub accepted-same : {A : Type 0} {a b : A} → accepted a ≡ accepted b → a ≡ b
 accepted-same e = cc
 

@@ -1,0 +1,179 @@
+-- When the check of a sheet refuses with 12 and with 4, and which numbers it gives.
+use mathlib.Core.Path.{_≡_, refl, sym, ap, _∙_, subst}
+use mathlib.Core.Logic.{_⊎_, inl, inr, ⊎-elim}
+use mathlib.Core.Bool.{Bool, true, false, true≢false}
+use mathlib.Core.Option.{Option, none, some}
+use mathlib.Core.List.{List, [], _∷_, _++_}
+use Prim.Native.Nat.{ℕ, zero, suc, _+_, _≤_, _<_}
+use native.Mathlib.Omega.{arith}
+use lib.Dec.{eqb}
+use lib.ListN.{length, getD}
+use borrow.Author.Tests.{eq-eqb, le-leb, le-ltb, ne-eqb}
+use Rattle.laws.specs.Tests.{after, choose, firstFailed, plus}
+use Rattle.laws.specs.TestLaws.{both-ways}
+use Rattle.laws.specs.Lists.{choose-yes, choose-no, snoc-length}
+use Rattle.rules.specs.Text.{Answer, Bytes, accepted, fieldsOf, linesOf, maxBytes, maxPairs, readLines, readText, refused, then, unless}
+use Rattle.rules.specs.Graph.{Program}
+use Rattle.rules.specs.SuiteFile.{Suite}
+use Rattle.rules.specs.Sheet.{Sheet, SheetLine, SheetRead, d-line, end-line, finishSheet, head-line, m-line, no-form, noSheet, r-line, readSheet, sheetForm, stepSheet, takeSheetLine, testOf}
+use Rattle.rules.specs.Check.{broken}
+use Rattle.rules.specs.Job.{Given, Outcome, checkAnswer, checking, judged, numberOf, outcome, passed, readJob, refusal, wrote}
+use Rattle.rules.specs.Promises.{Breaks, ClaimsFalse, LineAbove, fiveRules, isM, mCount}
+use Rattle.rules.specs.Proofs.Answers.{Any, Good, job-good, sheet-good}
+use Rattle.rules.specs.Proofs.JobLaws.{known}
+use Rattle.rules.specs.Proofs.SheetLayout.{accepted-orderly, sheet-layout}
+use Rattle.rules.specs.Proofs.TextLaws.{then-passes, unless-passes, unless-refuses}
+
+-- ---- 12
+
+-- The first test of a list that fails, counted from k.
+failed-at : (l : List Bool) (k i : ℕ) → getD l i true ≡ false → ((j : ℕ) → j < i → getD l j true ≡ true) → firstFailed k l ≡ k + i
+unfolding firstFailed
+failed-at [] k i h e = absurd (true≢false h)
+failed-at (true ∷ l) k zero h e = absurd (true≢false h)
+failed-at (false ∷ l) k zero h e = omega arith
+failed-at (true ∷ l) k (suc i) h e = omega (arith, failed-at l (suc k) i h (λ j b. e (suc j) (omega arith)))
+failed-at (false ∷ l) k (suc i) h e = absurd (true≢false (sym (e 0 (omega arith))))
+
+failed-is : (l : List Bool) (k : ℕ) → 0 < k → (firstFailed k l ≡ 0 → ⊥) → (i : ℕ) × (firstFailed k l ≡ k + i) × (getD l i true ≡ false) × ((j : ℕ) → j < i → getD l j true ≡ true)
+unfolding firstFailed
+failed-is [] k h n = absurd (n refl)
+failed-is (false ∷ l) k h n = (0, let z : k ≡ k + 0 = omega arith in z, refl, λ j b. absurd (let z : ⊥ = omega arith in z))
+failed-is (true ∷ l) k h n =
+    let u = failed-is l (suc k) (omega arith) n in
+    (suc (u .0), let z : firstFailed (suc k) l ≡ k + suc (u .0) = omega (arith, u .1) in z, u .2, below (u .0) (u .3))
+  where
+    below : (i : ℕ) → ((j : ℕ) → j < i → getD l j true ≡ true) → (j : ℕ) → j < suc i → getD (true ∷ l) j true ≡ true
+    below i f zero b = refl
+    below i f (suc j) b = f j (omega arith)
+
+-- A refusal with 12 comes behind a reading that was accepted.
+read-past : {A : Type 0} (a : Answer A) (f : A → Outcome) → Good Any a → (p : ℕ) → outcome a f ≡ refusal 12 p → (x : A) × (a ≡ accepted x) × (f x ≡ refusal 12 p)
+unfolding outcome
+read-past (refused k q) f h p e = absurd (let z : ⊥ = omega (arith, h .0 .1, ap numberOf e) in z)
+read-past (accepted x) f h p e = (x, refl, e)
+
+refusal-place : {k j p q : ℕ} → refusal k p ≡ refusal j q → p ≡ q
+refusal-place e = cc
+
+never-wrote : {b : Bytes} {k p : ℕ} → wrote b ≡ refusal k p → ⊥
+never-wrote e = true≢false (let z : true ≡ false = cc in z)
+
+judged-false : (g : Given) (c : Sheet) (p : ℕ) → judged g c ≡ refusal 12 p → (broken (g .old) (g .new) (g .suite .coverages) c ≡ p) × (p ≡ 0 → ⊥)
+unfolding judged choose
+judged-false g c p e = go (broken (g .old) (g .new) (g .suite .coverages) c) (eqb (broken (g .old) (g .new) (g .suite .coverages) c) 0) refl e
+  where
+    go : (b : ℕ) (t : Bool) → eqb b 0 ≡ t → choose t passed (refusal 12 b) ≡ refusal 12 p → (b ≡ p) × (p ≡ 0 → ⊥)
+    go b true h q = absurd (never-wrote q)
+    go b false h q = (refusal-place q, λ z. both-ways (eq-eqb b 0 (refusal-place q ∙ z)) h)
+
+pub claims-false : ClaimsFalse
+unfolding checkAnswer outcome judged broken
+claims-false old new tests sheet p = (there, back)
+  where
+    there : checkAnswer old new tests sheet ≡ refusal 12 p → Breaks old new tests sheet p
+    there e =
+        let u = read-past (readJob old new tests) (λ g. checking g sheet) (job-good old new tests) p e in
+        let g = u .0 in
+        let v = read-past (readSheet (g .old) (g .new) (g .suite) sheet) (judged g) (sheet-good (g .old) (g .new) (g .suite) sheet) p (u .2) in
+        let o = accepted-orderly (g .old) (g .new) (g .suite) sheet (v .0) (v .1) in
+        let b = judged-false g (v .0) p (v .2) in
+        let f = failed-is (fiveRules g (v .0)) 1 (omega arith) (λ z. b .1 (sym (b .0) ∙ z)) in
+        record { given = g; reads = u .1; claims = v .0; order = o .0; text = o .1; rule = f .0; place = omega (arith, b .0, f .1); broken = f .2; kept = f .3 }
+
+    back : Breaks old new tests sheet p → checkAnswer old new tests sheet ≡ refusal 12 p
+    back h =
+        let g = h .given in
+        let n = known old new tests g (h .reads) in
+        let r : readSheet (g .old) (g .new) (g .suite) sheet ≡ accepted (h .claims) = sheet-layout (g .old) (g .new) (g .suite) (n .old-sound) (n .new-sound) _ (n .suite-sound) sheet (h .claims) .1 (h .order, h .text) in
+        let b : firstFailed 1 (fiveRules g (h .claims)) ≡ p = omega (arith, failed-at (fiveRules g (h .claims)) 1 (h .rule) (h .broken) (h .kept), h .place) in
+        ap (λ (a : Answer Given). outcome a (λ x. checking x sheet)) (h .reads)
+        ∙ ap (λ (a : Answer Sheet). outcome a (judged g)) r
+        ∙ ap (λ (k : ℕ). choose (eqb k 0) passed (refusal 12 k)) b
+        ∙ choose-no _ _ (ne-eqb p 0 (λ z. let y : ⊥ = omega (arith, h .place) in y))
+
+-- ---- 4
+
+module _ (old new : Program) (suite : Suite) (n : ℕ) (s : SheetRead) where
+  -- A line is refused at its own number, or it is taken, and there is a pair more if it is an M line.
+  Counted : SheetLine → Answer SheetRead → Type 0
+  Counted x (refused k p) = p ≡ n
+  Counted x (accepted t) = length (t .claims .M) ≡ plus (isM x) (length (s .claims .M))
+
+  unless-counted : (x : SheetLine) (b : Bool) (k : ℕ) (a : Answer SheetRead) → Counted x a → Counted x (unless b k n a)
+  unfolding unless Counted
+  unless-counted x true k a h = refl
+  unless-counted x false k a h = h
+
+  after-counted : (x : SheetLine) (o : Option ℕ) (f : ℕ → Answer SheetRead) → ((i : ℕ) → Counted x (f i)) → Counted x (after o (refused 11 n) f)
+  unfolding Counted
+  after-counted x none f h = refl
+  after-counted x (some i) f h = h i
+
+  line-counted : (x : SheetLine) → Counted x (takeSheetLine old new suite n s x)
+  unfolding takeSheetLine isM plus Counted
+  line-counted head-line = unless-counted head-line _ 11 _ refl
+  line-counted (m-line a b) = unless-counted (m-line a b) _ 4 _ (unless-counted (m-line a b) _ 11 _ (snoc-length (0, 0) (s .claims .M) _))
+  line-counted (d-line e) = unless-counted (d-line e) _ 11 _ refl
+  line-counted (r-line name) = after-counted (r-line name) (testOf suite name) _ (λ i. unless-counted (r-line name) _ 11 _ refl)
+  line-counted (end-line m d r) = unless-counted (end-line m d r) _ 11 _ refl
+  line-counted no-form = refl
+
+  -- An M line after so many.
+  above : (x : SheetLine) → isM x ≡ true → maxPairs ≤ length (s .claims .M) → takeSheetLine old new suite n s x ≡ refused 4 n
+  unfolding takeSheetLine isM
+  above (m-line a b) h l = unless-refuses _ 4 n _ (le-leb _ _ l)
+  above head-line h l = absurd (true≢false (sym h))
+  above (d-line e) h l = absurd (true≢false (sym h))
+  above (r-line name) h l = absurd (true≢false (sym h))
+  above (end-line m d r) h l = absurd (true≢false (sym h))
+  above no-form h l = absurd (true≢false (sym h))
+
+plus-moves : (b : Bool) (i j : ℕ) → plus b i + j ≡ i + plus b j
+unfolding plus
+plus-moves true i j = omega arith
+plus-moves false i j = refl
+
+module _ (old new : Program) (suite : Suite) (l m : Bytes) (ms : List Bytes) (is : isM (sheetForm (fieldsOf l)) ≡ true) where
+  -- Reading the lines ls from the line n on, and behind them the line l.
+  abbrev reads : ℕ → ℕ → SheetRead → List Bytes → Answer Sheet
+  reads n at s ls = readLines (stepSheet old new suite) finishSheet n at s (ls ++ (l ∷ m ∷ ms))
+
+  -- The line l is refused with 4, or one of the lines before it is refused.
+  abbrev Stops : ℕ → ℕ → SheetRead → List Bytes → Type 0
+  Stops n at s ls = (reads n at s ls ≡ refused 4 (n + length ls)) ⊎ ((k p : ℕ) × (reads n at s ls ≡ refused k p) × (n ≤ p) × (p < n + length ls))
+
+  reads-next : (n at : ℕ) (s : SheetRead) (x : Bytes) (ls : List Bytes) → reads n at s (x ∷ ls) ≡ then (stepSheet old new suite n at s x) (λ t. reads (suc n) (at + length x + 1) t ls)
+  unfolding readLines
+  reads-next n at s x [] = refl
+  reads-next n at s x (y ∷ ls) = refl
+
+  stops-next : (n at : ℕ) (s : SheetRead) (x : Bytes) (ls : List Bytes) (a : Answer SheetRead) → stepSheet old new suite n at s x ≡ a → Counted old new suite n s (sheetForm (fieldsOf x)) a
+      → length (s .claims .M) + mCount (x ∷ ls) ≡ maxPairs → ((t : SheetRead) → length (t .claims .M) + mCount ls ≡ maxPairs → Stops (suc n) (at + length x + 1) t ls) → Stops n at s (x ∷ ls)
+  unfolding Counted mCount then
+  stops-next n at s x ls (refused k p) e c h f =
+      inr (k, p, reads-next n at s x ls ∙ ap (λ (a : Answer SheetRead). then a (λ t. reads (suc n) (at + length x + 1) t ls)) e, let z : n ≤ p = omega (arith, c) in z, let z : p < n + suc (length ls) = omega (arith, c) in z)
+  stops-next n at s x ls (accepted t) e c h f =
+      let on : reads n at s (x ∷ ls) ≡ reads (suc n) (at + length x + 1) t ls = reads-next n at s x ls ∙ ap (λ (a : Answer SheetRead). then a (λ t. reads (suc n) (at + length x + 1) t ls)) e in
+      let q : suc n + length ls ≡ n + suc (length ls) = omega arith in
+      ⊎-elim (λ r. inl (on ∙ r ∙ ap (refused 4) q))
+      (λ r. inr (r .0, r .1, on ∙ r .2, let z : n ≤ r .1 = omega (arith, r .3) in z, let z : r .1 < n + suc (length ls) = omega (arith, r .4) in z))
+      (f t (omega (arith, c, h, plus-moves (isM (sheetForm (fieldsOf x))) (length (s .claims .M)) (mCount ls))))
+
+  stops : (ls : List Bytes) (n at : ℕ) (s : SheetRead) → length (s .claims .M) + mCount ls ≡ maxPairs → Stops n at s ls
+  unfolding readLines stepSheet mCount then
+  stops [] n at s h =
+      let e : n ≡ n + 0 = omega arith in
+      inl (ap (λ (a : Answer SheetRead). then a (λ t. readLines (stepSheet old new suite) finishSheet (suc n) (at + length l + 1) t (m ∷ ms))) (above old new suite n s (sheetForm (fieldsOf l)) is (omega (arith, h))) ∙ ap (refused 4) e)
+  stops (x ∷ ls) n at s h = stops-next n at s x ls _ refl (line-counted old new suite n s (sheetForm (fieldsOf x))) h (λ t k. stops ls (suc n) (at + length x + 1) t k)
+
+pub line-above : LineAbove
+unfolding checkAnswer outcome readSheet readText
+line-above old new tests sheet g e short ls l m ms is-lines many is =
+    let read : checkAnswer old new tests sheet ≡ outcome (readLines (stepSheet (g .old) (g .new) (g .suite)) finishSheet 1 0 noSheet (ls ++ (l ∷ m ∷ ms))) (judged g)
+    = ap (λ (a : Answer Given). outcome a (λ x. checking x sheet)) e
+    ∙ ap (λ (a : Answer Sheet). outcome a (judged g)) (unless-passes _ _ _ _ (le-ltb _ _ short) ∙ ap (readLines (stepSheet (g .old) (g .new) (g .suite)) finishSheet 1 0 noSheet) is-lines) in
+    let one : 1 + length ls ≡ suc (length ls) = omega arith in
+    ⊎-elim (λ r. inl (read ∙ ap (λ (a : Answer Sheet). outcome a (judged g)) (r ∙ ap (refused 4) one)))
+    (λ r. inr (r .0, r .1, read ∙ ap (λ (a : Answer Sheet). outcome a (judged g)) (r .2), r .3, let z : r .1 ≤ length ls = omega (arith, r .4) in z))
+    (stops (g .old) (g .new) (g .suite) l m ms is ls 1 0 noSheet (omega (arith, many)))

@@ -1,0 +1,58 @@
+-- Refusals of texts and of a call's own numbers, each for its reason.
+use mathlib.Core.Path.{_≡_, refl, ap, _∙_}
+use mathlib.Core.Option.{some}
+use mathlib.Core.List.{[]}
+use Prim.Native.Nat.{ℕ, zero, suc, _≤_, _<_}
+use native.Mathlib.Omega.{arith}
+use borrow.Author.Tests.{le-ltb, lt-ltb}
+use Rattle.laws.specs.Tests.{choose}
+use Rattle.laws.specs.Lists.{choose-yes, choose-no}
+use Rattle.rules.specs.Text.{Answer, Bytes, accepted, refused, then}
+use Rattle.rules.specs.Graph.{Program, edgeCount, nodeCount}
+use Rattle.rules.specs.ProgramFile.{readProgram}
+use Rattle.rules.specs.SuiteFile.{Suite, readSuite, testCount}
+use Rattle.rules.specs.Job.{Given, Outcome, Version, bySide, checkAnswer, isNodeOfVersion, labelAnswer, labelPart, labelShown, outcome, readJob, readNewAnswer, readOldAnswer, readTestsAnswer, recordAnswer, recording, refusal, sheetAnswer, success}
+use Rattle.rules.specs.Promises.{LabelsAnswered, RecordUnnamed, TextsFirst, TextsRead, TextsRefused}
+
+-- ---- texts
+
+pub texts-in-order : (old new tests : Bytes) → TextsRead old new tests
+unfolding readOldAnswer readNewAnswer readTestsAnswer readJob outcome then
+texts-in-order old new tests =
+    record {
+      old-refused = λ k p e. (ap (λ (a : Answer Program). outcome a (λ x. success)) e, ap (λ (a : Answer Program). outcome a (λ x. outcome (readProgram new) (λ y. success))) e, simp e);
+      new-refused = λ a e k p f. (simp (e, f), simp (e, f));
+      tests-refused = λ a b e f k p h. simp (e, f, h);
+      old-read = λ a e. simp e;
+      new-read = λ a b e f. simp (e, f);
+      all-read = λ g e f h. (simp (e, f, h), simp (e, f, h));
+    }
+
+-- Where reading the texts refuses, that is the answer.
+pub texts-first : TextsRefused
+unfolding readTestsAnswer sheetAnswer recordAnswer checkAnswer outcome
+texts-first old new tests k p e =
+    let at : (f : Given → Outcome) → outcome (readJob old new tests) f ≡ refusal k p = λ f. ap (λ (a : Answer Given). outcome a f) e in
+    record { of-tests = at _; of-sheet = λ room. at _; of-record = λ i room. at _; of-check = λ sheet. at _ }
+
+-- ---- a call's own numbers
+
+pub no-test : RecordUnnamed
+unfolding recordAnswer outcome
+no-test old new tests g e i room l = ap (λ (x : Answer Given). outcome x (λ h. recording h i room)) e ∙ choose-no _ _ (le-ltb i (testCount (g .suite)) l)
+
+pub labels-answered : (old new : Version) → LabelsAnswered old new
+unfolding labelAnswer labelShown bySide isNodeOfVersion
+labels-answered old new =
+    record {
+      old-shown = λ n h. let t = lt-ltb n (nodeCount (old .listing .program)) h in (choose-yes _ _ t, choose-yes _ _ t);
+      new-shown = λ n h. let t = lt-ltb n (nodeCount (new .listing .program)) h in (choose-yes _ _ t, choose-yes _ _ t);
+      no-old-node = λ n h. let t = le-ltb n (nodeCount (old .listing .program)) h in (choose-no _ _ t, choose-no _ _ t);
+      no-new-node = λ n h. let t = le-ltb n (nodeCount (new .listing .program)) h in (choose-no _ _ t, choose-no _ _ t);
+      no-side = other-side;
+    }
+  where
+    other-side : (side n : ℕ) → 1 < side → (labelAnswer old new side n ≡ refusal 6 0) × (labelShown old new side n ≡ [])
+    other-side zero n h = absurd (let z : ⊥ = omega arith in z)
+    other-side (suc zero) n h = absurd (let z : ⊥ = omega arith in z)
+    other-side (suc (suc s)) n h = (refl, refl)
