@@ -1,5 +1,5 @@
 -- When the check of a sheet refuses with 12 and with 4, and which numbers it gives.
-use mathlib.Core.Path.{_≡_, refl, sym, ap, _∙_, subst}
+use mathlib.Core.Path.{_≡_, refl, sym, ap, _∙_}
 use mathlib.Core.Logic.{_⊎_, inl, inr, ⊎-elim}
 use mathlib.Core.Bool.{Bool, true, false, true≢false}
 use mathlib.Core.Option.{Option, none, some}
@@ -11,8 +11,8 @@ use lib.ListN.{length, getD}
 use borrow.Author.Tests.{eq-eqb, le-leb, le-ltb, ne-eqb}
 use Rattle.laws.specs.Tests.{after, choose, firstFailed, plus}
 use Rattle.laws.specs.TestLaws.{both-ways}
-use Rattle.laws.specs.Lists.{choose-yes, choose-no, snoc-length}
-use Rattle.rules.specs.Text.{Answer, Bytes, accepted, fieldsOf, linesOf, maxBytes, maxPairs, readLines, readText, refused, then, unless}
+use Rattle.laws.specs.Lists.{choose-no, snoc-length}
+use Rattle.rules.specs.Text.{Answer, Bytes, accepted, fieldsOf, maxPairs, readLines, readText, refused, then, unless}
 use Rattle.rules.specs.Graph.{Program}
 use Rattle.rules.specs.SuiteFile.{Suite}
 use Rattle.rules.specs.Sheet.{Sheet, SheetLine, SheetRead, d-line, end-line, finishSheet, head-line, m-line, no-form, noSheet, r-line, readSheet, sheetForm, stepSheet, takeSheetLine, testOf}
@@ -22,7 +22,7 @@ use Rattle.rules.specs.Promises.{Breaks, ClaimsFalse, LineAbove, fiveRul
 use Rattle.rules.specs.Proofs.Answers.{Any, Good, job-good, sheet-good}
 use Rattle.rules.specs.Proofs.JobLaws.{known}
 use Rattle.rules.specs.Proofs.SheetLayout.{accepted-orderly, sheet-layout}
-use Rattle.rules.specs.Proofs.TextLaws.{then-passes, unless-passes, unless-refuses}
+use Rattle.rules.specs.Proofs.TextLaws.{unless-passes, unless-refuses}
 
 -- ---- 12
 

@@ -1,18 +1,16 @@
 -- Refusals of texts and of a call's own numbers, each for its reason.
 use mathlib.Core.Path.{_≡_, refl, ap, _∙_}
-use mathlib.Core.Option.{some}
 use mathlib.Core.List.{[]}
-use Prim.Native.Nat.{ℕ, zero, suc, _≤_, _<_}
+use Prim.Native.Nat.{ℕ, zero, suc, _<_}
 use native.Mathlib.Omega.{arith}
 use borrow.Author.Tests.{le-ltb, lt-ltb}
-use Rattle.laws.specs.Tests.{choose}
 use Rattle.laws.specs.Lists.{choose-yes, choose-no}
-use Rattle.rules.specs.Text.{Answer, Bytes, accepted, refused, then}
-use Rattle.rules.specs.Graph.{Program, edgeCount, nodeCount}
+use Rattle.rules.specs.Text.{Answer, Bytes, then}
+use Rattle.rules.specs.Graph.{Program, nodeCount}
 use Rattle.rules.specs.ProgramFile.{readProgram}
-use Rattle.rules.specs.SuiteFile.{Suite, readSuite, testCount}
-use Rattle.rules.specs.Job.{Given, Outcome, Version, bySide, checkAnswer, isNodeOfVersion, labelAnswer, labelPart, labelShown, outcome, readJob, readNewAnswer, readOldAnswer, readTestsAnswer, recordAnswer, recording, refusal, sheetAnswer, success}
-use Rattle.rules.specs.Promises.{LabelsAnswered, RecordUnnamed, TextsFirst, TextsRead, TextsRefused}
+use Rattle.rules.specs.SuiteFile.{testCount}
+use Rattle.rules.specs.Job.{Given, Outcome, Version, bySide, checkAnswer, isNodeOfVersion, labelAnswer, labelShown, outcome, readJob, readNewAnswer, readOldAnswer, readTestsAnswer, recordAnswer, recording, refusal, sheetAnswer, success}
+use Rattle.rules.specs.Promises.{LabelsAnswered, RecordUnnamed, TextsRead, TextsRefused}
 
 -- ---- texts
 
