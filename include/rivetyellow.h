@@ -23,12 +23,18 @@
  *   All memory stays the caller's. Texts are only read; an output is only
  *   written, and must not overlap a text. Nothing is kept between calls: no
  *   pointer, no state, no allocated memory. So calls may run at the same time
- *   on several threads, each with an output of its own. The tables of a call
- *   lie on its stack while it runs; docs/MEMORY.md states how much that is.
+ *   on several threads, each with an output of its own.
  *
  *   On success the first `place` bytes of the output are written and the bytes
  *   after them stay as they were. A refused call changes no byte of it, also
  *   where the output is too short.
+ *
+ * Stack
+ *   The tables of a call lie on its stack while it runs. They have fixed
+ *   lengths, so the need does not grow with the texts. Measured on x86-64 it is
+ *   at most 304,615 bytes (298 KiB). Give the calling thread a stack of 512 KiB
+ *   (RY_STACK_ROOM): the rest is margin, also for the caller's own frames. No
+ *   call tests how much is left; without the room the process faults.
  *
  * Order
  *   A call reads its texts to their ends in the order old, new, tests, sheet;
@@ -106,6 +112,8 @@ enum {
 #define RY_SHEET_ROOM 65536
 /* An output of this length is enough for every record line. */
 #define RY_RECORD_ROOM 1045
+/* A stack of this many bytes is enough for every call, with a margin. */
+#define RY_STACK_ROOM 524288
 
 /* The number of an answer. */
 static inline uint32_t ry_number(uint64_t answer)

@@ -193,7 +193,8 @@ fn judge(
     1
 }
 
-// Checks a sheet, for the programs and the tests of a job: its refusal, or 12 with the first broken rule, or 0, which is to pass.
+// Checks a sheet, for the programs and the tests of a job: its refusal, or 12 with the first broken rule, or 0, which is to pass. What the tables
+// `w` and `sets` hold afterwards is left open.
 pub fn check_sheet(
     ot: &[u8],
     on: &[usize],

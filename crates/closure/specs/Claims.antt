@@ -80,7 +80,8 @@ module _ (a b : Memory) (t : List ℕ) (limit : ℕ) (w : List ℕ) where
       (o p : Listing) → InMemory a o → InGroups b t p → State (o .program) (p .program) limit w c
       → Turn (o .program) (p .program) limit w c true (AllDone (o .program) (p .program)) (AllDone (o .program) (p .program)) v r settled
 
--- The number of pairs, or one more than the limit where there are more; within the limit, the table holds them and the dangerous edges.
+-- The number of pairs, or one more than the limit where there are more; within the limit, the table holds them and the dangerous edges. What it holds behind them is left
+-- open, and all that it holds where there are more.
 pub record Found (old new : Program) (limit : ℕ) (w : List ℕ) (r : ℕ) : Type 0 where
   pub answer : r ≡ choose (leb (length (pairs old new)) limit) (length (pairs old new)) (suc limit)
   pub held : r ≤ limit → PairsHeld old new w r
@@ -91,7 +92,7 @@ unfoldable pub Finds : Memory → Memory → List ℕ → ℕ → List ℕ → L
 Finds a b t limit w v r =
     (o p : Listing) → InMemory a o → InGroups b t p → State (o .program) (p .program) limit w 0 → Found (o .program) (p .program) limit v r
 
--- `close`: from a table that has room for as many pairs as the limit says.
+-- `close`: from a table that has room for as many pairs as the limit says; for a shorter one the answer is left open, and what the table holds afterwards.
 unfoldable pub Closes : Memory → Memory → ℕ → List ℕ → List ℕ → ℕ → Type 0
 Closes a b limit w v r =
     (o p : Listing) → InMemory a o → InMemory b p → pairBase + 3 * limit ≤ length w → Found (o .program) (p .program) limit v r

@@ -39,7 +39,8 @@ module _ (old new : Program) where
     pub once : Once (pairsIn w c)
     pub dangerous : (e : ℕ) → dangerIn w e ≡ true → Dangerous old new e
 
-  -- There is room for as many pairs as the limit says, and c of them were found; a count above the limit says that there are more than the limit.
+  -- There is room for as many pairs as the limit says, and c of them were found; a count above the limit says that there are more than the limit, and what the table then
+  -- holds is left open.
   pub record State (limit : ℕ) (w : List ℕ) (c : ℕ) : Type 0 where
     pub wide : pairBase + 3 * limit ≤ length w
     pub few : c ≤ limit + 1

@@ -1,6 +1,7 @@
 // The pairs of two versions in memory: the smallest set with the closing rules, found by passes over the pairs found so far, until one adds nothing or
 // no pair has to wait in it. A visit of a pair that may go on also finds the old edges that are dangerous for it.
-// A count above the limit says that there are more pairs than the limit; every function passes such a count on.
+// A count above the limit says that there are more pairs than the limit; every function passes such a count on. What the table holds then is left
+// open, and what it holds behind its pairs always.
 ghost use Prim.Native.Nat.{_≤_};
 ghost use Rattle.versions.specs.Memory.{memory};
 ghost use Rattle.closure.specs.Claims.{
@@ -353,7 +354,7 @@ fn repeat(
 }
 
 // Finds all pairs and all dangerous edges, and puts them into the table: how many pairs there are, or limit + 1 where there are more than the
-// limit.
+// limit; what the table holds then is left open.
 //
 // The worst case. A pass visits each pair once, and a visit tries the edges of the old node, at most 8. A try compares the edge's word with
 // those of the new node, at most 8, and looks the pair of ends up by its bit; labels are compared only for ends that are no pair yet, and not

@@ -118,12 +118,12 @@ heldTests j v v′ text tests rows =
 
 -- ---- the contracts
 
--- `version_left`: 0 with the counts, or 14.
+-- `version_left`: 0 with the counts, or 14. What its work table holds afterwards is left open.
 unfoldable pub countLeft : Option Listing → Count
 countLeft none = record { number = 14; place = 0; procs = 0; nodes = 0; edges = 0 }
 countLeft (some s) = counted s
 
--- `suite_left`: 0 with the count, or 14.
+-- `suite_left`: 0 with the count, or 14. What its two work tables hold afterwards is left open.
 unfoldable pub readLeft : Option TestListing → Read
 readLeft none = record { number = 14; place = 0; count = 0 }
 readLeft (some l) = record { number = 0; place = 0; count = testCount (l .suite) }

@@ -7,6 +7,7 @@ ghost use lib.ListN.{length};
 ghost use Rattle.held.specs.Held.{countLeft, numbers, readLeft, suiteLeft, versionLeft};
 
 // Whether the tables of a version, lent with `room` records of nodes, are long enough and what reading the text leaves: 0 with the counts, else 14.
+// What the work table holds afterwards is left open.
 pub fn version_left(
     room: usize,
     text: &[u8],
@@ -38,6 +39,7 @@ pub fn version_left(
 }
 
 // Whether the tables of the tests are long enough and what reading the text leaves, where the old program has so many edges: 0 with the count, else 14.
+// What the work tables `work` and `words` hold afterwards is left open.
 pub fn suite_left(
     text: &[u8],
     edges: usize,

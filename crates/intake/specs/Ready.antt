@@ -39,7 +39,8 @@ pub record Few (c : Texts) : Type 0 where
 abbrev pub refusedTexts : ℕ → ℕ → Texts
 refusedTexts k q = record { number = k; place = q; «old_nodes» = 0; «old_edges» = 0; «new_nodes» = 0; «new_edges» = 0; tests = 0 }
 
--- `read_job`: the answer is the definition's, and where the texts are accepted the tables hold what they give.
+-- `read_job`: the answer is the definition's, and where the texts are accepted the tables hold what they give. After a refusal what the tables hold and the counts are left open,
+-- and what the tables hold beyond the counts of accepted texts always.
 abbrev pub JobTold : Answer Given → Bytes → List ℕ → Bytes → List ℕ → Bytes → List ℕ → List ℕ → Texts → Type 0
 JobTold (refused k q) old ow new nw tt tests rows r = (r .number ≡ k) × (r .place ≡ q) × (0 < k)
 JobTold (accepted g) old ow new nw tt tests rows r =

@@ -15,7 +15,8 @@ pub struct Texts {
     pub tests: usize,
 }
 
-// Reads the texts of a job into the work tables of the two programs and the tables of the tests.
+// Reads the texts of a job into the work tables of the two programs and the tables of the tests. What the four tables hold after a refusal is left
+// open, and what they hold beyond the counts of accepted texts.
 pub fn read_job(
     old: &[u8],
     new: &[u8],

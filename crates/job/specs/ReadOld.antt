@@ -93,7 +93,8 @@ withOld c = jobAt (stageAfter read-old) c uncounted 0
 unfoldable pub takenOf : Job → Reading Listing → Taken
 takenOf j a = record { job = j; number = answered a .number; place = answered a .place; nodes = countRead a }
 
--- Reading a program on values, where `after` is the job afterwards by what the call goes by; the numbers of the nodes are in the work table.
+-- Reading a program on values, where `after` is the job afterwards by what the call goes by; the numbers of the nodes are in the work table, and what else it holds is left
+-- open.
 pub record TakenBy (after : Reading Listing → Job) (a : Reading Listing) (r : Taken) (l l′ w : List ℕ) : Type 0 where
   pub taken : r ≡ takenOf (after a) a
   pub links-are : l′ ≡ linksRead a l

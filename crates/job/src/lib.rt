@@ -100,7 +100,8 @@ fn with_old(had: Count) -> Job
     }
 }
 
-// Reads the old program, for `room` records of nodes: its links go to `lent`, and the numbers of its nodes stay in the scratch.
+// Reads the old program, for `room` records of nodes: its links go to `lent`, and the numbers of its nodes stay in the scratch. What else the
+// scratch holds afterwards is left open.
 fn take_old(job: Job, room: usize, old: &[u8], lent: &mut [usize], scratch: &mut [usize]) -> Taken
     ensures { λ r. ⌜ OldTaken job room (now (old .entry)) r (now (lent .entry)) (now (lent .exit)) (length (now (scratch .entry))) (now (scratch .exit)) ⌝ }
 {
@@ -191,7 +192,7 @@ fn new_due(
 }
 
 // Reads the new program, for `nodes` records: its links go to `lent`, and the numbers of its nodes stay in the scratch, which has the numbers of
-// the old nodes at its front before.
+// the old nodes at its front before. What else the scratch holds afterwards is left open.
 fn take_new(
     job: Job,
     room: usize,

@@ -56,7 +56,7 @@ fn suite_due(job: Job, o: Count, p: Count, tt: &[u8], tests: &[usize], rows: &[u
 }
 
 // 13, 14, or the counts of what job and tables hold, for a call that asks for so many numbers of scratch. The texts of the programs are read
-// again in the scratch, one after the other.
+// again in the scratch, one after the other. What it holds afterwards is left open.
 fn due(
     job: Job,
     asked: usize,
@@ -95,7 +95,7 @@ fn due(
 
 // ---- the sheet
 
-// Writes the sheet; the scratch holds the numbers of the nodes, and is then the table of the pairs.
+// Writes the sheet; the scratch holds the numbers of the nodes, and is then the table of the pairs. What it holds afterwards is left open.
 fn sheet_in(
     job: Job,
     olds: usize,
@@ -212,7 +212,8 @@ pub fn write_sheet(
 
 // ---- a record line
 
-// Writes the record line of a test; the scratch holds the numbers of the nodes, and is then the table of the pairs.
+// Writes the record line of a test; the scratch holds the numbers of the nodes, and is then the table of the pairs. What it holds afterwards is
+// left open.
 fn record_in(
     job: Job,
     olds: usize,
@@ -348,7 +349,7 @@ pub fn write_record(
 
 // ---- the check of a sheet
 
-// Checks a sheet; the scratch holds the numbers of the nodes, and is then the table of the listed pairs.
+// Checks a sheet; the scratch holds the numbers of the nodes, and is then the table of the listed pairs. What it holds afterwards is left open.
 fn check_in(
     job: Job,
     olds: usize,
@@ -533,7 +534,7 @@ fn label_of(side: usize, olds: usize, on: &[usize], news: usize, nn: &[usize], n
     }
 }
 
-// Finds a label; the scratch holds the numbers of the nodes.
+// Finds a label; the scratch holds the numbers of the nodes. What it holds afterwards is left open.
 fn label_in(
     job: Job,
     olds: usize,

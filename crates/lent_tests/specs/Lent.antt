@@ -38,7 +38,7 @@ abbrev pub Leaves : Answer TestListing → Read → List ℕ → List ℕ → Li
 Leaves (refused k p) r t t′ w w′ = (r .number ≡ k) × (r .place ≡ p) × (r .count ≡ 0) × (0 < k) × (t′ ≡ t) × (w′ ≡ w)
 Leaves (accepted l) r t t′ w w′ = (r .number ≡ 0) × (r .place ≡ 0) × (r .count ≡ testCount (l .suite)) × (t′ ≡ testsAfter l t) × (w′ ≡ rowsAfter l w)
 
--- `read_lent_tests`, where the old program has m edges.
+-- `read_lent_tests`, where the old program has m edges. What the work tables hold afterwards is left open.
 pub record ReadLent (m : ℕ) (text : Bytes) (r : Read) (t t′ w w′ : List ℕ) : Type 0 where
   pub leaves : Leaves (readTests m text) r t t′ w w′
   pub few : r .count ≤ 200
@@ -56,7 +56,7 @@ unfoldable pub leftCount : Answer TestListing → List ℕ → List ℕ → ℕ
 leftCount (refused k p) t w = 0
 leftCount (accepted l) t w = choose (isLeft l t w) (testCount (l .suite)) 0
 
--- `tests_left`, where the old program has m edges.
+-- `tests_left`, where the old program has m edges. What the work tables hold afterwards is left open.
 pub record TestsLeft (m : ℕ) (text : Bytes) (t w : List ℕ) (r : Read) : Type 0 where
   pub number-is : r .number ≡ leftNumber (readTests m text) t w
   pub place-is : r .place ≡ 0

@@ -1,5 +1,5 @@
 // Reading a test file into lent tables, and testing whether lent tables are what reading a text leaves. A refusal changes nothing but the
-// work tables: `work`, for where the names stand, and `words`, for the rows.
+// work tables: `work`, for where the names stand, and `words`, for the rows. What these hold afterwards is left open.
 use suite::Read;
 use text::copy;
 use text::copy_words;
@@ -30,6 +30,7 @@ fn copy_rows(words: &[u64], count: usize, rows: &mut [u64])
 }
 
 // Reads a test file into the lent tables `tests` and `rows`, where the old program has so many edges. After a refusal they are as they were.
+// What the work tables hold afterwards is left open.
 pub fn read_lent_tests(
     text: &[u8],
     edges: usize,
@@ -74,7 +75,7 @@ fn same_rows(words: &[u64], count: usize, rows: &[u64]) -> bool
     same_words(rows, 0, run_words(words, 0, 16 * count))
 }
 
-// Whether the lent tables are what reading the text leaves: number 0 with the count, else 14.
+// Whether the lent tables are what reading the text leaves: number 0 with the count, else 14. What the work tables hold afterwards is left open.
 pub fn tests_left(
     text: &[u8],
     edges: usize,

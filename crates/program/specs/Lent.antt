@@ -36,7 +36,7 @@ unfoldable pub leftNumber : Answer Listing → List ℕ → List ℕ → ℕ
 leftNumber (refused k p) n l = 14
 leftNumber (accepted s) n l = choose (isLeft s n l) 0 14
 
--- `tables_left`
+-- `tables_left`. What the work table holds afterwards is left open, and so are the counts beside 14.
 pub record TablesLeft (text : Bytes) (n l : List ℕ) (r : Count) : Type 0 where
   pub number-is : r .number ≡ leftNumber (readListing text) n l
   pub place-is : r .place ≡ 0

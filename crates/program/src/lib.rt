@@ -52,7 +52,7 @@ fn same_links(work: &[usize], had: Count, lent: &[usize]) -> bool
     false
 }
 
-// Whether the lent tables are what reading the text leaves: number 0 with the counts, else 14.
+// Whether the lent tables are what reading the text leaves: number 0 with the counts, else 14. What the work table holds afterwards is left open.
 pub fn tables_left(text: &[u8], nodes: &[usize], lent: &[usize], work: &mut [usize]) -> Count
     requires { ⌜ 8128 ≤ length (now work) ⌝ }
     ensures { λ r. ⌜ TablesLeft (now (text .entry)) (now (nodes .entry)) (now (lent .entry)) r ⌝ }

@@ -13,7 +13,7 @@ use Rattle.pairset.specs.Store.{dangerIn}
 pub record DangerSet (old new : Program) (set : List ℕ) : Type 0 where
   pub bits : (e : ℕ) → e < 1024 → bitIn set e ≡ has (dangers old new) e
 
--- `copy_dangers`: where the table holds the dangerous edges, the first 16 words are the set; what stands behind them stays.
+-- `copy_dangers`: where the table holds the dangerous edges, the first 16 words are the set, and else they are left open; what stands behind them stays.
 unfoldable pub Copies : List ℕ → List ℕ → List ℕ → Type 0
 Copies w set set′ = (old new : Program) → ((e : ℕ) → dangerIn w e ≡ has (dangers old new) e) → 16 ≤ length set → DangerSet old new set′
 

@@ -1,5 +1,6 @@
 -- What the functions that find a test's marks leave and answer. While they are found, the mark of a new edge is `0` (48) until an old counterpart is seen to be crossed, then `?` (63),
--- and `1` (49) once a crossed one has it as its only counterpart.
+-- and `1` (49) once a crossed one has it as its only counterpart. Each claim is for tables that hold two programs, their pairs and the test's row; the marks for others are left
+-- open, their number excepted.
 use mathlib.Core.Path.{_≡_}
 use mathlib.Core.Bool.{Bool, true, false}
 use mathlib.Core.List.{List}

@@ -28,7 +28,7 @@ fn fitting(ol: &[usize], nl: &[usize], w: &[usize], e: usize, m: usize) -> usize
 
 // ---- dangerous edges
 
-// Makes the set that of the dangerous edges in the table of the pairs.
+// Makes the set that of the dangerous edges in the table of the pairs. For a table that does not hold them the set is left open.
 pub fn copy_dangers(w: &[usize], set: &mut [u64])
     ensures { λ _. ⌜ DangersCopied (now (w .entry)) (now (set .entry)) (now (set .exit)) ⌝ }
 {
@@ -232,7 +232,8 @@ fn fill(marks: &mut [u8], n: usize, b: u8)
     }
 }
 
-// Finds the marks of a test, where the versions have so many edges: all are `?` if it is repeated.
+// Finds the marks of a test, where the versions have so many edges: all are `?` if it is repeated. For tables that do not hold two programs, their
+// pairs and the test's row the marks are left open.
 pub fn find_marks(
     on: &[usize],
     ol: &[usize],

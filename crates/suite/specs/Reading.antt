@@ -58,7 +58,8 @@ pub record Known (text : Bytes) (l : TestListing) : Type 0 where
   pub covered : length (l .suite .coverages) ≡ testCount (l .suite)
   pub names : (i : ℕ) → i < testCount (l .suite) → take (length (testName (l .suite) i)) (drop (getD (l .starts) i 0) text) ≡ testName (l .suite) i
 
--- An answer against the definition's, where the old program has m edges.
+-- An answer against the definition's, where the old program has m edges. After a refusal the count and what the tables hold are left open, and what they hold behind
+-- the tests of an accepted text always.
 abbrev pub After : ℕ → Answer TestListing → Read → List ℕ → List ℕ → Type 0
 After m (refused k p) r tests rows = (r .number ≡ k) × (r .place ≡ p) × (0 < k)
 After m (accepted l) r tests rows = (r .number ≡ 0) × (r .place ≡ 0) × Holds m tests rows (r .count) l
@@ -74,7 +75,8 @@ pub refused-of : (m : ℕ) (x : Answer TestListing) (r : Read) (tests rows : Lis
 refused-of m (refused k p) r tests rows h z = (ap₂ refused (sym (h .0)) (sym (h .1)), omega arith)
 refused-of m (accepted l) r tests rows h z = absurd (z (h .0))
 
--- `add_test`: whatever tests the tables hold, the answer to a test more is the definition's, and the filter has the hashes of the names.
+-- `add_test`: whatever tests the tables hold, the answer to a test more is the definition's, and the filter has the hashes of the names. Which other hashes it has is left open,
+-- and what it holds after a refusal.
 unfoldable pub Adds : Bytes → ℕ → ℕ → ℕ → Bytes → Bytes → ℕ → List ℕ → List ℕ → List ℕ → Read → List ℕ → List ℕ → List ℕ → Type 0
 Adds text m n at name row c filter tests rows r filter′ tests′ rows′ =
     (l : TestListing) → Known text l → Holds m tests rows c l → Marked filter l
@@ -96,7 +98,7 @@ pub record Stepped (text : Bytes) (m n at : ℕ) (line : Bytes) (c : ℕ) (filte
 
 -- ---- a text
 
--- `read_lines`: the answer to all lines is the definition's.
+-- `read_lines`: the answer to all lines is the definition's. What the filter holds afterwards is left open.
 unfoldable pub Lines : ℕ → Bytes → Read → List ℕ → List ℕ → Type 0
 Lines m text r tests rows = After m (readLines (stepSuite m) finishSuite 1 0 noTests (linesOf text)) r tests rows
 

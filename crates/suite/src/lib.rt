@@ -263,7 +263,8 @@ fn put_test(tests: &mut [usize], i: usize, start: usize, len: usize)
     text::put(tests, 2 * i + 1, len);
 }
 
-// Adds a test after `count` others: its line is numbered n and begins at the offset `at`; `fine` says whether its row is.
+// Adds a test after `count` others: its line is numbered n and begins at the offset `at`; `fine` says whether its row is. What the filter and the
+// tables hold after a refusal is left open.
 fn add_test(
     text: &[u8],
     edges: usize,
@@ -323,7 +324,7 @@ fn malformed(n: usize) -> Read
     }
 }
 
-// Takes a line, numbered n, that begins at the offset `at`, after `count` tests.
+// Takes a line, numbered n, that begins at the offset `at`, after `count` tests. What the filter and the tables hold after a refusal is left open.
 fn step(
     text: &[u8],
     edges: usize,
@@ -365,7 +366,7 @@ fn step(
 
 // ---- a text
 
-// Reads the lines of a text.
+// Reads the lines of a text. What the filter holds afterwards is left open, and what the tables hold after a refusal.
 fn read_lines(
     text: &[u8],
     edges: usize,
@@ -406,7 +407,8 @@ fn read_lines(
     }
 }
 
-// Reads a test file, where the old program has so many edges.
+// Reads a test file, where the old program has so many edges. What the tables hold after a refusal is left open, and what they hold behind the
+// tests of an accepted one.
 pub fn read_tests(text: &[u8], edges: usize, tests: &mut [usize], rows: &mut [u64]) -> Read
     requires { ⌜ (edges ≤ 1024) × (400 ≤ length (now tests)) × (3200 ≤ length (now rows)) ⌝ }
     ensures { λ r. ⌜ TestsRead edges (now (text .entry)) r (now (tests .exit)) (now (rows .exit)) ⌝ }

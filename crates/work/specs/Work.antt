@@ -18,7 +18,8 @@ use Rattle.selection.specs.Dangers.{DangerSet}
 use Rattle.intake.specs.declared.Texts.{Texts}
 use Rattle.intake.specs.Ready.{Ready}
 
--- The number of pairs, or 4,097 where there are more than 4,096; up to 4,096 the table holds them, and the set has the dangerous edges.
+-- The number of pairs, or 4,097 where there are more than 4,096; up to 4,096 the table holds them, and the set has the dangerous edges. What table and set hold where there are
+-- more is left open.
 pub record Chosen (old new : Program) (w set : List ℕ) (r : ℕ) : Type 0 where
   pub answer : r ≡ choose (leb (length (pairs old new)) maxPairs) (length (pairs old new)) 4097
   pub held : r ≤ maxPairs → PairsHeld old new w r
@@ -34,7 +35,7 @@ pub record Selected (v v′ : Memory) (w w′ set set′ : List ℕ) (r : ℕ) :
   pub size : length w′ ≡ length w
   pub set-size : length set′ ≡ length set
 
--- `write_sheet`: the sheet, 15 or 16.
+-- `write_sheet`: the sheet, 15 or 16. What the table w holds afterwards is left open.
 unfoldable pub SheetDone : Memory → Memory → Bytes → List ℕ → List ℕ → Texts → List ℕ → Bytes → Answer → Bytes → Type 0
 SheetDone v v′ tt tests rows had w out r out′ =
     (g : Given) → Ready v v′ tt tests rows had g → 16912 ≤ length w → Told (writing g (length out) (sheetBytes g)) r out out′
@@ -44,12 +45,12 @@ unfoldable pub RecordFrom : List ℕ → List ℕ → List ℕ → List ℕ → 
 RecordFrom on ol nn nl tt tests rows had i w set out r out′ =
     (ot nt : Bytes) (g : Given) (c : ℕ) (y : Ready (memory ot on ol) (memory nt nn nl) tt tests rows had g) → Chosen (y .o .program) (y .p .program) w set c → c ≤ maxPairs → i < had .tests → Told (recording g i (length out)) r out out′
 
--- `write_record`: the record line of a test, 6, 15 or 16.
+-- `write_record`: the record line of a test, 6, 15 or 16. What the table w holds afterwards is left open.
 unfoldable pub RecordDone : Memory → Memory → Bytes → List ℕ → List ℕ → Texts → ℕ → List ℕ → Bytes → Answer → Bytes → Type 0
 RecordDone v v′ tt tests rows had i w out r out′ =
     (g : Given) → Ready v v′ tt tests rows had g → 16912 ≤ length w → Told (recording g i (length out)) r out out′
 
--- A claim of what was written, with the lengths of the output and of the table.
+-- A claim of what was written, with the lengths of the output and of the table. What the table holds afterwards is left open.
 pub record Done (w w′ out out′ : List ℕ) (X : Type 0) : Type 0 where
   pub claim : X
   pub size : length w′ ≡ length w

@@ -1,5 +1,5 @@
 // The work of a job whose texts were read: the selection, the sheet, the record lines. Programs and tests are in memory, as reading them
-// leaves them; `w` is the table of the pairs, of 16,912 numbers.
+// leaves them; `w` is the table of the pairs, of 16,912 numbers. What a call that writes leaves in it is left open.
 use answer::Answer;
 use intake::Texts;
 ghost use Prim.Native.Nat.{_≤_};
@@ -7,7 +7,8 @@ ghost use Rattle.intake.specs.Ready.{Few};
 ghost use Rattle.versions.specs.Memory.{memory};
 ghost use Rattle.work.specs.Work.{Done, RecordDone, RecordFrom, Selected, SheetDone};
 
-// Finds the pairs of two versions, and their dangerous edges: the number of pairs, or 4,097 where there are more than 4,096.
+// Finds the pairs of two versions, and their dangerous edges: the number of pairs, or 4,097 where there are more than 4,096; what the table and the
+// set hold then is left open.
 pub fn select(
     ot: &[u8],
     on: &[usize],
@@ -28,7 +29,7 @@ pub fn select(
     c
 }
 
-// Writes the sheet of the selection.
+// Writes the sheet of the selection. What the table of the pairs holds afterwards is left open.
 pub fn write_sheet(
     ot: &[u8],
     on: &[usize],
@@ -88,7 +89,7 @@ pub fn record_from(
     writer::write_record(tt, tests, rows, i, &marks, news, out)
 }
 
-// Writes the record line of a test: 6 where there is none of that number.
+// Writes the record line of a test: 6 where there is none of that number. What the table of the pairs holds afterwards is left open.
 pub fn write_record(
     ot: &[u8],
     on: &[usize],

@@ -1,4 +1,4 @@
--- What the writers claim of a table that holds pairs. An M line has at most 44 bytes, and those of an old node at most 22,528.
+-- What the writers claim of a table that holds pairs; for another one the bytes are left open. An M line has at most 44 bytes, and those of an old node at most 22,528.
 use mathlib.Core.Path.{_≡_}
 use mathlib.Core.List.{List}
 use Prim.Native.Nat.{ℕ, _+_, _*_, _≤_, _<_}

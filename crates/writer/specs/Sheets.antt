@@ -66,7 +66,7 @@ pub record Selects (old new : Program) (l : TestListing) (s : Selection) : Type 
   pub suite-held : Holds (s .edges) (s .tests) (s .rows) (s .tested) l
   pub short : length (sheetOf old new l) ≤ maxBytes
 
--- `put_sheet`: the bytes of the sheet, from the front on.
+-- `put_sheet`: the bytes of the sheet, from the front on. For what is no selection of two programs the bytes are left open.
 unfoldable pub SheetPuts : Selection → List ℕ → ℕ → List ℕ → Type 0
 SheetPuts s o r o′ = (old new : Program) (l : TestListing) → Selects old new l s → Puts o 0 (sheetOf old new l) r o′
 
@@ -74,7 +74,7 @@ pub record SheetPut (s : Selection) (o : List ℕ) (r : ℕ) (o′ : List ℕ) :
   pub puts : SheetPuts s o r o′
   pub size : length o′ ≡ length o
 
--- `write_sheet`: the sheet written, or refused and nothing changed.
+-- `write_sheet`: the sheet written, or refused and nothing changed. For what is no selection answer and bytes are left open.
 unfoldable pub SheetWrites : Selection → List ℕ → Answer → List ℕ → Type 0
 SheetWrites s o r o′ = (old new : Program) (l : TestListing) → Selects old new l s → Told (written (length o) (sheetOf old new l)) r o o′
 
@@ -101,7 +101,7 @@ pub record Marked (old new : Program) (l : TestListing) (text : Bytes) (tests ro
 abbrev pub recordOf : Program → Program → TestListing → ℕ → Bytes
 recordOf old new l i = recordText old new (testName (l .suite) i) (coverageAt (l .suite) i)
 
--- `write_record`: the record line written, or refused and nothing changed.
+-- `write_record`: the record line written, or refused and nothing changed. For tables that hold no such test and marks answer and bytes are left open.
 unfoldable pub RecordWrites : Bytes → List ℕ → List ℕ → ℕ → Bytes → ℕ → List ℕ → Answer → List ℕ → Type 0
 RecordWrites text tests rows i marks edges o r o′ =
     (old new : Program) (l : TestListing) → Marked old new l text tests rows i marks edges → Told (written (length o) (recordOf old new l i)) r o o′

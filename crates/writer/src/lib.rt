@@ -1,5 +1,6 @@
 // Sheets and record lines, written into a lent output. A writer stores only inside its output and answers the place behind what it writes, so
-// that writing into no bytes measures.
+// that writing into no bytes measures. What is written for tables that hold no selection, or no test and marks, is left open, the output's length
+// excepted.
 use answer::Answer;
 ghost use mathlib.Core.Path.{_≡_};
 ghost use mathlib.Core.List.{_∷_, []};
