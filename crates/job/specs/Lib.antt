@@ -3,3 +3,4 @@ pub mod ReadOldLaws
 pub mod ReadNew
 pub mod ReadTests
 pub mod Stages
+pub mod Progress

@@ -194,7 +194,7 @@ job-tests : (j : Job) (o p : Listing) (l : TestListing) → j ≡ jobNew o p →
 unfolding testsJob withTests jobTests jobNew
 job-tests j o p l e = ap (λ (k : Job). testsJob k (accepted l)) e
 
-edges-new : (j : Job) (o p : Listing) → j ≡ jobNew o p → j .«old_edges» ≡ edgeCount (o .program)
+pub edges-new : (j : Job) (o p : Listing) → j ≡ jobNew o p → j .«old_edges» ≡ edgeCount (o .program)
 unfolding jobNew
 edges-new j o p e = ap (λ (k : Job). k .«old_edges») e
 
