@@ -1,5 +1,5 @@
 -- Progress: where a call that reads answered 0, neither 13 nor 14 is due for the next one on the job and the tables that it left, if what that is lent is long enough.
-use mathlib.Core.Path.{_≡_, refl, sym, ap, _∙_, subst}
+use mathlib.Core.Path.{_≡_, refl, sym, ap, _∙_}
 use mathlib.Core.Bool.{Bool, true, false, true≢false}
 use mathlib.Core.List.{List, []}
 use mathlib.Core.Option.{Option, none, some}
@@ -16,12 +16,12 @@ use Rattle.rules.specs.SuiteFile.{TestListing, readTests, readSuite}
 use Rattle.rules.specs.Job.{Given, ofStage, stageAfter, read-new, read-tests, readJob, givenOf, readOldAnswer, readTestsAnswer}
 use Rattle.rules.specs.Theorems.{answers-plain}
 use Rattle.rules.specs.Proofs.TextLaws.{accepted-same, then-accepted, then-passes}
-use Rattle.rules.specs.Proofs.JobLaws.{Known, known, outcome-wrote}
+use Rattle.rules.specs.Proofs.JobLaws.{known, outcome-wrote}
 use Rattle.answer.specs.declared.Answer.{Answer}
 use Rattle.records.specs.declared.Job.{Job}
 use Rattle.records.specs.declared.Node.{Node}
 use Rattle.records.specs.Jobs.{fresh}
-use Rattle.held.specs.Held.{AllRead, Lent, Versions, lent, versionLeft, jobOld, jobNew, heldOld, heldNew, heldTests}
+use Rattle.held.specs.Held.{AllRead, Lent, Versions, lent, jobOld, jobNew, heldOld, heldNew, heldTests}
 use Rattle.held.specs.HeldLaws.{held-old-parts, held-new-parts, texts-accepted, version-read}
 use Rattle.job.specs.ReadOld.{roomy, programRead, oldRead, answered, pastDue, ReadOld}
 use Rattle.job.specs.ReadOldLaws.{answer-old, none-due, read-fresh}
@@ -146,63 +146,116 @@ module _ (j : Job) (v v′ : Lent) (tests : Bytes) (t u w : List ℕ) (r : Answe
 abbrev pub done : Answer
 done = record { number = 0; place = 0 }
 
--- The calls answered 0, and the job and all tables hold what the texts give.
-pub record AllSucceed (g : Given) (r q s : Answer) (held : Option AllRead) : Type 0 where
-  pub old-succeeds : r ≡ done
-  pub new-succeeds : q ≡ done
-  pub tests-succeed : s ≡ done
+-- A call of `read_old` that is lent enough: what it is lent, what it answers and leaves, its contract, the lengths.
+pub record OldCall (j : Job) (old : Bytes) : Type 0 where
+  pub n : List Node
+  pub l : List ℕ
+  pub w : List ℕ
+  pub answer : Answer
+  pub job : Job
+  pub nodes : List Node
+  pub links : List ℕ
+  pub scratch : List ℕ
+  pub reads : ReadOld j old n l w answer job nodes links scratch
+  pub many-nodes : 512 ≤ length n
+  pub many-links : 6080 ≤ length l
+  pub room : 8128 ≤ length w
+
+-- One of `read_new`, with the old version v.
+pub record NewCall (j : Job) (v : Lent) (new : Bytes) : Type 0 where
+  pub n : List Node
+  pub l : List ℕ
+  pub w : List ℕ
+  pub answer : Answer
+  pub job : Job
+  pub nodes : List Node
+  pub links : List ℕ
+  pub scratch : List ℕ
+  pub reads : ReadNew j v new n l w answer job nodes links scratch
+  pub many-nodes : 512 ≤ length n
+  pub many-links : 6080 ≤ length l
+  pub room : 8128 ≤ length w
+
+-- One of `read_tests`, with both versions.
+pub record TestsCall (j : Job) (v v′ : Lent) (tests : Bytes) : Type 0 where
+  pub t : List ℕ
+  pub u : List ℕ
+  pub w : List ℕ
+  pub answer : Answer
+  pub job : Job
+  pub names : List ℕ
+  pub rows : List ℕ
+  pub scratch : List ℕ
+  pub reads : ReadTests j v v′ tests t u w answer job names rows scratch
+  pub many-names : 400 ≤ length t
+  pub many-rows : 3200 ≤ length u
+  pub room : 8128 ≤ length w
+
+-- The three on a fresh job, each on what those before it left.
+pub record Chain (old new tests : Bytes) : Type 0 where
+  pub first : OldCall fresh old
+  pub second : NewCall (first .job) (lent old (first .nodes) (first .links)) new
+  pub third : TestsCall (second .job) (lent old (first .nodes) (first .links)) (lent new (second .nodes) (second .links)) tests
+
+-- Each answers number and place 0, and the job and all tables are held, with what the texts give.
+pub record Succeeds (old new tests : Bytes) (c : Chain old new tests) (g : Given) : Type 0 where
+  pub old-succeeds : c .first .answer ≡ done
+  pub new-succeeds : c .second .answer ≡ done
+  pub tests-succeed : c .third .answer ≡ done
   pub all : AllRead
-  pub holds : held ≡ some all
+  pub held : heldTests (c .third .job) (lent old (c .first .nodes) (c .first .links)) (lent new (c .second .nodes) (c .second .links)) tests (c .third .names) (c .third .rows) ≡ some all
   pub gives : givenOf (all .old) (all .new) (all .tests) ≡ g
 
--- A fresh job, three texts that are accepted, and tables that are long enough.
-module _ (old new tests : Bytes) (g : Given) (reads : readJob old new tests ≡ accepted g)
-    (n : List Node) (l w : List ℕ) (r : Answer) (j : Job) (n′ : List Node) (l′ w′ : List ℕ) (a : ReadOld fresh old n l w r j n′ l′ w′)
-    (m : List Node) (k x : List ℕ) (q : Answer) (j′ : Job) (m′ : List Node) (k′ x′ : List ℕ) (b : ReadNew j (lent old n′ l′) new m k x q j′ m′ k′ x′)
-    (t u y : List ℕ) (s : Answer) (j″ : Job) (t′ u′ y′ : List ℕ) (c : ReadTests j′ (lent old n′ l′) (lent new m′ k′) tests t u y s j″ t′ u′ y′)
-    (hn : 512 ≤ length n) (hl : 6080 ≤ length l) (hw : 8128 ≤ length w) (hm : 512 ≤ length m) (hk : 6080 ≤ length k) (hx : 8128 ≤ length x) (ht : 400 ≤ length t) (hu : 3200 ≤ length u) (hy : 8128 ≤ length y) where
-  given-by : Known old new tests g
-  given-by = known old new tests g reads
+listing-of : (text : Bytes) (p : Program) → readProgram text ≡ accepted p → (s : Listing) × (readListing text ≡ accepted s) × (s .program ≡ p)
+unfolding readProgram
+listing-of text p e = let s = then-accepted _ _ _ e in (s .0, s .1, accepted-same (s .2))
 
-  listing-of : (text : Bytes) (p : Program) → readProgram text ≡ accepted p → (o : Listing) × (readListing text ≡ accepted o) × (o .program ≡ p)
-  unfolding readProgram
-  listing-of text p e = let v = then-accepted _ _ _ e in (v .0, v .1, accepted-same (v .2))
+module _ (old new tests : Bytes) (c : Chain old new tests) (g : Given) (e : readJob old new tests ≡ accepted g) where
+  abbrev a : OldCall fresh old
+  a = c .first
+
+  abbrev b : NewCall (a .job) (lent old (a .nodes) (a .links)) new
+  b = c .second
+
+  abbrev d : TestsCall (b .job) (lent old (a .nodes) (a .links)) (lent new (b .nodes) (b .links)) tests
+  d = c .third
 
   old-listing : (o : Listing) × (readListing old ≡ accepted o) × (o .program ≡ g .old)
-  old-listing = listing-of old (g .old) (given-by .reads-old)
+  old-listing = listing-of old (g .old) (known old new tests g e .reads-old)
 
   new-listing : (p : Listing) × (readListing new ≡ accepted p) × (p .program ≡ g .new)
-  new-listing = listing-of new (g .new) (given-by .reads-new)
+  new-listing = listing-of new (g .new) (known old new tests g e .reads-new)
 
-  tests-listing : (i : TestListing) × (readTests (edgeCount (old-listing .0 .program)) tests ≡ accepted i)
+  tests-listing : (l : TestListing) × (readTests (edgeCount (old-listing .0 .program)) tests ≡ accepted l)
   unfolding readSuite
   tests-listing =
-      let v = then-accepted _ _ _ (given-by .reads-tests) in (v .0, ap (λ (p : Program). readTests (edgeCount p) tests) (old-listing .2) ∙ v .1)
+      let l = then-accepted _ _ _ (known old new tests g e .reads-tests) in (l .0, ap (λ (p : Program). readTests (edgeCount p) tests) (old-listing .2) ∙ l .1)
 
-  r-done : r ≡ done
+  first-done : a .answer ≡ done
   unfolding answered
-  r-done = a .left .answer-is ∙ ap answered (read-fresh (length n) (length l) (length w) old hn hl hw ∙ old-listing .1)
+  first-done = a .reads .left .answer-is ∙ ap answered (read-fresh _ _ _ old (a .many-nodes) (a .many-links) (a .room) ∙ old-listing .1)
 
-  q-done : q ≡ done
+  second-done : b .answer ≡ done
   unfolding answered
-  q-done =
-      b .left .answer-is
-      ∙ ap answered (read-new-goes fresh old n l w r j n′ l′ w′ a (ap (λ (z : Answer). z .number) r-done) (length m) (length k) (length x) new hm hk hx ∙ new-listing .1)
+  second-done =
+      let goes = read-new-goes _ old (a .n) (a .l) (a .w) (a .answer) (a .job) (a .nodes) (a .links) (a .scratch) (a .reads) (ap (λ (x : Answer). x .number) first-done) in
+      b .reads .left .answer-is ∙ ap answered (goes _ _ _ new (b .many-nodes) (b .many-links) (b .room) ∙ new-listing .1)
 
-  s-done : s ≡ done
+  third-done : d .answer ≡ done
   unfolding answered
-  s-done =
-      c .left .answer-is
-      ∙ ap answered (read-tests-goes j (lent old n′ l′) new m k x q j′ m′ k′ x′ b (ap (λ (z : Answer). z .number) q-done) (old-listing .0) (old-listing .1) (length t) (length u) (length y) tests ht hu hy ∙ tests-listing .1)
+  third-done =
+      let goes = read-tests-goes _ _ new (b .n) (b .l) (b .w) (b .answer) (b .job) (b .nodes) (b .links) (b .scratch) (b .reads) (ap (λ (x : Answer). x .number) second-done) in
+      d .reads .left .answer-is ∙ ap answered (goes (old-listing .0) (old-listing .1) _ _ _ tests (d .many-names) (d .many-rows) (d .room) ∙ tests-listing .1)
 
-  pub all-succeed : AllSucceed g r q s (heldTests j″ (lent old n′ l′) (lent new m′ k′) tests t′ u′)
-  all-succeed =
-      let h = all-held j′ (lent old n′ l′) (lent new m′ k′) tests t u y s j″ t′ u′ y′ c (ap (λ (z : Answer). z .number) s-done) in
+  -- Where the three texts are accepted, the three calls on a fresh job succeed.
+  pub chain-succeeds : Succeeds old new tests c g
+  chain-succeeds =
+      let h = all-held _ _ _ tests (d .t) (d .u) (d .w) (d .answer) (d .job) (d .names) (d .rows) (d .scratch) (d .reads) (ap (λ (x : Answer). x .number) third-done) in
       record {
-        old-succeeds = r-done;
-        new-succeeds = q-done;
-        tests-succeed = s-done;
+        old-succeeds = first-done;
+        new-succeeds = second-done;
+        tests-succeed = third-done;
         all = h .0;
-        holds = h .1;
-        gives = accepted-same (sym (texts-accepted j″ (lent old n′ l′) (lent new m′ k′) tests t′ u′ (h .0) (h .1)) ∙ reads);
+        held = h .1;
+        gives = accepted-same (sym (texts-accepted _ _ _ tests _ _ (h .0) (h .1)) ∙ e);
       }

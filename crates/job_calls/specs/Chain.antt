@@ -1,0 +1,28 @@
+-- The whole chain: on a fresh job, with texts that are accepted and lent memory that is long enough, the three calls that read succeed and those of stage 3 answer as the texts do.
+use mathlib.Core.Path.{_≡_, subst}
+use Prim.Native.Nat.{ℕ, _≤_}
+use Rattle.rules.specs.Text.{Bytes, accepted}
+use Rattle.rules.specs.Job.{Given, readJob, write-sheet}
+use Rattle.held.specs.Held.{lent}
+use Rattle.job.specs.Progress.{Chain, Succeeds, chain-succeeds}
+use Rattle.job_calls.specs.Calls.{LentJob, goesBy, lentJob, pairScratch}
+use Rattle.job_calls.specs.DueLaws.{held-goes}
+use Rattle.job_calls.specs.Answers.{ByTexts, by-texts}
+
+-- The job and the tables that the three calls left, with so many numbers of scratch.
+abbrev pub leftJob : (old new tests : Bytes) → Chain old new tests → ℕ → LentJob
+leftJob old new tests c n =
+    lentJob (c .third .job) (lent old (c .first .nodes) (c .first .links)) (lent new (c .second .nodes) (c .second .links)) tests (c .third .names) (c .third .rows) n
+
+module _ (old new tests : Bytes) (c : Chain old new tests) (g : Given) (e : readJob old new tests ≡ accepted g) where
+  abbrev succeeds : Succeeds old new tests c g
+  succeeds = chain-succeeds old new tests c g e
+
+  -- Nothing is due for a call of stage 3 that is lent the scratch that it asks for.
+  pub chain-goes : (asked n : ℕ) → asked ≤ n → goesBy write-sheet asked (leftJob old new tests c n) ≡ accepted (succeeds .all)
+  chain-goes asked n room = held-goes asked (leftJob old new tests c n) (succeeds .all) (succeeds .held) room
+
+  -- The sheet, the record lines and the check are those of the texts.
+  pub chain-by-texts : (n : ℕ) → pairScratch ≤ n → ByTexts (leftJob old new tests c n) g
+  chain-by-texts n room =
+      subst (λ (x : Given). ByTexts (leftJob old new tests c n) x) (succeeds .gives) (by-texts (leftJob old new tests c n) (succeeds .all) (chain-goes pairScratch n room))
