@@ -1,7 +1,8 @@
 // What the programs share: files that arguments name, cases in a file, outputs, and numbers in print.
 ghost use mathlib.Core.Path.{_≡_};
-ghost use lib.ListN.{drop};
-ghost use Rattle.rules.specs.Text.{allBytes};
+ghost use mathlib.Core.List.{[]};
+ghost use lib.ListN.{drop, getD};
+ghost use Rattle.rules.specs.Text.{allBytes, split};
 ghost use Rattle.files.specs.Marks.{isMark};
 
 // What came of a file: whether it could be read, and how many bytes stand at the start of the buffer.
@@ -65,6 +66,27 @@ pub fn has_args(n: usize, usage: &[u8]) -> bool {
 }
 
 // ---- cases, one after another in a file
+
+// The field k between the bytes b, empty where there are not so many.
+pub fn field(s: &[u8], b: u8, k: usize) -> &[u8]
+    ensures { λ r. ⌜ now r ≡ getD (split b (now (s .entry))) k [] ⌝ }
+{
+    let mut at = 0;
+    let mut j = k;
+    while at <= s.len() {
+        let rest = text::after(s, at);
+        let n = text::find(rest, b);
+        if j == 0 {
+            return text::front(rest, n);
+        }
+        if rest.len() <= n {
+            return text::front(rest, 0);
+        }
+        at = at + n + 1;
+        j -= 1;
+    }
+    text::front(s, 0)
+}
 
 // The number that six digits spell, three by three: text::value goes only to 65,536, and a text may be longer.
 pub fn six_digits(s: &[u8]) -> usize {

@@ -1,3 +1,4 @@
-pub mod Shape
+pub mod Kinds
+pub mod Forms
 pub mod Stands
 pub mod Known

@@ -1,25 +1,23 @@
 -- Where the parts of a line of a program file stand in the text.
 use mathlib.Core.Path.{_≡_, refl, sym, ap, _∙_}
-use mathlib.Core.Bool.{true}
 use mathlib.Core.List.{[], _∷_, _++_, append-assoc, append-nil}
 use Prim.Native.Nat.{ℕ, _+_, _≤_}
 use native.Mathlib.Omega.{arith}
 use lib.ListN.{length, take, drop, length-append, take-append-drop}
 use lib.Seq.{length-take-le}
-use Rattle.laws.specs.TestLaws.{and-left, and-right}
-use Rattle.rules.specs.Text.{Bytes, bytes, fieldsOf, commas, joinBy, isWord}
-use Rattle.rules.specs.ProgramFile.{Line, proc-line, node-line, edge-line, malformed, isEdge, formOf}
+use Rattle.rules.specs.Text.{Bytes, bytes, fieldsOf, commas, joinBy}
+use Rattle.rules.specs.ProgramFile.{Line, proc-line, node-line, edge-line, malformed, formOf}
 use Rattle.rules.specs.Layout.{kindField}
 use Rattle.rules.specs.Places.{Part}
 use Rattle.rules.specs.Proofs.Places.{kind-long}
 use Rattle.rules.specs.Proofs.ProgramLaws.{Formed, formed}
 use Rattle.rules.specs.Proofs.TextLaws.{join-split}
 
--- The parts of a line that begins at the offset `at` stand in the text; that of a B line is a word.
+-- The parts of a line that begins at the offset `at` stand in the text. Of a B line none is sought there again.
 abbrev pub Stands : Bytes → ℕ → Line → Type 0
 Stands text at (proc-line name) = Part text (at + 2) name
 Stands text at (node-line kind label callee) = Part text (at + 4) label × Part text (at + 4 + length label + 1) callee
-Stands text at (edge-line from word to) = Part text (at + length from + 3) word × (isWord word ≡ true)
+Stands text at (edge-line from word to) = Unit {0}
 Stands text at malformed = Unit {0}
 
 -- The line l stands in the text at the offset `at`.
@@ -42,7 +40,7 @@ module _ (text l : Bytes) (at : ℕ) (inside : at + length l ≤ length text) (h
       }
 
   formed-stands : (x : Line) → Formed (fieldsOf l) x → Stands text at x
-  unfolding joinBy isEdge
+  unfolding joinBy
   formed-stands (proc-line name) f =
       let is : l ≡ bytes "P," ++ (name ++ []) = sym (join-split 44 l) ∙ ap commas (f .0) ∙ ap (λ (r : Bytes). bytes "P," ++ r) (sym (append-nil name)) in
       part-stands (bytes "P,") name [] _ is refl
@@ -59,12 +57,7 @@ module _ (text l : Bytes) (at : ℕ) (inside : at + length l ≤ length text) (h
       ∙ ap (λ (r : Bytes). b ++ r) (sym (append-nil callee)) in
       let longer : length b ≡ 4 + (length label + 1) = omega (arith, length-append a (label ++ (44 ∷ [])), length-append label (44 ∷ [])) in
       (part-stands a label (44 ∷ callee) _ is (omega arith), part-stands b callee [] _ ends (omega arith))
-  formed-stands (edge-line from word to) f =
-      let a : Bytes = bytes "B," ++ (from ++ (44 ∷ [])) in
-      let is : l ≡ a ++ (word ++ (44 ∷ to)) =
-      sym (join-split 44 l) ∙ ap commas (f .0) ∙ ap (λ (r : Bytes). bytes "B," ++ r) (sym (append-assoc from (44 ∷ []) (word ++ (44 ∷ to)))) in
-      let long : length a ≡ length from + 3 = omega (arith, length-append from (44 ∷ [])) in
-      (part-stands a word (44 ∷ to) _ is (omega arith), and-left _ _ (and-right _ _ (f .1)))
+  formed-stands (edge-line from word to) f = tt
   formed-stands malformed f = tt
 
 -- Where a line stands in the text, its parts do.

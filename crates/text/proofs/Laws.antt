@@ -19,7 +19,7 @@ use Rattle.rules.specs.Text.{Bytes, same, between, allBytes, nameByte, labelByt
 use Rattle.rules.specs.SuiteFile.{hexByte}
 use Rattle.rules.specs.Proofs.TextLaws.{decimal-small, decimal-more, same-of, same-self, same-true}
 use Rattle.text.specs.Scans.{span, plainByte, classByte, sized}
-use Rattle.text.specs.SplitLaws.{span-hit, span-miss, span-end, fields}
+use Rattle.text.specs.SplitLaws.{span-hit, span-miss, span-end}
 use Rattle.text.specs.Puts.{Puts, puts-none, puts-then, puts-length}
 use Rattle.text.specs.Hash.{hashFrom, hashOf}
 
@@ -631,4 +631,4 @@ hash-start s = refl
 
 pub ruleset hashes = (hash-on, hash-done, hash-start)
 
-pub ruleset all = (hashes, finds, sames, parts, stores, runs, classes, alls, sizes, fields, values, spelled, writes)
+pub ruleset all = (hashes, finds, sames, parts, stores, runs, classes, alls, sizes, values, spelled, writes)

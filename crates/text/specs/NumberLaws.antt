@@ -2,12 +2,14 @@
 use mathlib.Core.Path.{_≡_, _∙_}
 use mathlib.Core.Logic.{⊎-elim}
 use mathlib.Core.Bool.{true, false}
+use mathlib.Core.List.{[], _∷_}
 use Prim.Native.Nat.{ℕ, _≤_, _<_, min}
 use native.Mathlib.Omega.{arith}
 use Rattle.laws.specs.Tests.{choose}
 use Rattle.laws.specs.TestLaws.{fails, passes?}
 use Rattle.laws.specs.Lists.{choose-no, choose-yes}
-use Rattle.rules.specs.Text.{Bytes, isNumber, value}
+use Rattle.rules.specs.Text.{Bytes, isNumber, split, value}
+use Rattle.rules.specs.Proofs.TextLaws.{number-free, split-free}
 
 module _ (a : Bytes) (v : ℕ) (e : v ≡ choose (isNumber a) (min (value a) 65536) 65537) where
   pub no-number : 65536 < v → isNumber a ≡ false
@@ -18,3 +20,7 @@ module _ (a : Bytes) (v : ℕ) (e : v ≡ choose (isNumber a) (min (value a) 655
 
   pub number-kept : v ≤ 65536 → v ≡ min (value a) 65536
   number-kept h = e ∙ choose-yes _ _ (a-number h)
+
+  -- A number has no comma.
+  pub number-whole : v ≤ 65536 → split 44 a ≡ a ∷ []
+  number-whole h = split-free 44 a (number-free 44 a (omega arith) (a-number h))

@@ -17,7 +17,6 @@ ghost use Rattle.rules.specs.Text.{
   nameByte,
   same as sameBytes,
   same as sameNumbers,
-  split,
   value as valueOf,
 };
 ghost use Rattle.laws.specs.Tests.{choose, has};
@@ -546,7 +545,8 @@ pub fn is_word(s: &[u8]) -> bool
     sized(2, 8, s)
 }
 
-// What stands before the first b: the first field between the bytes b.
+// The field splitter: the first of the fields between the bytes b. It is returned as the part of the caller's slice that holds it, not as
+// offsets; the fields behind it are those of `after(s, r.len() + 1)`, where b stands behind r.
 pub fn first(s: &[u8], b: u8) -> &[u8]
     ensures { λ r. ⌜ now r ≡ take (span b (now (s .entry))) (now (s .entry)) ⌝ }
 {
@@ -558,27 +558,6 @@ pub fn first_short(s: &[u8], b: u8) -> &[u8]
     ensures { λ r. ⌜ now r ≡ take (span b (now (s .entry))) (now (s .entry)) ⌝ }
 {
     front(s, find_short(s, b))
-}
-
-// The field k between the bytes b, empty where there are not so many.
-pub fn field(s: &[u8], b: u8, k: usize) -> &[u8]
-    ensures { λ r. ⌜ now r ≡ getD (split b (now (s .entry))) k [] ⌝ }
-{
-    let mut at = 0;
-    let mut j = k;
-    while at <= s.len() {
-        let rest = after(s, at);
-        let n = find(rest, b);
-        if j == 0 {
-            return front(rest, n);
-        }
-        if rest.len() <= n {
-            return front(rest, 0);
-        }
-        at = at + n + 1;
-        j -= 1;
-    }
-    front(s, 0)
 }
 
 // The number of a digit.
