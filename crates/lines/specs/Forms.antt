@@ -20,28 +20,29 @@ use Rattle.lines.specs.Kinds.{nodeKind}
 
 -- ---- the first two bytes
 
-module _ (l f rest : Bytes) (ef : f ≡ take 2 l) (er : rest ≡ drop 2 l) where
-  pub says-proc : same f (80 ∷ 44 ∷ []) ≡ true → formOf (split 44 l) ≡ formOf ((80 ∷ []) ∷ split 44 rest)
-  says-proc e = ap formOf (letter 44 80 l f rest ef er refl e)
+module _ (l f rest : Bytes) (ef : f ≡ take 2 l) (er : rest ≡ drop 2 l) (t : Bool) where
+  pub says-proc : t ≡ same f (80 ∷ 44 ∷ []) → t ≡ true → formOf (split 44 l) ≡ formOf ((80 ∷ []) ∷ split 44 rest)
+  says-proc e y = ap formOf (letter 44 80 l f rest ef er refl (sym e ∙ y))
 
-  pub says-node : same f (78 ∷ 44 ∷ []) ≡ true → formOf (split 44 l) ≡ formOf ((78 ∷ []) ∷ split 44 rest)
-  says-node e = ap formOf (letter 44 78 l f rest ef er refl e)
+  pub says-node : t ≡ same f (78 ∷ 44 ∷ []) → t ≡ true → formOf (split 44 l) ≡ formOf ((78 ∷ []) ∷ split 44 rest)
+  says-node e y = ap formOf (letter 44 78 l f rest ef er refl (sym e ∙ y))
 
-  pub says-edge : same f (66 ∷ 44 ∷ []) ≡ true → formOf (split 44 l) ≡ formOf ((66 ∷ []) ∷ split 44 rest)
-  says-edge e = ap formOf (letter 44 66 l f rest ef er refl e)
+  pub says-edge : t ≡ same f (66 ∷ 44 ∷ []) → t ≡ true → formOf (split 44 l) ≡ formOf ((66 ∷ []) ∷ split 44 rest)
+  says-edge e y = ap formOf (letter 44 66 l f rest ef er refl (sym e ∙ y))
 
 -- Every form has its two bytes.
-pub says-none : (l f : Bytes) → f ≡ take 2 l → same f (80 ∷ 44 ∷ []) ≡ false → same f (78 ∷ 44 ∷ []) ≡ false → same f (66 ∷ 44 ∷ []) ≡ false → formOf (split 44 l) ≡ malformed
+pub says-none : (l f : Bytes) (p n b : Bool) → f ≡ take 2 l → p ≡ same f (80 ∷ 44 ∷ []) → p ≡ false → n ≡ same f (78 ∷ 44 ∷ []) → n ≡ false → b ≡ same f (66 ∷ 44 ∷ []) → b ≡ false
+    → formOf (split 44 l) ≡ malformed
 unfolding joinBy
-says-none l f ef p n b = go (formOf (split 44 l)) (formed (split 44 l))
+says-none l f p n b ef ep np en nn eb nb = go (formOf (split 44 l)) (formed (split 44 l))
   where
     joined : (fs : List Bytes) → split 44 l ≡ fs → f ≡ take 2 (joinBy 44 fs)
     joined fs q = ef ∙ ap (take 2) (sym (join-split 44 l) ∙ ap (joinBy 44) q)
 
     go : (x : Line) → Formed (split 44 l) x → x ≡ malformed
-    go (proc-line a) q = absurd (both-ways (same-of (joined _ (q .0))) p)
-    go (node-line k a c) q = absurd (both-ways (same-of (joined _ (q .0))) n)
-    go (edge-line a c d) q = absurd (both-ways (same-of (joined _ (q .0))) b)
+    go (proc-line a) q = absurd (both-ways (same-of (joined _ (q .0))) (sym ep ∙ np))
+    go (node-line k a c) q = absurd (both-ways (same-of (joined _ (q .0))) (sym en ∙ nn))
+    go (edge-line a c d) q = absurd (both-ways (same-of (joined _ (q .0))) (sym eb ∙ nb))
     go malformed q = refl
 
 -- ---- a P line: a name has no comma
@@ -52,13 +53,14 @@ proc-more a b [] = refl
 proc-more a b (c ∷ []) = refl
 proc-more a b (c ∷ d ∷ ds) = refl
 
-pub proc-none : (s : Bytes) → isName s ≡ false → formOf ((80 ∷ []) ∷ split 44 s) ≡ malformed
-unfolding formOf choose same _and_
-proc-none s n = pieces 44 s (λ e. simp (e, n)) (λ p q qs e. ap (λ (fs : List Bytes). formOf ((80 ∷ []) ∷ fs)) e ∙ proc-more p q qs)
+module _ (s : Bytes) (t : Bool) (e : t ≡ isName s) where
+  pub proc-none : t ≡ false → formOf ((80 ∷ []) ∷ split 44 s) ≡ malformed
+  unfolding formOf choose same _and_
+  proc-none n = pieces 44 s (λ q. simp (q, ← e, n)) (λ a b cs q. ap (λ (fs : List Bytes). formOf ((80 ∷ []) ∷ fs)) q ∙ proc-more a b cs)
 
-pub proc-is : (s : Bytes) → isName s ≡ true → formOf ((80 ∷ []) ∷ split 44 s) ≡ proc-line s
-unfolding formOf choose same _and_
-proc-is s y = simp (split-free 44 s (name-free 44 s (omega arith) y), y)
+  pub proc-is : t ≡ true → formOf ((80 ∷ []) ∷ split 44 s) ≡ proc-line s
+  unfolding formOf choose same _and_
+  proc-is y = simp (split-free 44 s (name-free 44 s (omega arith) (sym e ∙ y)), ← e, y)
 
 -- ---- N and B lines: a and b are the first fields behind the letter, rest and c what stands behind each of them
 
@@ -154,4 +156,4 @@ module _ (s a : Bytes) (ea : a ≡ take (span 44 s) s) where
             edge-is y = simp (fields, number-whole c j ej m, a-number a i ei l, ← et, y, a-number c j ej m)
 
 -- The lines that say nothing.
-pub ruleset unsaid = (proc-none, node-one, node-two, node-none, edge-one, edge-two, edge-from, edge-to, edge-word)
+pub ruleset unsaid = (says-none, proc-none, node-one, node-two, node-none, edge-one, edge-two, edge-from, edge-to, edge-word)

@@ -24,7 +24,7 @@ use Rattle.graph.specs.Lookups.{in-table, Procs, ProcNamed}
 use Rattle.lines.specs.Known.{Known}
 use Rattle.reader.specs.declared.Count.{Count}
 use Rattle.reader.specs.Result.{linksOf, Small, InTable, Told, ReadInto}
-use Rattle.reader.specs.Reading.{Holds, Completes, ofCurrent, wholeText, LinesRead, Partly, ResolvedNode, ResolvedTo, Resolved, calleeBytes, Finished}
+use Rattle.reader.specs.Reading.{Holds, Completes, ofCurrent, wholeText, LinesRead, Partly, ResolvedNode, ResolvedTo, Resolved, calleeBytes, Finished, Refusal}
 use Rattle.reader.proofs.Completeness.{procs-of, some-procs, number-kind, current-row}
 use Rattle.reader.proofs.Steps.{unless-stops, found-none}
 
@@ -236,8 +236,8 @@ pub ruleset resolve-turns = (resolve-start, resolve-on, resolve-not, resolve-end
 
 -- ---- `finish`
 
-told-refused : (x : Answer Listing) (k p : ℕ) (r : Count) (w : List ℕ) → x ≡ refused k p → 0 < k → r .number ≡ k → r .place ≡ p → Told x r w
-told-refused x k p r w e h a b = subst (λ (y : Answer Listing). Told y r w) (sym e) (a, b, h)
+told-refused : (x : Answer Listing) (k p : ℕ) (r : Count) (w : List ℕ) → x ≡ refused k p → 0 < k → Refusal k p r → Told x r w
+told-refused x k p r w e h q = subst (λ (y : Answer Listing). Told y r w) (sym e) (q .number-is, q .place-is, h)
 
 -- A procedure's row, with its entry and exit.
 seven-at : (f : ℕ → ℕ) (i a b c d e x y : ℕ) → At f i (a ∷ b ∷ c ∷ d ∷ e ∷ []) → f (i + 5) ≡ x → f (i + 6) ≡ y → At f i (a ∷ b ∷ c ∷ d ∷ e ∷ x ∷ y ∷ [])
@@ -274,18 +274,12 @@ module _ (text w w′ : List ℕ) (c : Count) (s : Listing) (k : Known text s) (
       }
 
 module _ (text w : List ℕ) (c : Count) (sm : Small c) where
-  abbrev answer : ℕ → ℕ → Count
-  answer number place = record { number = number; place = place; procs = c .procs; nodes = c .nodes; edges = c .edges }
-
-  small-answer : (number place : ℕ) → Small (answer number place)
-  small-answer number place = record { few-procs = sm .few-procs; few-nodes = sm .few-nodes; few-edges = sm .few-edges }
-
-  pub finish-empty : c .procs ≡ 0 → Finished text c w (record { number = 2; place = 1; procs = c .procs; nodes = c .nodes; edges = c .edges }) w
+  pub finish-empty : (r : Count) → c .procs ≡ 0 → Refusal 2 1 r → Finished text c w r w
   unfolding finishProgram
-  finish-empty z =
+  finish-empty r z a =
       record {
-        told = λ s n k h. told-refused _ 2 1 _ w (unless-stops _ _ _ _ (true-isnt (le-ltb 0 (procCount (s .program)) (omega (arith, h .procs-n))))) (omega arith) refl refl;
-        small = small-answer 2 1;
+        told = λ s n k h. told-refused _ 2 1 r w (unless-stops _ _ _ _ (true-isnt (le-ltb 0 (procCount (s .program)) (omega (arith, h .procs-n))))) (omega arith) a;
+        small = a .small;
       }
 
   module _ (some-proc : c .procs ≡ 0 → ⊥) (u : Bool) (q : Completes w c u) where
@@ -295,14 +289,15 @@ module _ (text w : List ℕ) (c : Count) (sm : Small c) where
     begun-of : (s : Listing) → Holds w c s → isnt (begun (s .program)) ≡ false
     begun-of s h = false-isnt (lt-ltb 0 (procCount (s .program)) (some-of s h))
 
-    pub finish-open : (place : ℕ) → u ≡ false → place ≡ ofCurrent w (c .procs) 2 → Finished text c w (record { number = 8; place = place; procs = c .procs; nodes = c .nodes; edges = c .edges }) w
+    pub finish-open : (r : Count) (p : ℕ) → u ≡ false → p ≡ ofCurrent w (c .procs) 2 → Refusal 8 p r → Finished text c w r w
     unfolding finishProgram Completes
-    finish-open place t e =
+    finish-open r p t e a =
         record {
           told = λ s n k h.
-              told-refused _ 8 (getD (s .places .procLines) (current (s .program)) 0) _ w
-              (unless-passes _ _ _ _ (begun-of s h) ∙ unless-stops _ _ _ _ (true-isnt (sym (q s (k .sound) h (some-of s h)) ∙ t))) (omega arith) refl (e ∙ current-row w c s h (some-of s h) 2 (omega arith));
-          small = small-answer 8 place;
+              told-refused _ 8 (getD (s .places .procLines) (current (s .program)) 0) r w
+              (unless-passes _ _ _ _ (begun-of s h) ∙ unless-stops _ _ _ _ (true-isnt (sym (q s (k .sound) h (some-of s h)) ∙ t))) (omega arith)
+              (subst (λ (m : ℕ). Refusal 8 m r) (e ∙ current-row w c s h (some-of s h) 2 (omega arith)) a);
+          small = a .small;
         }
 
     module _ (t : u ≡ true) (line : ℕ) (w′ : List ℕ) (rs : Resolved text w (c .procs) (c .nodes) line w′) where
@@ -310,15 +305,16 @@ module _ (text w : List ℕ) (c : Count) (sm : Small c) where
       unfolding finishProgram Completes
       finish-is s n k h = unless-passes _ _ _ _ (begun-of s h) ∙ unless-passes _ _ _ _ (false-isnt (sym (q s (k .sound) h (some-of s h)) ∙ t))
 
-      pub finish-lost : (place : ℕ) → (line ≡ 0 → ⊥) → place ≡ line - 1 → Finished text c w (record { number = 9; place = place; procs = c .procs; nodes = c .nodes; edges = c .edges }) w′
+      pub finish-lost : (r : Count) → (line ≡ 0 → ⊥) → Refusal 9 (line - 1) r → Finished text c w r w′
       unfolding Resolved
-      finish-lost place z e =
+      finish-lost r z q =
           record {
             told = λ s n k h.
                 let a = rs s c k h (h .procs-n) (h .nodes-n) .1 z in
-                told-refused _ 9 (getD (s .places .nodeLines) (a .0) 0) _ w′
-                (finish-is s n k h ∙ ap (λ (o : Option ℕ). after o (accepted s) (λ m. refused 9 (getD (s .places .nodeLines) m 0))) (a .1)) (omega arith) refl (e ∙ one-less line _ (a .2));
-            small = small-answer 9 place;
+                told-refused _ 9 (getD (s .places .nodeLines) (a .0) 0) r w′
+                (finish-is s n k h ∙ ap (λ (o : Option ℕ). after o (accepted s) (λ m. refused 9 (getD (s .places .nodeLines) m 0))) (a .1)) (omega arith)
+                (subst (λ (m : ℕ). Refusal 9 m r) (one-less line _ (a .2)) q);
+            small = q .small;
           }
 
       pub finish-done : line ≡ 0 → Finished text c w (record { number = 0; place = 0; procs = c .procs; nodes = c .nodes; edges = c .edges }) w′
@@ -331,20 +327,16 @@ module _ (text w : List ℕ) (c : Count) (sm : Small c) where
                 = table-held text w w′ c s k h (some-of s h) (sym (q s (k .sound) h (some-of s h)) ∙ t) a (record { number = 0; place = 0; procs = c .procs; nodes = c .nodes; edges = c .edges }) refl refl refl in
                 subst (λ (x : Answer Listing). Told x (record { number = 0; place = 0; procs = c .procs; nodes = c .nodes; edges = c .edges }) w′)
                 (sym (finish-is s n k h ∙ ap (λ (o : Option ℕ). after o (accepted s) (λ m. refused 9 (getD (s .places .nodeLines) m 0))) (a .none-lost))) (refl, refl, held);
-            small = small-answer 0 0;
+            small = record { few-procs = sm .few-procs; few-nodes = sm .few-nodes; few-edges = sm .few-edges };
           }
 
 pub ruleset finishes = (finish-empty, finish-open, finish-lost, finish-done)
 
 -- ---- `read_into`
 
-pub into-long : (text w : List ℕ) → 65536 < length text → ReadInto text (record { number = 1; place = 0; procs = 0; nodes = 0; edges = 0 }) w
+pub into-long : (text w : List ℕ) (r : Count) → 65536 < length text → Refusal 1 0 r → ReadInto text r w
 unfolding readListing readText
-into-long text w h =
-    record {
-      told = told-refused _ 1 0 _ w (unless-stops _ _ _ _ (lt-ltb maxBytes (length text) h)) (omega arith) refl refl;
-      small = record { few-procs = omega arith; few-nodes = omega arith; few-edges = omega arith };
-    }
+into-long text w r h a = record { told = told-refused _ 1 0 r w (unless-stops _ _ _ _ (lt-ltb maxBytes (length text) h)) (omega arith) a; small = a .small }
 
 read-whole : (text : List ℕ) → length text ≤ 65536 → readListing text ≡ wholeText text
 unfolding readListing readText wholeText
@@ -356,7 +348,7 @@ positive (suc n) h = omega arith
 
 pub into-stop : (text w : List ℕ) (r : Count) → length text ≤ 65536 → LinesRead text r w → (r .number ≡ 0 → ⊥) → ReadInto text r w
 into-stop text w r h l z =
-    record { told = told-refused _ (r .number) (r .place) r w (read-whole text h ∙ l .stopped z) (positive (r .number) z) refl refl; small = l .small }
+    record { told = told-refused _ (r .number) (r .place) r w (read-whole text h ∙ l .stopped z) (positive (r .number) z) (record { number-is = refl; place-is = refl; small = l .small }); small = l .small }
 
 pub into-finish : (text w w′ : List ℕ) (c r : Count) → length text ≤ 65536 → LinesRead text c w → c .number ≡ 0 → Finished text c w r w′ → ReadInto text r w′
 into-finish text w w′ c r h l z f =

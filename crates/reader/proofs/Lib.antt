@@ -3,6 +3,7 @@ pub mod Stores
 pub mod Leaves
 pub mod Completeness
 pub mod Steps
+pub mod Forms
 pub mod Turns
 pub mod Ends
 pub mod All

@@ -1,39 +1,28 @@
 -- The turns of the loop over lines: what the whole text reads to is what its rest reads to, after what the work table holds.
-use mathlib.Core.Path.{_≡_, refl, sym, ap, _∙_, subst}
+use mathlib.Core.Path.{_≡_, refl, sym, ap, ap₂, _∙_, subst}
 use mathlib.Core.List.{List, [], _∷_}
 use Prim.Native.Nat.{ℕ, suc, _+_, _≤_, _<_}
 use native.Mathlib.Omega.{arith}
-use lib.ListN.{length, getD, take, drop, length-take, length-drop}
+use lib.ListN.{length, take, drop, length-take, length-drop}
 use lib.Seq.{length-take-le}
 use Rattle.laws.specs.Tests.{isnt}
 use Rattle.laws.specs.Slices.{drop-end, drop-next}
 use Rattle.laws.specs.TestLaws.{none-below}
 use Rattle.rules.specs.Text.{Bytes, empty, split, fieldsOf, Answer, refused, accepted, then, unless, readLines}
-use Rattle.rules.specs.ProgramFile.{Line, proc-line, node-line, edge-line, malformed, formOf, Listing, nothingRead, takeLine, stepProgram, finishProgram}
+use Rattle.rules.specs.ProgramFile.{formOf, Listing, nothingRead, takeLine, stepProgram, finishProgram}
 use Rattle.rules.specs.Proofs.TextLaws.{split-cons}
-use Rattle.rules.specs.Proofs.ProgramLaws.{Formed, formed}
 use Rattle.text.specs.Scans.{span}
-use Rattle.text.specs.SplitLaws.{uncut, cut, piece-short}
-use Rattle.lines.specs.declared.Form.{Form}
-use Rattle.lines.specs.Shape.{shape}
+use Rattle.text.specs.SplitLaws.{uncut, cut}
 use Rattle.lines.specs.Stands.{Stands, line-stands}
 use Rattle.lines.specs.Known.{Known, known-none, known-line}
 use Rattle.reader.specs.declared.Count.{Count}
 use Rattle.reader.specs.Result.{Small}
-use Rattle.reader.specs.Reading.{Holds, After, Stepped, spread, wholeText, LinesRead}
+use Rattle.reader.specs.Reading.{Holds, After, Stepped, Refusal, wholeText, LinesRead}
 
--- ---- a form reaches no further than its line
+-- ---- a line is no longer than the text
 
-shape-spread : (l : Bytes) (x : Line) → Formed (fieldsOf l) x → spread (shape x) ≤ length l
-unfolding shape
-shape-spread l (proc-line name) f = subst (λ (n : Bytes). length n ≤ length l) (ap (λ (p : List Bytes). getD p 1 []) (f .0)) (piece-short 44 l 1)
-shape-spread l (node-line k a b) f = subst (λ (n : Bytes). length n ≤ length l) (ap (λ (p : List Bytes). getD p 3 []) (f .0)) (piece-short 44 l 3)
-shape-spread l (edge-line a b c) f = subst (λ (n : Bytes). length n ≤ length l) (ap (λ (p : List Bytes). getD p 1 []) (f .0)) (piece-short 44 l 1)
-shape-spread l malformed f = omega arith
-
-pub spread-room : (text rest l : Bytes) (at len : ℕ) (f : Form) → rest ≡ drop at text → l ≡ take len rest → f ≡ shape (formOf (fieldsOf l)) → length text ≤ 65536 → spread f ≤ 65536
-spread-room text rest l at len f er el ef h =
-    omega (arith, ap spread ef, shape-spread l (formOf (fieldsOf l)) (formed (fieldsOf l)), ap length el, length-take len rest, ap length er, length-drop at text)
+pub line-room : (text rest l : Bytes) (at len : ℕ) → rest ≡ drop at text → l ≡ take len rest → length text ≤ 65536 → length l ≤ 65536
+line-room text rest l at len er el h = omega (arith, ap length el, length-take len rest, ap length er, length-drop at text)
 
 -- ---- the loop
 
@@ -83,7 +72,7 @@ module _ (text w : List ℕ) (at n : ℕ) (c : Count) (so : So text at n c w) (r
       go [] h = absurd (let z : ⊥ = omega arith in z)
       go (x ∷ r) h = refl
 
-  module _ (h : len < length rest) (line : List ℕ) (el : line ≡ take len rest) (f : Form) (ef : f ≡ shape (formOf (fieldsOf line))) (r : Count) (w′ : List ℕ) (stp : Stepped text n at f c w r w′) where
+  module _ (h : len < length rest) (line : List ℕ) (el : line ≡ take len rest) (r : Count) (w′ : List ℕ) (stp : Stepped text n at (formOf (fieldsOf line)) c w r w′) where
     line-long : length line ≡ len
     line-long = ap length el ∙ length-take-le len rest (omega arith)
 
@@ -107,7 +96,7 @@ module _ (text w : List ℕ) (at n : ℕ) (c : Count) (so : So text at n c w) (r
 
     after-step : After (takeLine n at (so .listing) (formOf (fieldsOf line))) r w′
     unfolding Stepped
-    after-step = stp (so .listing) (formOf (fieldsOf line)) (so .known) (so .holds) ef stands
+    after-step = stp (so .listing) (so .known) (so .holds)
 
     so-on : r .number ≡ 0 → So text (at + len + 1) (n + 1) r w′
     unfolding then
@@ -141,9 +130,9 @@ head-start text w =
     record { in-text = omega arith; some = omega arith; few = omega arith; going = refl; small = record { few-procs = omega arith; few-nodes = omega arith; few-edges = omega arith }; long = refl; so = so-start text w }
 
 pub head-on : (text w₀ w : List ℕ) (at n : ℕ) (c : Count) → Head text w₀ at n c w → (rest : List ℕ) → rest ≡ drop at text → (len : ℕ) → len ≡ span 10 rest → len < length rest
-    → (line : List ℕ) → line ≡ take len rest → (f : Form) → f ≡ shape (formOf (fieldsOf line)) → (r : Count) (w′ : List ℕ) → Stepped text n at f c w r w′ → r .number ≡ 0 → Small r → length w′ ≡ length w
+    → (line : List ℕ) → line ≡ take len rest → (r : Count) (w′ : List ℕ) → Stepped text n at (formOf (fieldsOf line)) c w r w′ → r .number ≡ 0 → Small r → length w′ ≡ length w
     → Head text w₀ (at + len + 1) (n + 1) r w′
-head-on text w₀ w at n c hd rest er len e h line el f ef r w′ stp z sm lg =
+head-on text w₀ w at n c hd rest er len e h line el r w′ stp z sm lg =
     record {
       in-text = omega (arith, ap length er, length-drop at text, hd .in-text);
       some = omega arith;
@@ -151,23 +140,23 @@ head-on text w₀ w at n c hd rest er len e h line el f ef r w′ stp z sm lg =
       going = z;
       small = sm;
       long = lg ∙ hd .long;
-      so = so-on text w at n c (hd .so) rest er len e h line el f ef r w′ stp z;
+      so = so-on text w at n c (hd .so) rest er len e h line el r w′ stp z;
     }
 
 -- The returns.
 pub lines-open : (text w₀ w : List ℕ) (at n : ℕ) (c : Count) → Head text w₀ at n c w → at < length text → (rest : List ℕ) → rest ≡ drop at text → (len : ℕ) → len ≡ span 10 rest → length rest ≤ len
-    → LinesRead text (record { number = 2; place = n; procs = 0; nodes = 0; edges = 0 }) w
-lines-open text w₀ w at n c hd a rest er len e k =
+    → (r : Count) → Refusal 2 n r → LinesRead text r w
+lines-open text w₀ w at n c hd a rest er len e k r q =
     record {
-      done = λ z. absurd (let y : ⊥ = omega arith in y);
-      stopped = λ z. no-end text w at n c (hd .so) rest er len e a k;
-      small = record { few-procs = omega arith; few-nodes = omega arith; few-edges = omega arith };
+      done = λ z. absurd (let y : ⊥ = omega (arith, q .number-is) in y);
+      stopped = λ z. no-end text w at n c (hd .so) rest er len e a k ∙ ap₂ (λ (i j : ℕ). refused i j) (sym (q .number-is)) (sym (q .place-is));
+      small = q .small;
     }
 
 pub lines-stop : (text w₀ w : List ℕ) (at n : ℕ) (c : Count) → Head text w₀ at n c w → (rest : List ℕ) → rest ≡ drop at text → (len : ℕ) → len ≡ span 10 rest → len < length rest
-    → (line : List ℕ) → line ≡ take len rest → (f : Form) → f ≡ shape (formOf (fieldsOf line)) → (r : Count) (w′ : List ℕ) → Stepped text n at f c w r w′ → (r .number ≡ 0 → ⊥) → Small r → LinesRead text r w′
-lines-stop text w₀ w at n c hd rest er len e h line el f ef r w′ stp z sm =
-    record { done = λ y. absurd (z y); stopped = λ y. no-step text w at n c (hd .so) rest er len e h line el f ef r w′ stp y; small = sm }
+    → (line : List ℕ) → line ≡ take len rest → (r : Count) (w′ : List ℕ) → Stepped text n at (formOf (fieldsOf line)) c w r w′ → (r .number ≡ 0 → ⊥) → Small r → LinesRead text r w′
+lines-stop text w₀ w at n c hd rest er len e h line el r w′ stp z sm =
+    record { done = λ y. absurd (z y); stopped = λ y. no-step text w at n c (hd .so) rest er len e h line el r w′ stp y; small = sm }
 
 pub lines-end : (text w₀ w : List ℕ) (at n : ℕ) (c : Count) → Head text w₀ at n c w → length text ≤ at → LinesRead text c w
 unfolding readLines split unless empty isnt
@@ -184,4 +173,4 @@ lines-end text w₀ w at n c hd h =
       small = hd .small;
     }
 
-pub ruleset turns = (head-start, head-on, lines-open, lines-stop, lines-end)
+pub ruleset turns = (line-room, head-start, head-on, lines-open, lines-stop, lines-end)

@@ -3,22 +3,17 @@ use mathlib.Core.Path.{_≡_}
 use mathlib.Core.Bool.{Bool, true}
 use mathlib.Core.Option.{none, some}
 use mathlib.Core.List.{List, [], _∷_}
-use Prim.Native.Nat.{ℕ, suc, _+_, _-_, _*_, _≤_, _<_}
+use Prim.Native.Nat.{ℕ, suc, _+_, _-_, _*_, _≤_, _<_, min}
 use lib.Dec.{eqb, leb, ltb}
 use lib.ListN.{length, getD, take, drop, set}
 use lib.Seq.{sets}
 use Rattle.laws.specs.Tests.{_and_, _⇒_, every, first, count, choose}
 use Rattle.rules.specs.Text.{Bytes, isWord, value, Answer, refused, accepted, unless, readLines, linesOf as linesOfText}
-use Rattle.rules.specs.Graph.{Program, E, X, kindAt, labelAt, calleeAt, sourceAt, nodeCount, edgeCount, procCount, kindNumber, isOf, entry, exit, worded, wordAt, ownerAt}
-use Rattle.rules.specs.ProgramFile.{Line, Listing, current, complete, takeProc, takeLine, stepProgram, finishProgram, nothingRead, hasWord, withEdge, degreeFine, lost}
-use Rattle.rules.specs.Places.{Part}
+use Rattle.rules.specs.Graph.{Program, Kind, E, X, kindAt, labelAt, calleeAt, sourceAt, nodeCount, edgeCount, procCount, kindNumber, isOf, entry, exit, worded, wordAt, ownerAt}
+use Rattle.rules.specs.ProgramFile.{Line, node-line, edge-line, Listing, current, complete, takeProc, takeLine, stepProgram, finishProgram, nothingRead, hasWord, withEdge, degreeFine, lost}
 use Rattle.rules.specs.Proofs.ProgramLaws.{Sound}
 use Rattle.graph.specs.Table.{At, nodeBase, procBase, edgeBase, headBase, procHead, edgeRow, headOf, nodeRow}
 use Rattle.graph.specs.Lookups.{in-table}
-use Rattle.lines.specs.declared.Form.{Form}
-use Rattle.lines.specs.declared.Form.the-variants.{Malformed, Proc, Node, Edge}
-use Rattle.lines.specs.Shape.{shape}
-use Rattle.lines.specs.Stands.{Stands}
 use Rattle.lines.specs.Known.{Known}
 use Rattle.reader.specs.declared.Count.{Count}
 use Rattle.reader.specs.Result.{linksOf, Small, Told}
@@ -49,58 +44,56 @@ pub record Holds (w : List ℕ) (c : Count) (s : Listing) : Type 0 where
 
 -- ---- a line
 
--- An answer against the definition's.
+-- An answer against the definition's. After a refusal the work table may hold any numbers.
 abbrev pub After : Answer Listing → Count → List ℕ → Type 0
 After (refused k p) r w = (r .number ≡ k) × (r .place ≡ p) × (0 < k)
 After (accepted t) r w = (r .number ≡ 0) × Holds w r t
 
--- Whatever listing the work table holds, the answer to the line is the definition's.
-unfoldable pub Stepped : Bytes → ℕ → ℕ → Form → Count → List ℕ → Count → List ℕ → Type 0
-Stepped text n at f c w r w′ = (s : Listing) (x : Line) → Known text s → Holds w c s → f ≡ shape x → Stands text at x → After (takeLine n at s x) r w′
+-- `refused`: the number and the place, and counts within their limits.
+pub record Refusal (number place : ℕ) (r : Count) : Type 0 where
+  pub number-is : r .number ≡ number
+  pub place-is : r .place ≡ place
+  pub small : Small r
 
-pub record Took (text : Bytes) (n at : ℕ) (f : Form) (c : Count) (w : List ℕ) (r : Count) (w′ : List ℕ) : Type 0 where
-  pub stepped : Stepped text n at f c w r w′
+-- Whatever listing the work table holds, the answer to the line, numbered n, that begins at the offset `at` and says x is the definition's.
+unfoldable pub Stepped : Bytes → ℕ → ℕ → Line → Count → List ℕ → Count → List ℕ → Type 0
+Stepped text n at x c w r w′ = (s : Listing) → Known text s → Holds w c s → After (takeLine n at s x) r w′
+
+pub record Took (text : Bytes) (n at : ℕ) (x : Line) (c : Count) (w : List ℕ) (r : Count) (w′ : List ℕ) : Type 0 where
+  pub stepped : Stepped text n at x c w r w′
+  pub small : Small r
+
+-- The same of an N or B line: the text is not asked for.
+pub record Added (n at : ℕ) (x : Line) (c : Count) (w : List ℕ) (r : Count) (w′ : List ℕ) : Type 0 where
+  pub stepped : (text : Bytes) → Stepped text n at x c w r w′
   pub small : Small r
 
 -- The same of a P line behind a procedure that is complete.
-unfoldable pub Opened : Bytes → ℕ → ℕ → ℕ → Count → List ℕ → Count → List ℕ → Type 0
-Opened text n at len c w r w′ = (s : Listing) (name : Bytes) → Known text s → Holds w c s → len ≡ length name → Part text (at + 2) name → After (takeProc n at name s) r w′
-
-pub record OpenedProc (text : Bytes) (n at len : ℕ) (c : Count) (w : List ℕ) (r : Count) (w′ : List ℕ) : Type 0 where
-  pub opened : Opened text n at len c w r w′
+pub record OpenedProc (text : Bytes) (n at : ℕ) (name : Bytes) (c : Count) (w : List ℕ) (r : Count) (w′ : List ℕ) : Type 0 where
+  pub opened : (s : Listing) → Known text s → Holds w c s → After (takeProc n at name s) r w′
   pub small : Small r
 
--- The same of an N line, for any text.
-pub record AddedNode (n at kind label callee : ℕ) (c : Count) (w : List ℕ) (r : Count) (w′ : List ℕ) : Type 0 where
-  pub stepped : (text : Bytes) → Stepped text n at (Node kind label callee) c w r w′
+-- The same of an N line, by its kind's number.
+pub record AddedNode (n at kind : ℕ) (label callee : Bytes) (c : Count) (w : List ℕ) (r : Count) (w′ : List ℕ) : Type 0 where
+  pub stepped : (text : Bytes) (k : Kind) → kind ≡ kindNumber k → Stepped text n at (node-line k label callee) c w r w′
   pub small : Small r
 
 -- `in_procedure`: n is a node from `first` on.
 unfoldable pub inProcedure : ℕ → ℕ → ℕ → Bool
 inProcedure first nodes n = leb first n and ltb n nodes
 
--- The same of a B line whose word begins at `start`.
-pub record AddedEdge (text : Bytes) (n from start len to : ℕ) (c : Count) (w : List ℕ) (r : Count) (w′ : List ℕ) : Type 0 where
-  pub stepped : (at k : ℕ) → start ≡ at + k + 3 → Stepped text n at (Edge from k len to) c w r w′
+-- The same of a B line, by the numbers of its ends, of which one above 65,536 counts as 65,536; its word begins at `start`.
+pub record AddedEdge (n source start : ℕ) (word : Bytes) (target : ℕ) (c : Count) (w : List ℕ) (r : Count) (w′ : List ℕ) : Type 0 where
+  pub stepped : (text : Bytes) (at : ℕ) (from to : Bytes) → source ≡ min (value from) 65536 → target ≡ min (value to) 65536 → start ≡ at + length from + 3 → isWord word ≡ true
+      → Stepped text n at (edge-line from word to) c w r w′
   pub small : Small r
 
 -- The same of a B line whose ends are nodes of its procedure.
-unfoldable pub Linked : Bytes → ℕ → ℕ → ℕ → ℕ → ℕ → Count → List ℕ → Count → List ℕ → Type 0
-Linked text n f start len t c w r w′ =
-    (s : Listing) (at : ℕ) (from word to : Bytes) → Known text s → Holds w c s → f ≡ value from → t ≡ value to → len ≡ length word → start ≡ at + length from + 3 → Part text start word
-    → isWord word ≡ true → f < nodeCount (s .program) → ownerAt (s .program) f ≡ current (s .program)
-    → After (unless (hasWord (s .program) (value from) word) 7 n (accepted (withEdge at from word to s))) r w′
-
-pub record LinkedEdge (text : Bytes) (n f start len t : ℕ) (c : Count) (w : List ℕ) (r : Count) (w′ : List ℕ) : Type 0 where
-  pub linked : Linked text n f start len t c w r w′
+pub record LinkedEdge (n source start : ℕ) (word : Bytes) (target : ℕ) (c : Count) (w : List ℕ) (r : Count) (w′ : List ℕ) : Type 0 where
+  pub linked : (text : Bytes) (s : Listing) (at : ℕ) (from to : Bytes) → Known text s → Holds w c s → source ≡ value from → target ≡ value to → start ≡ at + length from + 3 → isWord word ≡ true
+      → source < nodeCount (s .program) → ownerAt (s .program) source ≡ current (s .program)
+      → After (unless (hasWord (s .program) (value from) word) 7 n (accepted (withEdge at from word to s))) r w′
   pub small : Small r
-
--- The length that `step` adds to a place or stores with a line: of a name, of a callee, of the field before a word.
-abbrev pub spread : Form → ℕ
-spread Malformed = 0
-spread (Proc len) = len
-spread (Node kind label callee) = callee
-spread (Edge from len word to) = len
 
 -- ---- a procedure that is complete (8)
 

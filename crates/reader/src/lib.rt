@@ -1,18 +1,18 @@
 // Reads a program file into a work table: the nodes from 0, the links (procedures, edges, heads of chains) from 2,048.
-use lines::Form;
 use text::after;
 use text::find;
 use text::front;
 use text::get;
-use text::part;
 use text::put;
 ghost use mathlib.Core.Path.{_≡_};
 ghost use mathlib.Core.List.{_∷_, []};
 ghost use Prim.Native.Nat.{_+_, _-_, _*_, _≤_, _<_};
 ghost use lib.ListN.{length};
 ghost use lib.Seq.{sets};
-ghost use Rattle.lines.specs.declared.Form.the-variants.{Malformed, Proc, Node, Edge};
+ghost use Rattle.rules.specs.Text.{bytes, fieldsOf, split};
+ghost use Rattle.rules.specs.ProgramFile.{formOf, proc-line};
 ghost use Rattle.reader.specs.Reading.{
+  Added,
   AddedEdge,
   AddedNode,
   AllFine,
@@ -22,6 +22,7 @@ ghost use Rattle.reader.specs.Reading.{
   LinkedEdge,
   NodeFine,
   OpenedProc,
+  Refusal,
   Resolved,
   ResolvedNode,
   Took,
@@ -30,7 +31,6 @@ ghost use Rattle.reader.specs.Reading.{
   kindCount,
   marked,
   ofCurrent,
-  spread,
   storedEdge,
   storedNode,
 };
@@ -236,46 +236,45 @@ fn complete(work: &[usize], had: Count) -> bool
     all_fine(work, first, nodes)
 }
 
-// ---- a line
+// ---- a line: what is refused may leave any numbers in the work table
+
+// A refusal. Its counts are 0.
+fn refused(number: usize, place: usize) -> Count
+    ensures { λ r. ⌜ Refusal number place r ⌝ }
+{
+    Count {
+        number,
+        place,
+        procs: 0,
+        nodes: 0,
+        edges: 0,
+    }
+}
 
 // A P line, where the procedure before it is complete.
 fn new_proc(
     text: &[u8],
     line: usize,
     at: usize,
-    len: usize,
+    name: &[u8],
     had: Count,
     work: &mut [usize],
 ) -> Count
     requires { ⌜ Small had ⌝ }
     requires { ⌜ (at ≤ 65536) × (8128 ≤ length (now work)) ⌝ }
-    ensures { λ r. ⌜ OpenedProc (now (text .entry)) line at len had (now (work .entry)) r (now (work .exit)) ⌝ }
+    ensures { λ r. ⌜ OpenedProc (now (text .entry)) line at (now (name .entry)) had (now (work .entry)) r (now (work .exit)) ⌝ }
 {
     let procs = had.procs;
     let nodes = had.nodes;
     let edges = had.edges;
     if 64 <= procs {
-        return Count {
-            number: 4,
-            place: line,
-            procs,
-            nodes,
-            edges,
-        };
+        return refused(4, line);
     }
-    let start = at + 2;
-    let name = part(text, start, len);
     let twice = graph::proc_named(text, links(work), procs, name);
     if 0 < twice {
-        return Count {
-            number: 5,
-            place: line,
-            procs,
-            nodes,
-            edges,
-        };
+        return refused(5, line);
     }
-    put5(work, 2048 + 7 * procs, start, len, line, nodes, edges);
+    put5(work, 2048 + 7 * procs, at + 2, name.len(), line, nodes, edges);
     Count {
         number: 0,
         place: 0,
@@ -285,78 +284,74 @@ fn new_proc(
     }
 }
 
+// A P line of this name.
 fn add_proc(
     text: &[u8],
     line: usize,
     at: usize,
-    len: usize,
+    name: &[u8],
     had: Count,
     work: &mut [usize],
 ) -> Count
     requires { ⌜ Small had ⌝ }
     requires { ⌜ (at ≤ 65536) × (8128 ≤ length (now work)) ⌝ }
-    ensures { λ r. ⌜ Took (now (text .entry)) line at (Proc len) had (now (work .entry)) r (now (work .exit)) ⌝ }
+    ensures { λ r. ⌜ Took (now (text .entry)) line at (proc-line (now (name .entry))) had (now (work .entry)) r (now (work .exit)) ⌝ }
 {
     let procs = had.procs;
     if procs == 0 {
-        return new_proc(text, line, at, len, had, work);
+        return new_proc(text, line, at, name, had, work);
     }
     if complete(work, had) {
-        return new_proc(text, line, at, len, had, work);
+        return new_proc(text, line, at, name, had, work);
     }
-    let place = of_current(work, procs, 2);
-    Count {
-        number: 8,
-        place,
-        procs,
-        nodes: had.nodes,
-        edges: had.edges,
-    }
+    refused(8, of_current(work, procs, 2))
 }
 
-fn add_node(
+// A P line, by what stands behind its first comma. A name has no comma, so it is all the rest.
+fn proc_line(
+    text: &[u8],
     line: usize,
     at: usize,
-    kind: usize,
-    label: usize,
-    callee: usize,
+    name: &[u8],
     had: Count,
     work: &mut [usize],
 ) -> Count
     requires { ⌜ Small had ⌝ }
-    requires { ⌜ (at ≤ 65536) × (line ≤ 65536) × (callee ≤ 65536) × (8128 ≤ length (now work)) ⌝ }
-    ensures { λ r. ⌜ AddedNode line at kind label callee had (now (work .entry)) r (now (work .exit)) ⌝ }
+    requires { ⌜ (at ≤ 65536) × (8128 ≤ length (now work)) ⌝ }
+    ensures { λ r. ⌜ Took (now (text .entry)) line at (formOf (bytes "P" ∷ split 44 (now (name .entry)))) had (now (work .entry)) r (now (work .exit)) ⌝ }
+{
+    if text::is_name(name) {
+        return add_proc(text, line, at, name, had, work);
+    }
+    refused(2, line)
+}
+
+// An N line of this kind's number, label and callee.
+fn add_node(
+    line: usize,
+    at: usize,
+    kind: usize,
+    label: &[u8],
+    callee: &[u8],
+    had: Count,
+    work: &mut [usize],
+) -> Count
+    requires { ⌜ Small had ⌝ }
+    requires { ⌜ (at ≤ 65536) × (line ≤ 65536) × (length (now callee) ≤ 65536) × (8128 ≤ length (now work)) ⌝ }
+    ensures { λ r. ⌜ AddedNode line at kind (now (label .entry)) (now (callee .entry)) had (now (work .entry)) r (now (work .exit)) ⌝ }
 {
     let procs = had.procs;
     let nodes = had.nodes;
     let edges = had.edges;
     if procs == 0 {
-        return Count {
-            number: 3,
-            place: line,
-            procs,
-            nodes,
-            edges,
-        };
+        return refused(3, line);
     }
     let first = of_current(work, procs, 4);
     if first < edges {
-        return Count {
-            number: 3,
-            place: line,
-            procs,
-            nodes,
-            edges,
-        };
+        return refused(3, line);
     }
     if 512 <= nodes {
-        return Count {
-            number: 4,
-            place: line,
-            procs,
-            nodes,
-            edges,
-        };
+        return refused(4, line);
     }
     store_node(
         work,
@@ -364,8 +359,8 @@ fn add_node(
         nodes,
         kind,
         at + 4,
-        label,
-        line * 16 + callee,
+        label.len(),
+        line * 16 + callee.len(),
     );
     Count {
         number: 0,
@@ -374,6 +369,29 @@ fn add_node(
         nodes: nodes + 1,
         edges,
     }
+}
+
+// An N line, by what stands behind its first comma. No callee has a comma, so it is all the rest.
+fn node_line(line: usize, at: usize, rest: &[u8], had: Count, work: &mut [usize]) -> Count
+    requires { ⌜ Small had ⌝ }
+    requires { ⌜ (at ≤ 65536) × (line ≤ 65536) × (length (now rest) ≤ 65536) × (8128 ≤ length (now work)) ⌝ }
+    ensures { λ r. ⌜ Added line at (formOf (bytes "N" ∷ split 44 (now (rest .entry)))) had (now (work .entry)) r (now (work .exit)) ⌝ }
+{
+    let kind = text::first_short(rest, 44);
+    if rest.len() <= kind.len() {
+        return refused(2, line);
+    }
+    let more = after(rest, kind.len() + 1);
+    let label = text::first(more, 44);
+    if more.len() <= label.len() {
+        return refused(2, line);
+    }
+    let callee = after(more, label.len() + 1);
+    let k = lines::kind_of(kind, label, callee);
+    if 3 < k {
+        return refused(2, line);
+    }
+    add_node(line, at, k, label, callee, had, work)
 }
 
 // Whether n is a node from the first on.
@@ -386,93 +404,27 @@ fn in_procedure(first: usize, nodes: usize, n: usize) -> bool
     n < nodes
 }
 
-// A B line of a procedure: its ends, then its word.
-fn add_edge(
-    text: &[u8],
-    line: usize,
-    from: usize,
-    start: usize,
-    len: usize,
-    to: usize,
-    had: Count,
-    work: &mut [usize],
-) -> Count
-    requires { ⌜ Small had ⌝ }
-    requires { ⌜ 8128 ≤ length (now work) ⌝ }
-    ensures { λ r. ⌜ AddedEdge (now (text .entry)) line from start len to had (now (work .entry)) r (now (work .exit)) ⌝ }
-{
-    let procs = had.procs;
-    let nodes = had.nodes;
-    let edges = had.edges;
-    if procs == 0 {
-        return Count {
-            number: 3,
-            place: line,
-            procs,
-            nodes,
-            edges,
-        };
-    }
-    if 1024 <= edges {
-        return Count {
-            number: 4,
-            place: line,
-            procs,
-            nodes,
-            edges,
-        };
-    }
-    let first = of_current(work, procs, 3);
-    if in_procedure(first, nodes, from) {
-        if in_procedure(first, nodes, to) {
-            return new_edge(text, line, from, start, len, to, had, work);
-        }
-        return Count {
-            number: 6,
-            place: line,
-            procs,
-            nodes,
-            edges,
-        };
-    }
-    Count {
-        number: 6,
-        place: line,
-        procs,
-        nodes,
-        edges,
-    }
-}
-
-// A B line whose ends are nodes of its procedure: its word.
+// A B line whose ends are nodes of its procedure: its word, which begins at `start`.
 fn new_edge(
-    text: &[u8],
     line: usize,
     from: usize,
     start: usize,
-    len: usize,
+    word: &[u8],
     to: usize,
     had: Count,
     work: &mut [usize],
 ) -> Count
     requires { ⌜ Small had ⌝ }
     requires { ⌜ (from < 512) × (had .edges < 1024) × (8128 ≤ length (now work)) ⌝ }
-    ensures { λ r. ⌜ LinkedEdge (now (text .entry)) line from start len to had (now (work .entry)) r (now (work .exit)) ⌝ }
+    ensures { λ r. ⌜ LinkedEdge line from start (now (word .entry)) to had (now (work .entry)) r (now (work .exit)) ⌝ }
 {
     let procs = had.procs;
     let nodes = had.nodes;
     let edges = had.edges;
-    let word = part(text, start, len);
     let key = graph::key(word);
     let twice = graph::edge_taken(links(work), from, key);
     if 0 < twice {
-        return Count {
-            number: 7,
-            place: line,
-            procs,
-            nodes,
-            edges,
-        };
+        return refused(7, line);
     }
     store_edge(work, edges, from, start, key, to);
     Count {
@@ -484,35 +436,87 @@ fn new_edge(
     }
 }
 
-// One line: its number, where it begins, and what it says.
-fn step(text: &[u8], line: usize, at: usize, form: Form, had: Count, work: &mut [usize]) -> Count
+// A B line of this word: its ends, then the word.
+fn add_edge(
+    line: usize,
+    from: usize,
+    start: usize,
+    word: &[u8],
+    to: usize,
+    had: Count,
+    work: &mut [usize],
+) -> Count
     requires { ⌜ Small had ⌝ }
-    requires { ⌜ (at ≤ 65536) × (line ≤ 65536) × (spread form ≤ 65536) × (8128 ≤ length (now work)) ⌝ }
-    ensures { λ r. ⌜ Took (now (text .entry)) line at form had (now (work .entry)) r (now (work .exit)) ⌝ }
+    requires { ⌜ 8128 ≤ length (now work) ⌝ }
+    ensures { λ r. ⌜ AddedEdge line from start (now (word .entry)) to had (now (work .entry)) r (now (work .exit)) ⌝ }
 {
-    match form {
-        Form::Malformed => {
-            Count {
-                number: 2,
-                place: line,
-                procs: had.procs,
-                nodes: had.nodes,
-                edges: had.edges,
-            }
-        }
-        Form::Proc(len) => add_proc(text, line, at, len, had, work),
-        Form::Node(kind, label, callee) => add_node(line, at, kind, label, callee, had, work),
-        Form::Edge(from, len, word, to) => add_edge(
-            text,
-            line,
-            from,
-            at + len + 3,
-            word,
-            to,
-            had,
-            work,
-        ),
+    let procs = had.procs;
+    let nodes = had.nodes;
+    let edges = had.edges;
+    if procs == 0 {
+        return refused(3, line);
     }
+    if 1024 <= edges {
+        return refused(4, line);
+    }
+    let first = of_current(work, procs, 3);
+    if in_procedure(first, nodes, from) {
+        if in_procedure(first, nodes, to) {
+            return new_edge(line, from, start, word, to, had, work);
+        }
+        return refused(6, line);
+    }
+    refused(6, line)
+}
+
+// A B line, by what stands behind its first comma. A number has no comma, so the last field is all the rest.
+fn edge_line(line: usize, at: usize, rest: &[u8], had: Count, work: &mut [usize]) -> Count
+    requires { ⌜ Small had ⌝ }
+    requires { ⌜ (at ≤ 65536) × (length (now rest) ≤ 65536) × (8128 ≤ length (now work)) ⌝ }
+    ensures { λ r. ⌜ Added line at (formOf (bytes "B" ∷ split 44 (now (rest .entry)))) had (now (work .entry)) r (now (work .exit)) ⌝ }
+{
+    let from = text::first_short(rest, 44);
+    if rest.len() <= from.len() {
+        return refused(2, line);
+    }
+    let more = after(rest, from.len() + 1);
+    let word = text::first_short(more, 44);
+    if more.len() <= word.len() {
+        return refused(2, line);
+    }
+    let to = after(more, word.len() + 1);
+    let source = text::number(from);
+    if 65536 < source {
+        return refused(2, line);
+    }
+    let target = text::number(to);
+    if 65536 < target {
+        return refused(2, line);
+    }
+    if text::is_word(word) {
+        return add_edge(line, source, at + from.len() + 3, word, target, had, work);
+    }
+    refused(2, line)
+}
+
+// One line: its number, where it begins, and its bytes.
+fn step(text: &[u8], line: usize, at: usize, l: &[u8], had: Count, work: &mut [usize]) -> Count
+    requires { ⌜ Small had ⌝ }
+    requires { ⌜ (at ≤ 65536) × (line ≤ 65536) × (length (now l) ≤ 65536) × (8128 ≤ length (now work)) ⌝ }
+    ensures { λ r. ⌜ Took (now (text .entry)) line at (formOf (fieldsOf (now (l .entry)))) had (now (work .entry)) r (now (work .exit)) ⌝ }
+{
+    let f = front(l, 2);
+    let rest = after(l, 2);
+    if text::same(f, b"N,") {
+        return node_line(line, at, rest, had, work);
+    }
+    if text::same(f, b"B,") {
+        return edge_line(line, at, rest, had, work);
+    }
+    if text::same(f, b"P,") {
+        return proc_line(text, line, at, rest, had, work);
+    }
+    refused(2, line)
 }
 
 // ---- all lines
@@ -535,16 +539,9 @@ fn read_lines(text: &[u8], work: &mut [usize]) -> Count
         let rest = after(text, at);
         let len = find(rest, 10);
         if rest.len() <= len {
-            return Count {
-                number: 2,
-                place: line,
-                procs: 0,
-                nodes: 0,
-                edges: 0,
-            };
+            return refused(2, line);
         }
-        let form = lines::form_of(front(rest, len));
-        had = step(text, line, at, form, had, work);
+        had = step(text, line, at, front(rest, len), had, work);
         let number = had.number;
         if number != 0 {
             return had;
@@ -615,24 +612,12 @@ fn finish(text: &[u8], had: Count, work: &mut [usize]) -> Count
     let nodes = had.nodes;
     let edges = had.edges;
     if procs == 0 {
-        return Count {
-            number: 2,
-            place: 1,
-            procs,
-            nodes,
-            edges,
-        };
+        return refused(2, 1);
     }
     if complete(work, had) {
         let line = resolve(text, work, procs, nodes);
         if line != 0 {
-            return Count {
-                number: 9,
-                place: line - 1,
-                procs,
-                nodes,
-                edges,
-            };
+            return refused(9, line - 1);
         }
         return Count {
             number: 0,
@@ -642,14 +627,7 @@ fn finish(text: &[u8], had: Count, work: &mut [usize]) -> Count
             edges,
         };
     }
-    let place = of_current(work, procs, 2);
-    Count {
-        number: 8,
-        place,
-        procs,
-        nodes,
-        edges,
-    }
+    refused(8, of_current(work, procs, 2))
 }
 
 // Reads a program file into the work table. A refusal has a number that is not 0; the table then holds nothing of use.
@@ -658,13 +636,7 @@ pub fn read_into(text: &[u8], work: &mut [usize]) -> Count
     ensures { λ r. ⌜ ReadInto (now (text .entry)) r (now (work .exit)) ⌝ }
 {
     if 65536 < text.len() {
-        return Count {
-            number: 1,
-            place: 0,
-            procs: 0,
-            nodes: 0,
-            edges: 0,
-        };
+        return refused(1, 0);
     }
     let had = read_lines(text, work);
     let number = had.number;

@@ -1,9 +1,11 @@
 use borrow.Author.Needs.{needs}
 use Rattle.reader.proofs.All.{all}
-use Prim.Native.Nat.{_-_}
 use Rattle.reader.proofs.Steps.{node-lines}
 use Rattle.reader.proofs.add_node.Statement.{statement}
 use Rattle.reader.proofs.add_node.Tie as tie
+
+refused-requires : tie.Need-refused-requires
+refused-requires c κs = search needs
 
 returns : tie.Need-returns
 returns c = search (all, needs)
@@ -11,11 +13,17 @@ returns c = search (all, needs)
 of-current-requires : tie.Need-of-current-requires
 of-current-requires c κs = search needs
 
+refused-requires-2 : tie.Need-refused-requires-2
+refused-requires-2 c κs = search needs
+
 same-length : tie.Need-same-length
 same-length c = search needs
 
 returns-2 : tie.Need-returns-2
 returns-2 c = search (all, needs)
+
+refused-requires-3 : tie.Need-refused-requires-3
+refused-requires-3 c κs = search needs
 
 same-length-2 : tie.Need-same-length-2
 same-length-2 c = search needs
@@ -45,16 +53,19 @@ same-length-3 : tie.Need-same-length-3
 same-length-3 c = search needs
 
 returns-4 : tie.Need-returns-4
-returns-4 c = search (node-lines, needs)
+returns-4 c = search (all, needs)
 
 pub add-node-spec : {M : Type 1} → statement M
 add-node-spec =
     tie.close
     (tie.spec
+    refused-requires
     returns
     of-current-requires
+    refused-requires-2
     same-length
     returns-2
+    refused-requires-3
     same-length-2
     returns-3
     sub-store-node

@@ -27,6 +27,9 @@ returns-2 c = search (all, needs)
 of-current-requires : tie.Need-of-current-requires
 of-current-requires c κs = search needs
 
+refused-requires : tie.Need-refused-requires
+refused-requires c κs = search needs
+
 same-length-3 : tie.Need-same-length-3
 same-length-3 c = search needs
 
@@ -45,5 +48,6 @@ add-proc-spec =
     same-length-2
     returns-2
     of-current-requires
+    refused-requires
     same-length-3
     returns-3)

@@ -3,6 +3,9 @@ use Rattle.reader.proofs.All.{all}
 use Rattle.reader.proofs.finish.Statement.{statement}
 use Rattle.reader.proofs.finish.Tie as tie
 
+refused-requires : tie.Need-refused-requires
+refused-requires c κs = search needs
+
 returns : tie.Need-returns
 returns c = search (all, needs)
 
@@ -12,8 +15,11 @@ complete-requires c κs = search needs
 resolve-requires : tie.Need-resolve-requires
 resolve-requires c κs = search needs
 
-sub-t16 : tie.Need-sub-t16
-sub-t16 c = search needs
+sub-refused : tie.Need-sub-refused
+sub-refused c = search needs
+
+refused-requires-2 : tie.Need-refused-requires-2
+refused-requires-2 c κs = search needs
 
 same-length : tie.Need-same-length
 same-length c = search needs
@@ -30,6 +36,9 @@ returns-3 c = search (all, needs)
 of-current-requires : tie.Need-of-current-requires
 of-current-requires c κs = search needs
 
+refused-requires-3 : tie.Need-refused-requires-3
+refused-requires-3 c κs = search needs
+
 same-length-3 : tie.Need-same-length-3
 same-length-3 c = search needs
 
@@ -40,14 +49,17 @@ pub finish-spec : {M : Type 1} → statement M
 finish-spec =
     tie.close
     (tie.spec
+    refused-requires
     returns
     complete-requires
     resolve-requires
-    sub-t16
+    sub-refused
+    refused-requires-2
     same-length
     returns-2
     same-length-2
     returns-3
     of-current-requires
+    refused-requires-3
     same-length-3
     returns-4)

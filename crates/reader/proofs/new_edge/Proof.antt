@@ -3,9 +3,6 @@ use Rattle.reader.proofs.All.{all}
 use Rattle.reader.proofs.new_edge.Statement.{statement}
 use Rattle.reader.proofs.new_edge.Tie as tie
 
-part-requires : tie.Need-part-requires
-part-requires c κs = search needs
-
 key-requires : tie.Need-key-requires
 key-requires c κs = search needs
 
@@ -14,6 +11,9 @@ links-requires c κs = search needs
 
 edge-taken-requires : tie.Need-edge-taken-requires
 edge-taken-requires c κs = search needs
+
+refused-requires : tie.Need-refused-requires
+refused-requires c κs = search needs
 
 same-length : tie.Need-same-length
 same-length c = search needs
@@ -24,8 +24,8 @@ returns c = search (all, needs)
 store-edge-requires : tie.Need-store-edge-requires
 store-edge-requires c κs = search needs
 
-add-t22 : tie.Need-add-t22
-add-t22 c = search needs
+add-t20 : tie.Need-add-t20
+add-t20 c = search needs
 
 same-length-2 : tie.Need-same-length-2
 same-length-2 c = search needs
@@ -37,13 +37,13 @@ pub new-edge-spec : {M : Type 1} → statement M
 new-edge-spec =
     tie.close
     (tie.spec
-    part-requires
     key-requires
     links-requires
     edge-taken-requires
+    refused-requires
     same-length
     returns
     store-edge-requires
-    add-t22
+    add-t20
     same-length-2
     returns-2)

@@ -3,20 +3,20 @@ use Rattle.reader.proofs.All.{all}
 use Rattle.reader.proofs.new_proc.Statement.{statement}
 use Rattle.reader.proofs.new_proc.Tie as tie
 
+refused-requires : tie.Need-refused-requires
+refused-requires c κs = search needs
+
 returns : tie.Need-returns
 returns c = search (all, needs)
-
-add-start : tie.Need-add-start
-add-start c = search needs
-
-part-requires : tie.Need-part-requires
-part-requires c κs = search needs
 
 links-requires : tie.Need-links-requires
 links-requires c κs = search needs
 
 proc-named-requires : tie.Need-proc-named-requires
 proc-named-requires c κs = search needs
+
+refused-requires-2 : tie.Need-refused-requires-2
+refused-requires-2 c κs = search needs
 
 same-length : tie.Need-same-length
 same-length c = search needs
@@ -30,11 +30,14 @@ mul-put5 c = search needs
 add-put5 : tie.Need-add-put5
 add-put5 c = search needs
 
+add-put5-2 : tie.Need-add-put5-2
+add-put5-2 c = search needs
+
 put5-requires : tie.Need-put5-requires
 put5-requires c κs = search needs
 
-add-t20 : tie.Need-add-t20
-add-t20 c = search needs
+add-t18 : tie.Need-add-t18
+add-t18 c = search needs
 
 same-length-2 : tie.Need-same-length-2
 same-length-2 c = search needs
@@ -46,16 +49,17 @@ pub new-proc-spec : {M : Type 1} → statement M
 new-proc-spec =
     tie.close
     (tie.spec
+    refused-requires
     returns
-    add-start
-    part-requires
     links-requires
     proc-named-requires
+    refused-requires-2
     same-length
     returns-2
     mul-put5
     add-put5
+    add-put5-2
     put5-requires
-    add-t20
+    add-t18
     same-length-2
     returns-3)

@@ -3,6 +3,9 @@ use Rattle.reader.proofs.All.{all}
 use Rattle.reader.proofs.read_into.Statement.{statement}
 use Rattle.reader.proofs.read_into.Tie as tie
 
+refused-requires : tie.Need-refused-requires
+refused-requires c κs = search needs
+
 returns : tie.Need-returns
 returns c = search (all, needs)
 
@@ -28,6 +31,7 @@ pub read-into-spec : {M : Type 1} → statement M
 read-into-spec =
     tie.close
     (tie.spec
+    refused-requires
     returns
     read-lines-requires
     same-length

@@ -2,7 +2,7 @@ use borrow.Author.Needs.{needs}
 use Rattle.reader.proofs.All.{all}
 use Prim.Native.Nat.{_-_}
 use lib.ListN.{length}
-use Rattle.reader.proofs.Turns.{Head, spread-room}
+use Rattle.reader.proofs.Turns.{Head, line-room}
 use Rattle.reader.proofs.read_lines.Statement.{statement}
 use Rattle.reader.proofs.read_lines.Tie as tie
 
@@ -21,6 +21,9 @@ after-requires c κs = search (all, needs)
 find-requires : tie.Need-find-requires Inv-loop μ-loop
 find-requires c κs = search (all, needs)
 
+refused-requires : tie.Need-refused-requires Inv-loop μ-loop
+refused-requires c κs = search (all, needs)
+
 same-length : tie.Need-same-length Inv-loop μ-loop
 same-length c = search (all, needs)
 
@@ -30,11 +33,8 @@ returns c = search (all, needs)
 front-requires : tie.Need-front-requires Inv-loop μ-loop
 front-requires c κs = search (all, needs)
 
-form-of-requires : tie.Need-form-of-requires Inv-loop μ-loop
-form-of-requires c κs = search (all, needs)
-
 step-requires : tie.Need-step-requires Inv-loop μ-loop
-step-requires c κs = (search needs, (search needs, search needs, search spread-room, search needs))
+step-requires c κs = (search needs, (search needs, search needs, search line-room, search needs))
 
 same-length-2 : tie.Need-same-length-2 Inv-loop μ-loop
 same-length-2 c = search (all, needs)
@@ -72,10 +72,10 @@ read-lines-spec =
     loop-holds
     after-requires
     find-requires
+    refused-requires
     same-length
     returns
     front-requires
-    form-of-requires
     step-requires
     same-length-2
     returns-2
