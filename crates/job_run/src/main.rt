@@ -16,6 +16,7 @@ mod store;
 mod tables;
 mod told;
 
+use files::field;
 use reads::step_new;
 use reads::step_old;
 use reads::step_reset;
@@ -31,7 +32,6 @@ use tables::step_room;
 use tables::step_say;
 use tables::step_show;
 use tables::step_text;
-use text::field;
 use text::get;
 use text::same;
 

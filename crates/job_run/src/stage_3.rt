@@ -6,7 +6,7 @@ use crate::told::all_zero;
 use crate::told::tell;
 use crate::told::tell_out;
 use crate::told::tell_part;
-use text::field;
+use files::field;
 use text::get;
 use text::run;
 use text::run_words;

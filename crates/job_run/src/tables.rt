@@ -1,8 +1,8 @@
 // The steps that are no calls.
+use files::field;
 use libc::STDOUT_FILENO;
 use text::copy;
 use text::copy_words;
-use text::field;
 use text::get;
 use text::put;
 use text::run;

@@ -103,7 +103,7 @@ fn whole_case(old: &[u8], new: &[u8], tests: &[u8], sheet: &[u8]) {
 
 // The length of the text k of a case, by its head.
 fn length_of(head: &[u8], k: usize) -> usize {
-    files::six_digits(text::field(head, b' ', k))
+    files::six_digits(files::field(head, b' ', k))
 }
 
 // Each buffer has one byte more than a text may have.
@@ -132,7 +132,7 @@ fn one_case(fd: i32) -> bool {
         return false;
     }
     io::write_all(STDOUT_FILENO, b"case,");
-    io::write_all(STDOUT_FILENO, text::field(&head, b' ', 4));
+    io::write_all(STDOUT_FILENO, files::field(&head, b' ', 4));
     io::write_all(STDOUT_FILENO, b"\n");
     texts(fd, &head);
     true

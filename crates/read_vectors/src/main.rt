@@ -47,9 +47,9 @@ fn one_case(fd: i32) -> bool {
     if came < 48 {
         return false;
     }
-    let old = read_next(fd, files::six_digits(text::field(&head, b' ', 0)));
-    let new = read_next(fd, files::six_digits(text::field(&head, b' ', 1)));
-    told(text::field(&head, b' ', 2), old, new);
+    let old = read_next(fd, files::six_digits(files::field(&head, b' ', 0)));
+    let new = read_next(fd, files::six_digits(files::field(&head, b' ', 1)));
+    told(files::field(&head, b' ', 2), old, new);
     true
 }
 

@@ -13,8 +13,8 @@ use Rattle.laws.specs.Tests.{_and_, _or_, isnt, any, first, found}
 use Rattle.laws.specs.TestLaws.{and-left, and-right, and-both, or-left, or-right, fails, both-ways, true-isnt, false-isnt, same-test, any-of, any-at, first-at, first-none, found-some}
 use Rattle.laws.specs.Lists.{choose-yes, choose-no}
 use Rattle.rules.specs.Text.{Bytes, same, isWord, value, maxProcs, maxEdges, Answer, refused, unless}
-use Rattle.rules.specs.Graph.{Kind, nameAt, ownerAt, procCount, nodeCount, edgeCount, kindNumber, leaves, edgeTaken}
-use Rattle.rules.specs.ProgramFile.{proc-line, node-line, edge-line, Listing, current, begun, named, hasEdge, hasWord, isNodeOf, withProc, withNode, withEdge, takeLine}
+use Rattle.rules.specs.Graph.{nameAt, ownerAt, procCount, nodeCount, edgeCount, leaves, edgeTaken}
+use Rattle.rules.specs.ProgramFile.{proc-line, Listing, current, begun, named, hasEdge, hasWord, isNodeOf, withProc, withNode, withEdge, takeLine}
 use Rattle.rules.specs.Proofs.TextLaws.{unless-passes}
 use Rattle.graph.specs.Table.{firstNode, firstEdge}
 use Rattle.graph.specs.Keys.{wordKey, word-short}
@@ -98,8 +98,8 @@ module _ (text w : List ℕ) (n at : ℕ) (name : Bytes) (c : Count) where
               let fresh : any (procCount (s .program)) (λ q. same (nameAt (s .program) q) name) ≡ false
               = fails _ (λ t. let y = any-at (λ q. same (nameAt (s .program) q) name) (procCount (s .program)) t in first-none (λ q. same (nameAt (s .program) q) name) (procCount (s .program)) o (y .0) (y .1) (y .2)) in
               after-same _ _ _ _ (unless-passes _ _ _ _ (room-procs s h) ∙ unless-passes _ _ _ _ fresh) (
-              refl,
-              subst (λ (v : List ℕ). Holds v (record { number = 0; place = 0; procs = c .procs + 1; nodes = c .nodes; edges = c .edges }) (withProc n at name s)) (sym ew) (push-proc text w c s k h room few name n at),
+                refl,
+                subst (λ (v : List ℕ). Holds v (record { number = 0; place = 0; procs = c .procs + 1; nodes = c .nodes; edges = c .edges }) (withProc n at name s)) (sym ew) (push-proc text w c s k h room few name n at),
               );
           small = small-proc c sm few;
         }
@@ -197,10 +197,10 @@ module _ (w : List ℕ) (n at kind : ℕ) (label callee : Bytes) (c : Count) whe
           record {
             stepped = λ text k e s ks h.
                 after-same _ _ _ _ (unless-passes _ _ _ _ (in-place text s ks h) ∙ unless-passes _ _ _ _ (lt-leb 512 (nodeCount (s .program)) (omega (arith, h .nodes-n)))) (
-                refl,
-                subst (λ (v : List ℕ). Holds v (record { number = 0; place = 0; procs = c .procs; nodes = c .nodes + 1; edges = c .edges }) (withNode n at k label callee s))
-                (sym (ew ∙ ap (λ (m : ℕ). storedNode w (c .procs - 1) (c .nodes) m (at + 4) (length label) (n * 16 + length callee)) e))
-                (push-node text w c s ks h room (omega (arith, begun-of s h some-proc, h .procs-n)) few k label callee n at),
+                  refl,
+                  subst (λ (v : List ℕ). Holds v (record { number = 0; place = 0; procs = c .procs; nodes = c .nodes + 1; edges = c .edges }) (withNode n at k label callee s))
+                      (sym (ew ∙ ap (λ (m : ℕ). storedNode w (c .procs - 1) (c .nodes) m (at + 4) (length label) (n * 16 + length callee)) e))
+                      (push-node text w c s ks h room (omega (arith, begun-of s h some-proc, h .procs-n)) few k label callee n at),
                 );
             small = small-node c sm few;
           }
@@ -248,11 +248,11 @@ module _ (w : List ℕ) (n f start : ℕ) (word : Bytes) (t : ℕ) (c : Count) (
             = ap (λ (i : ℕ). any (edgeCount (s .program)) (leaves (s .program) i word)) (sym ef)
             ∙ fails _ (λ t. let u = any-at (leaves (s .program) f word) (edgeCount (s .program)) t in first-none (leaves (s .program) f word) (edgeCount (s .program)) g (u .0) (u .1) (u .2)) in
             after-same _ _ _ _ (unless-passes _ _ _ _ fresh) (
-            refl,
-            subst (λ (v : List ℕ). Holds v (record { number = 0; place = 0; procs = c .procs; nodes = c .nodes; edges = c .edges + 1 }) (withEdge at from word to s))
-            (sym (ew ∙ ap (λ (x : ℕ). storedEdge w (c .edges) x start i t) ef ∙ ap (λ (x : ℕ). storedEdge w (c .edges) (value from) x i t) es ∙ ap (λ (x : ℕ). storedEdge w (c .edges) (value from) (at + length from + 3) x t) (key-is v)
-            ∙ ap (storedEdge w (c .edges) (value from) (at + length from + 3) (wordKey word)) et))
-            (push-edge text w c s k h room few from word to at (subst (λ (i : ℕ). ownerAt (s .program) i ≡ current (s .program)) ef o) (subst (λ (i : ℕ). i < nodeCount (s .program)) ef m)),
+              refl,
+              subst (λ (v : List ℕ). Holds v (record { number = 0; place = 0; procs = c .procs; nodes = c .nodes; edges = c .edges + 1 }) (withEdge at from word to s))
+                  (sym (ew ∙ ap (λ (x : ℕ). storedEdge w (c .edges) x start i t) ef ∙ ap (λ (x : ℕ). storedEdge w (c .edges) (value from) x i t) es ∙ ap (λ (x : ℕ). storedEdge w (c .edges) (value from) (at + length from + 3) x t) (key-is v)
+                  ∙ ap (storedEdge w (c .edges) (value from) (at + length from + 3) (wordKey word)) et))
+                  (push-edge text w c s k h room few from word to at (subst (λ (i : ℕ). ownerAt (s .program) i ≡ current (s .program)) ef o) (subst (λ (i : ℕ). i < nodeCount (s .program)) ef m)),
             );
         small = small-edge c sm few;
       }

@@ -44,7 +44,7 @@ pub record Holds (w : List ℕ) (c : Count) (s : Listing) : Type 0 where
 
 -- ---- a line
 
--- An answer against the definition's. After a refusal the work table may hold any numbers.
+-- An answer against the definition's. After a refusal nothing is said of the work table.
 abbrev pub After : Answer Listing → Count → List ℕ → Type 0
 After (refused k p) r w = (r .number ≡ k) × (r .place ≡ p) × (0 < k)
 After (accepted t) r w = (r .number ≡ 0) × Holds w r t
@@ -157,7 +157,7 @@ pub record LinesDone (text : Bytes) (r : Count) (w : List ℕ) : Type 0 where
   pub number : ℕ
   pub goes : wholeText text ≡ finishProgram number listing
 
--- `read_lines`
+-- `read_lines`: after a refusal nothing is said of the work table.
 pub record LinesRead (text : Bytes) (r : Count) (w : List ℕ) : Type 0 where
   pub done : r .number ≡ 0 → LinesDone text r w
   pub stopped : (r .number ≡ 0 → ⊥) → wholeText text ≡ refused (r .number) (r .place)
@@ -172,7 +172,7 @@ pub record Partly (w₀ w : List ℕ) (s : Listing) (i : ℕ) : Type 0 where
   pub todo : (n : ℕ) → n < nodeCount (s .program) → i ≤ n → At (in-table w) (nodeBase n) (readingRow s n)
   pub none-lost : first i (lost (s .program)) ≡ none
 
--- `resolve_node`: 0 where the callee of the node n is known, else 1 + its line.
+-- `resolve_node`: 0 where the callee of the node n is known, else 1 + its line, and then nothing is said of the work table.
 unfoldable pub ResolvedNode : Bytes → List ℕ → ℕ → ℕ → ℕ → List ℕ → Type 0
 ResolvedNode text w procs n r w′ =
     (s : Listing) (c : Count) (w₀ : List ℕ) → Known text s → Holds w₀ c s → procs ≡ procCount (s .program) → n < nodeCount (s .program) → Partly w₀ w s n
@@ -182,7 +182,7 @@ ResolvedNode text w procs n r w′ =
 unfoldable pub ResolvedTo : Bytes → List ℕ → ℕ → ℕ → ℕ → List ℕ → Type 0
 ResolvedTo text w₀ procs nodes n w = (s : Listing) (c : Count) → Known text s → Holds w₀ c s → procs ≡ procCount (s .program) → nodes ≡ nodeCount (s .program) → Partly w₀ w s n
 
--- `resolve`: 0 where all callees are known, else 1 + the line of the first that is not.
+-- `resolve`: 0 where all callees are known, else 1 + the line of the first that is not, and then nothing is said of the work table.
 unfoldable pub Resolved : Bytes → List ℕ → ℕ → ℕ → ℕ → List ℕ → Type 0
 Resolved text w₀ procs nodes r w =
     (s : Listing) (c : Count) → Known text s → Holds w₀ c s → procs ≡ procCount (s .program) → nodes ≡ nodeCount (s .program)
@@ -193,7 +193,7 @@ Resolved text w₀ procs nodes r w =
 unfoldable pub calleeBytes : Bytes → ℕ → ℕ → ℕ → Bytes
 calleeBytes text start len size = take size (drop 1 (drop len (drop start text)))
 
--- `finish`
+-- `finish`: as `read_into`, of the end of the text.
 pub record Finished (text : Bytes) (c : Count) (w : List ℕ) (r : Count) (w′ : List ℕ) : Type 0 where
   pub told : (s : Listing) (n : ℕ) → Known text s → Holds w c s → Told (finishProgram n s) r w′
   pub small : Small r

@@ -31,7 +31,7 @@ pub record InTable (w : List ℕ) (c : Count) (s : Listing) : Type 0 where
   pub edges : (e : ℕ) → e < edgeCount (s .program) → At (in-table (linksOf w)) (edgeBase e) (edgeRow s e)
   pub heads : (n : ℕ) → n < nodeCount (s .program) → in-table (linksOf w) (headBase n) ≡ headOf s n
 
--- `read_into`: the answer is the definition's, and the work table holds what was read.
+-- `read_into`: the answer is the definition's, and the work table holds what was read. After a refusal nothing is said of the work table.
 abbrev pub Told : Answer Listing → Count → List ℕ → Type 0
 Told (refused k p) r w = (r .number ≡ k) × (r .place ≡ p) × (0 < k)
 Told (accepted s) r w = (r .number ≡ 0) × (r .place ≡ 0) × InTable w r s

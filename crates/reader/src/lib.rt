@@ -236,7 +236,7 @@ fn complete(work: &[usize], had: Count) -> bool
     all_fine(work, first, nodes)
 }
 
-// ---- a line: what is refused may leave any numbers in the work table
+// ---- a line
 
 // A refusal. Its counts are 0.
 fn refused(number: usize, place: usize) -> Count
@@ -251,7 +251,7 @@ fn refused(number: usize, place: usize) -> Count
     }
 }
 
-// A P line, where the procedure before it is complete.
+// A P line, where the procedure before it is complete. After a refusal the work table may hold anything.
 fn new_proc(
     text: &[u8],
     line: usize,
@@ -274,7 +274,15 @@ fn new_proc(
     if 0 < twice {
         return refused(5, line);
     }
-    put5(work, 2048 + 7 * procs, at + 2, name.len(), line, nodes, edges);
+    put5(
+        work,
+        2048 + 7 * procs,
+        at + 2,
+        name.len(),
+        line,
+        nodes,
+        edges,
+    );
     Count {
         number: 0,
         place: 0,
@@ -284,7 +292,7 @@ fn new_proc(
     }
 }
 
-// A P line of this name.
+// A P line of this name. After a refusal the work table may hold anything.
 fn add_proc(
     text: &[u8],
     line: usize,
@@ -307,7 +315,7 @@ fn add_proc(
     refused(8, of_current(work, procs, 2))
 }
 
-// A P line, by what stands behind its first comma. A name has no comma, so it is all the rest.
+// A P line, by what stands behind its first comma: a name has no comma, so it is all of that. After a refusal the work table may hold anything.
 fn proc_line(
     text: &[u8],
     line: usize,
@@ -326,7 +334,7 @@ fn proc_line(
     refused(2, line)
 }
 
-// An N line of this kind's number, label and callee.
+// An N line of this kind's number, label and callee. After a refusal the work table may hold anything.
 fn add_node(
     line: usize,
     at: usize,
@@ -371,7 +379,8 @@ fn add_node(
     }
 }
 
-// An N line, by what stands behind its first comma. No callee has a comma, so it is all the rest.
+// An N line, by what stands behind its first comma: kind, label, and the callee, which has no comma, so that it is all the rest. After a
+// refusal the work table may hold anything.
 fn node_line(line: usize, at: usize, rest: &[u8], had: Count, work: &mut [usize]) -> Count
     requires { ⌜ Small had ⌝ }
     requires { ⌜ (at ≤ 65536) × (line ≤ 65536) × (length (now rest) ≤ 65536) × (8128 ≤ length (now work)) ⌝ }
@@ -404,7 +413,7 @@ fn in_procedure(first: usize, nodes: usize, n: usize) -> bool
     n < nodes
 }
 
-// A B line whose ends are nodes of its procedure: its word, which begins at `start`.
+// A B line whose ends are nodes of its procedure: its word, which begins at `start`. After a refusal the work table may hold anything.
 fn new_edge(
     line: usize,
     from: usize,
@@ -436,7 +445,7 @@ fn new_edge(
     }
 }
 
-// A B line of this word: its ends, then the word.
+// A B line of this word, which begins at `start`: its ends, then the word. After a refusal the work table may hold anything.
 fn add_edge(
     line: usize,
     from: usize,
@@ -469,7 +478,8 @@ fn add_edge(
     refused(6, line)
 }
 
-// A B line, by what stands behind its first comma. A number has no comma, so the last field is all the rest.
+// A B line, by what stands behind its first comma: from, word, and to, a number, which has no comma, so that it is all the rest. After a
+// refusal the work table may hold anything.
 fn edge_line(line: usize, at: usize, rest: &[u8], had: Count, work: &mut [usize]) -> Count
     requires { ⌜ Small had ⌝ }
     requires { ⌜ (at ≤ 65536) × (length (now rest) ≤ 65536) × (8128 ≤ length (now work)) ⌝ }
@@ -499,7 +509,7 @@ fn edge_line(line: usize, at: usize, rest: &[u8], had: Count, work: &mut [usize]
     refused(2, line)
 }
 
-// One line: its number, where it begins, and its bytes.
+// One line: its number, where it begins, and its bytes. It goes by its first two bytes. After a refusal the work table may hold anything.
 fn step(text: &[u8], line: usize, at: usize, l: &[u8], had: Count, work: &mut [usize]) -> Count
     requires { ⌜ Small had ⌝ }
     requires { ⌜ (at ≤ 65536) × (line ≤ 65536) × (length (now l) ≤ 65536) × (8128 ≤ length (now work)) ⌝ }
@@ -521,7 +531,7 @@ fn step(text: &[u8], line: usize, at: usize, l: &[u8], had: Count, work: &mut [u
 
 // ---- all lines
 
-// Reads every line into the work table.
+// Reads every line into the work table. After a refusal the work table may hold anything.
 fn read_lines(text: &[u8], work: &mut [usize]) -> Count
     requires { ⌜ (length (now text) ≤ 65536) × (8128 ≤ length (now work)) ⌝ }
     ensures { λ r. ⌜ LinesRead (now (text .entry)) r (now (work .exit)) ⌝ }
@@ -564,7 +574,8 @@ fn callee_of(text: &[u8], start: usize, len: usize, size: usize) -> &[u8]
     front(callee, size)
 }
 
-// Puts the procedure that the node calls into its row; 1 + the node's line, where there is none of that name.
+// Puts the procedure that the node calls into its row; 1 + the node's line, where there is none of that name, and then the work table may hold
+// anything.
 fn resolve_node(text: &[u8], work: &mut [usize], procs: usize, n: usize) -> usize
     requires { ⌜ (n < 512) × (8128 ≤ length (now work)) ⌝ }
     ensures { λ r. ⌜ ResolvedNode (now (text .entry)) (now (work .entry)) procs n r (now (work .exit)) ⌝ }
@@ -602,7 +613,7 @@ fn resolve(text: &[u8], work: &mut [usize], procs: usize, nodes: usize) -> usize
     0
 }
 
-// The end of a text whose lines were read: 2, 8 and 9.
+// The end of a text whose lines were read: 2, 8 and 9. After a refusal the work table may hold anything.
 fn finish(text: &[u8], had: Count, work: &mut [usize]) -> Count
     requires { ⌜ Small had ⌝ }
     requires { ⌜ 8128 ≤ length (now work) ⌝ }
@@ -630,7 +641,7 @@ fn finish(text: &[u8], had: Count, work: &mut [usize]) -> Count
     refused(8, of_current(work, procs, 2))
 }
 
-// Reads a program file into the work table. A refusal has a number that is not 0; the table then holds nothing of use.
+// Reads a program file into the work table. A refusal has a number that is not 0; the table may then hold anything.
 pub fn read_into(text: &[u8], work: &mut [usize]) -> Count
     requires { ⌜ 8128 ≤ length (now work) ⌝ }
     ensures { λ r. ⌜ ReadInto (now (text .entry)) r (now (work .exit)) ⌝ }

@@ -52,11 +52,11 @@ fn one_case(fd: i32) -> bool {
     if came < 48 {
         return false;
     }
-    io::write_all(STDOUT_FILENO, text::field(&head, b' ', 2));
+    io::write_all(STDOUT_FILENO, files::field(&head, b' ', 2));
     read_next(
         fd,
-        files::six_digits(text::field(&head, b' ', 1)),
-        files::six_digits(text::field(&head, b' ', 0)),
+        files::six_digits(files::field(&head, b' ', 1)),
+        files::six_digits(files::field(&head, b' ', 0)),
     );
     io::write_all(STDOUT_FILENO, b"\n");
     true

@@ -1,6 +1,5 @@
 use borrow.Author.Needs.{needs}
 use Rattle.reader.proofs.All.{all}
-use Rattle.reader.proofs.Steps.{node-lines}
 use Rattle.reader.proofs.add_node.Statement.{statement}
 use Rattle.reader.proofs.add_node.Tie as tie
 
