@@ -11,6 +11,7 @@ use borrow.Author.Tests.{eq-eqb, eqb-true, le-leb, le-ltb, lt-leb, lt-ltb, ltb-t
 use Rattle.laws.specs.Tests.{_and_, _or_, allPairs, has, none?}
 use Rattle.laws.specs.TestLaws.{and-assoc, and-both, and-ends, and-left, and-not, and-right, or-cases, or-left, or-right, same-test}
 use Rattle.laws.specs.Slices.{below-or, same-or}
+use Rattle.rules.specs.Text.{Bytes, value}
 use Rattle.rules.specs.Sheet.{allBelow, before}
 use Rattle.pairset.specs.StoreLaws.{allPairs-snoc}
 use Rattle.sheet_reader.specs.Reading.{PairsUpTo, UpTo}
@@ -90,8 +91,12 @@ unfolding none?
 none-is [] = refl
 none-is (x ∷ l) = ne-eqb (length (x ∷ l)) 0 (λ e. let z : ⊥ = omega arith in z)
 
--- ---- a number as it is kept, below its bound
+-- ---- a number as it is kept: one above 65,536 counts as 65,536
 
+abbrev pub kept : Bytes → ℕ
+kept ds = min (value ds) 65536
+
+-- Below its bound it is itself.
 module _ (v m : ℕ) (few : m ≤ 65536) where
   pub kept-below : ltb (min v 65536) m ≡ ltb v m
   kept-below =

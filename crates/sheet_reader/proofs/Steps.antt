@@ -3,30 +3,33 @@ use mathlib.Core.Path.{_≡_, refl, sym, ap, ap₂, _∙_, subst}
 use mathlib.Core.Bool.{Bool, true, false}
 use mathlib.Core.Option.{Option, none, some}
 use mathlib.Core.List.{List, [], _∷_, _++_}
-use Prim.Native.Nat.{ℕ, _+_, _-_, _*_, _≤_, _<_}
+use Prim.Native.Nat.{ℕ, _+_, _-_, _*_, _≤_, _<_, min}
 use native.Mathlib.Omega.{arith}
 use lib.Dec.{eqb, leb, ltb}
-use lib.ListN.{length}
+use lib.ListN.{length, take, drop}
 use borrow.Author.Tests.{eq-eqb, le-leb, leb-true, lt-leb, ltb-true, ne-eqb}
-use Rattle.laws.specs.Tests.{_and_, _or_, first, found, has, isnt, none?}
+use Rattle.laws.specs.Tests.{_and_, _or_, choose, first, found, has, isnt, none?}
 use Rattle.laws.specs.TestLaws.{and-both, and-ends, and-left, and-not, and-right, fails, false-isnt, first-at, first-none, first-only, true-isnt}
 use Rattle.laws.specs.Lists.{snoc-length}
 use Rattle.laws.specs.Slices.{same-or}
 use Rattle.laws.specs.Bits.{bitIn}
 use Rattle.laws.specs.BitSets.{bit-with, withBit}
-use Rattle.rules.specs.Text.{Answer, Bytes, accepted, same, unless, value}
+use Rattle.rules.specs.Text.{Answer, Bytes, accepted, bytes, isName, isNumber, same, split, unless, value}
 use Rattle.rules.specs.Graph.{Program, edgeCount, nodeCount}
 use Rattle.rules.specs.SuiteFile.{Suite, testCount, testName}
-use Rattle.rules.specs.Sheet.{SheetRead, addD, addM, addR, allBelow, going, openSheet, pairsBefore, r-line, takeSheetLine, testOf}
+use Rattle.rules.specs.Sheet.{SheetRead, addD, addM, addR, allBelow, d-line, end-line, going, m-line, openSheet, pairsBefore, r-line, sheetForm, takeSheetLine, testOf}
 use Rattle.rules.specs.Proofs.TextLaws.{same-true}
 use Rattle.pairset.specs.Store.{Appended, Appends}
 use Rattle.suite.specs.Reading.{nameAt}
+use Rattle.text.specs.NumberLaws.{a-number, no-number, number-kept}
+use Rattle.text.specs.Scans.{span}
+use Rattle.text.specs.SplitLaws.{first-last, first-more}
 use Rattle.sheet_reader.specs.declared.State.{State}
-use Rattle.sheet_reader.specs.Forms.{kept}
 use Rattle.sheet_reader.specs.Claims.{For}
 use Rattle.sheet_reader.specs.Reading.{AddsEdge, AddsPair, AddsTest, After, Ends, Holds, Opens, PairsUpTo, Refusal, Small, UpTo, edgeFits, endFits, pairFits, testFrom, underway}
+use Rattle.sheet_reader.proofs.Forms.{d-is, d-none, end-is, end-none, end-one, end-two, end-whole, m-is, m-none, m-one, m-whole, r-is, r-none}
 use Rattle.sheet_reader.proofs.Leaves.{sought}
-use Rattle.sheet_reader.proofs.Orders.{and-when, has-snoc, kept-below, kept-is, kept-same, none-is, pairs-up-more, up-more}
+use Rattle.sheet_reader.proofs.Orders.{and-when, has-snoc, kept, kept-below, kept-is, kept-same, none-is, pairs-up-more, up-more}
 
 -- ---- a test that refuses, and one that passes
 
@@ -38,6 +41,10 @@ module _ (r : State) (w sets : List ℕ) where
   go-on : {t : Bool} (k n : ℕ) (x : Answer SheetRead) → t ≡ false → After x r w sets → After (unless t k n x) r w sets
   unfolding unless
   go-on k n x e a = rw e a
+
+-- What `number` answers.
+abbrev numberOf : Bytes → ℕ
+numberOf a = choose (isNumber a) (min (value a) 65536) 65537
 
 -- ---- what the state says of what was read
 
@@ -140,83 +147,73 @@ module _ (n : ℕ) (c : State) where
 
 pub ruleset opens = (open-twice, open-first, open-small)
 
+-- ---- `pair_line`
+
+module _ (olds news n : ℕ) (s a : Bytes) (c : State) (w : List ℕ) (ea : a ≡ take (span 44 s) s) where
+  pub pair-short : (r : State) (w′ : List ℕ) → length s ≤ length a → Refusal 2 n r → AddsPair olds news n (split 44 s) c w r w′
+  unfolding AddsPair takeSheetLine
+  pair-short r w′ h q old new suite k sets eo en hold =
+      rw (ap (λ (ps : List Bytes). sheetForm (bytes "M" ∷ ps)) (first-last 44 s a ea h) ∙ m-one s) (q .number-is, q .place-is, omega arith)
+
+  pub pair-fields : (b : Bytes) (r : State) (w′ : List ℕ) → length a < length s → b ≡ drop (length a + 1) s → AddsPair olds news n (a ∷ b ∷ []) c w r w′ → AddsPair olds news n (split 44 s) c w r w′
+  unfolding AddsPair
+  pair-fields b r w′ h eb q old new suite k sets eo en hold =
+      rw (ap (λ (ps : List Bytes). sheetForm (bytes "M" ∷ ps)) (first-more 44 s a ea b h eb) ∙ m-whole a b) (q old new suite k sets eo en hold)
+
 -- ---- `add_pair`
 
-module _ (olds news n a b : ℕ) (c : State) (w : List ℕ) where
-  pub pair-full : (r : State) (w′ : List ℕ) → 4096 ≤ c .pairs → Refusal 4 n r → AddsPair olds news n a b c w r w′
-  unfolding AddsPair takeSheetLine
-  pair-full r w′ h q old new suite s sets x y eo en ea eb hold =
-      stop r w′ sets 4 n _ (le-leb 4096 (length (s .claims .M)) (omega (arith, hold .pairs-n))) q (omega arith)
+-- What the test says of the pair (i, j).
+module _ (olds news i j : ℕ) (c : State) (t : Bool) (et : t ≡ pairFits olds news i j c) (y : t ≡ true) where
+  pub pair-old : i < olds
+  unfolding pairFits
+  pair-old = ltb-true i olds (and-left _ _ (and-right _ _ (and-right _ _ (and-right _ _ (sym et ∙ y)))))
 
-  module _ (t : Bool) (ho : olds ≤ 512) (hn : news ≤ 512) (room : c .pairs < 4096) (et : t ≡ pairFits olds news a b c) where
-    -- The definition's test, by the code's.
-    fits-are : (old new : Program) (s : SheetRead) (sets : List ℕ) (x y : Bytes) → olds ≡ nodeCount old → news ≡ nodeCount new → a ≡ kept x → b ≡ kept y → Holds w sets c s
-        → (going s and none? (s .claims .D) and none? (s .claims .R) and ltb (value x) (nodeCount old) and ltb (value y) (nodeCount new) and pairsBefore (s .claims .M) (value x) (value y)) ≡ t
-    fits-are old new s sets x y eo en ea eb hold =
-        ap₂ (λ (i j : ℕ). going s and none? (s .claims .D) and none? (s .claims .R) and ltb (value x) i and ltb (value y) j and pairsBefore (s .claims .M) (value x) (value y)) (sym eo) (sym en)
-        ∙ sym (pair-fits-is w sets c s hold olds news x y ho hn)
-        ∙ ap₂ (λ (i j : ℕ). pairFits olds news i j c) (sym ea) (sym eb)
-        ∙ sym et
+  pub pair-new : j < news
+  unfolding pairFits
+  pair-new = ltb-true j news (and-left _ _ (and-right _ _ (and-right _ _ (and-right _ _ (and-right _ _ (sym et ∙ y))))))
 
-    few-are : (s : SheetRead) (sets : List ℕ) → Holds w sets c s → leb 4096 (length (s .claims .M)) ≡ false
-    few-are s sets hold = lt-leb 4096 (length (s .claims .M)) (omega (arith, hold .pairs-n))
+  pair-behind : c .pair ≤ 512 * i + j
+  unfolding pairFits
+  pair-behind = leb-true (c .pair) (512 * i + j) (and-right _ _ (and-right _ _ (and-right _ _ (and-right _ _ (and-right _ _ (sym et ∙ y))))))
 
-    pub pair-unfit : (r : State) (w′ : List ℕ) → t ≡ false → Refusal 11 n r → AddsPair olds news n a b c w r w′
-    unfolding AddsPair takeSheetLine
-    pair-unfit r w′ y q old new suite s sets x z eo en ea eb hold =
-        go-on r w′ sets 4 n _ (few-are s sets hold)
-        (stop r w′ sets 11 n _ (true-isnt (fits-are old new s sets x z eo en ea eb hold ∙ y)) q (omega arith))
+  module _ (ho : olds ≤ 512) (hn : news ≤ 512) where
+    pub pair-mul : 512 * i < 18446744073709551616
+    pair-mul = omega (arith, pair-old)
 
-    module _ (y : t ≡ true) where
-      -- What the test says of the pair.
-      pub pair-old : a < olds
-      unfolding pairFits
-      pair-old = ltb-true a olds (and-left _ _ (and-right _ _ (and-right _ _ (and-right _ _ (sym et ∙ y)))))
+    pub pair-sum : 512 * i + j < 18446744073709551616
+    pair-sum = omega (arith, pair-old, pair-new)
 
-      pub pair-new : b < news
-      unfolding pairFits
-      pair-new = ltb-true b news (and-left _ _ (and-right _ _ (and-right _ _ (and-right _ _ (and-right _ _ (sym et ∙ y))))))
+    pub pair-next : 512 * i + j + 1 < 18446744073709551616
+    pair-next = omega (arith, pair-old, pair-new)
 
-      pair-behind : c .pair ≤ 512 * a + b
-      unfolding pairFits
-      pair-behind = leb-true (c .pair) (512 * a + b) (and-right _ _ (and-right _ _ (and-right _ _ (and-right _ _ (and-right _ _ (sym et ∙ y))))))
+    -- The state with the pair more.
+    abbrev withPair : State
+    withPair =
+        record {
+          number = 0;
+          place = 0;
+          opened = c .opened;
+          shut = c .shut;
+          pairs = c .pairs + 1;
+          edges = c .edges;
+          tests = c .tests;
+          pair = 512 * i + j + 1;
+          edge = c .edge;
+          test = c .test;
+        }
 
-      pub pair-mul : 512 * a < 18446744073709551616
-      pair-mul = omega (arith, pair-old)
-
-      pub pair-sum : 512 * a + b < 18446744073709551616
-      pair-sum = omega (arith, pair-old, pair-new)
-
-      pub pair-next : 512 * a + b + 1 < 18446744073709551616
-      pair-next = omega (arith, pair-old, pair-new)
-
-      -- The state with the pair more.
-      abbrev withPair : State
-      withPair =
-          record {
-            number = 0;
-            place = 0;
-            opened = c .opened;
-            shut = c .shut;
-            pairs = c .pairs + 1;
-            edges = c .edges;
-            tests = c .tests;
-            pair = 512 * a + b + 1;
-            edge = c .edge;
-            test = c .test;
-          }
-
-      held-pair : (s : SheetRead) (sets w′ : List ℕ) → 16912 ≤ length w → Appended w (c .pairs) a b w′ → Holds w sets c s → Holds w′ sets withPair (addM a b s)
+    module _ (room : c .pairs < 4096) where
+      held-pair : (s : SheetRead) (w sets w′ : List ℕ) → 16912 ≤ length w → Appended w (c .pairs) i j w′ → Holds w sets c s → Holds w′ sets withPair (addM i j s)
       unfolding Appends
-      held-pair s sets w′ long ap hold =
+      held-pair s w sets w′ long ap hold =
           let p = ap .appends (hold .held .store) (omega (arith, pair-old)) (omega (arith, pair-new)) (omega arith) in
           record {
             opened-is = hold .opened-is;
             shut-is = hold .shut-is;
-            pairs-n = omega (arith, hold .pairs-n, snoc-length (0, 0) (s .claims .M) (a, b));
+            pairs-n = omega (arith, hold .pairs-n, snoc-length (0, 0) (s .claims .M) (i, j));
             edges-n = hold .edges-n;
             tests-n = hold .tests-n;
-            pair-next = pairs-up-more (s .claims .M) (c .pair) a b (hold .pair-next) (omega (arith, pair-new)) pair-behind;
+            pair-next = pairs-up-more (s .claims .M) (c .pair) i j (hold .pair-next) (omega (arith, pair-new)) pair-behind;
             edge-next = hold .edge-next;
             test-next = hold .test-next;
             held = record {
@@ -226,15 +223,6 @@ module _ (olds news n a b : ℕ) (c : State) (w : List ℕ) where
               tests-are = hold .held .tests-are;
             };
           }
-
-      pub pair-more : (w′ : List ℕ) → 16912 ≤ length w → Appended w (c .pairs) a b w′ → AddsPair olds news n a b c w withPair w′
-      unfolding AddsPair takeSheetLine
-      pair-more w′ long ap old new suite s sets x z eo en ea eb hold =
-          let xs : a ≡ value x = ea ∙ kept-is (value x) olds (omega arith) (subst (λ (i : ℕ). i < olds) ea pair-old) in
-          let zs : b ≡ value z = eb ∙ kept-is (value z) news (omega arith) (subst (λ (i : ℕ). i < news) eb pair-new) in
-          go-on withPair w′ sets 4 n _ (few-are s sets hold)
-          (go-on withPair w′ sets 11 n _ (false-isnt (fits-are old new s sets x z eo en ea eb hold ∙ y))
-          (refl, refl, subst (λ (k : SheetRead). Holds w′ sets withPair k) (ap₂ (λ (i j : ℕ). addM i j s) xs zs) (held-pair s sets w′ long ap hold)))
 
       pub pair-small : Small c → Small withPair
       pair-small h =
@@ -247,7 +235,63 @@ module _ (olds news n a b : ℕ) (c : State) (w : List ℕ) where
             low-test = h .low-test;
           }
 
-pub ruleset pairs = (pair-full, pair-unfit, pair-old, pair-new, pair-mul, pair-sum, pair-next, pair-more, pair-small)
+module _ (olds news n : ℕ) (a b : Bytes) (c : State) (w : List ℕ) where
+  -- A field is no number.
+  pair-none : (r : State) (w′ : List ℕ) → (isNumber a and isNumber b) ≡ false → Refusal 2 n r → AddsPair olds news n (a ∷ b ∷ []) c w r w′
+  unfolding AddsPair takeSheetLine
+  pair-none r w′ e q old new suite s sets eo en hold = rw (m-none a b e) (q .number-is, q .place-is, omega arith)
+
+  module _ (i : ℕ) (ei : i ≡ numberOf a) where
+    pub pair-first : (r : State) (w′ : List ℕ) → 65536 < i → Refusal 2 n r → AddsPair olds news n (a ∷ b ∷ []) c w r w′
+    unfolding _and_
+    pair-first r w′ h q = pair-none r w′ (simp (no-number a i ei h)) q
+
+    module _ (hi : i ≤ 65536) (j : ℕ) (ej : j ≡ numberOf b) where
+      pub pair-second : (r : State) (w′ : List ℕ) → 65536 < j → Refusal 2 n r → AddsPair olds news n (a ∷ b ∷ []) c w r w′
+      unfolding _and_
+      pair-second r w′ h q = pair-none r w′ (simp (a-number a i ei hi, no-number b j ej h)) q
+
+      module _ (hj : j ≤ 65536) where
+        pair-form : sheetForm (bytes "M" ∷ a ∷ b ∷ []) ≡ m-line a b
+        pair-form = m-is a b (a-number a i ei hi) (a-number b j ej hj)
+
+        pub pair-full : (r : State) (w′ : List ℕ) → 4096 ≤ c .pairs → Refusal 4 n r → AddsPair olds news n (a ∷ b ∷ []) c w r w′
+        unfolding AddsPair takeSheetLine
+        pair-full r w′ h q old new suite s sets eo en hold =
+            rw pair-form (stop r w′ sets 4 n _ (le-leb 4096 (length (s .claims .M)) (omega (arith, hold .pairs-n))) q (omega arith))
+
+        module _ (t : Bool) (ho : olds ≤ 512) (hn : news ≤ 512) (room : c .pairs < 4096) (et : t ≡ pairFits olds news i j c) where
+          -- The definition's test, by the code's.
+          fits-are : (old new : Program) (s : SheetRead) (sets : List ℕ) → olds ≡ nodeCount old → news ≡ nodeCount new → Holds w sets c s
+              → (going s and none? (s .claims .D) and none? (s .claims .R) and ltb (value a) (nodeCount old) and ltb (value b) (nodeCount new) and pairsBefore (s .claims .M) (value a) (value b)) ≡ t
+          fits-are old new s sets eo en hold =
+              ap₂ (λ (k l : ℕ). going s and none? (s .claims .D) and none? (s .claims .R) and ltb (value a) k and ltb (value b) l and pairsBefore (s .claims .M) (value a) (value b)) (sym eo) (sym en)
+              ∙ sym (pair-fits-is w sets c s hold olds news a b ho hn)
+              ∙ ap₂ (λ (k l : ℕ). pairFits olds news k l c) (sym (number-kept a i ei hi)) (sym (number-kept b j ej hj))
+              ∙ sym et
+
+          few-are : (s : SheetRead) (sets : List ℕ) → Holds w sets c s → leb 4096 (length (s .claims .M)) ≡ false
+          few-are s sets hold = lt-leb 4096 (length (s .claims .M)) (omega (arith, hold .pairs-n))
+
+          pub pair-unfit : (r : State) (w′ : List ℕ) → t ≡ false → Refusal 11 n r → AddsPair olds news n (a ∷ b ∷ []) c w r w′
+          unfolding AddsPair takeSheetLine
+          pair-unfit r w′ y q old new suite s sets eo en hold =
+              rw pair-form
+              (go-on r w′ sets 4 n _ (few-are s sets hold)
+              (stop r w′ sets 11 n _ (true-isnt (fits-are old new s sets eo en hold ∙ y)) q (omega arith)))
+
+          pub pair-more : (w′ : List ℕ) (y : t ≡ true) → 16912 ≤ length w → Appended w (c .pairs) i j w′ → AddsPair olds news n (a ∷ b ∷ []) c w (withPair olds news i j c t et y ho hn) w′
+          unfolding AddsPair takeSheetLine
+          pair-more w′ y long ap old new suite s sets eo en hold =
+              let is : i ≡ value a = omega (arith, number-kept a i ei hi, pair-old olds news i j c t et y) in
+              let js : j ≡ value b = omega (arith, number-kept b j ej hj, pair-new olds news i j c t et y) in
+              let r : State = withPair olds news i j c t et y ho hn in
+              rw pair-form
+              (go-on r w′ sets 4 n _ (few-are s sets hold)
+              (go-on r w′ sets 11 n _ (false-isnt (fits-are old new s sets eo en hold ∙ y))
+              (refl, refl, subst (λ (k : SheetRead). Holds w′ sets r k) (ap₂ (λ (k l : ℕ). addM k l s) is js) (held-pair olds news i j c t et y ho hn room s w sets w′ long ap hold))))
+
+pub ruleset pairs = (pair-short, pair-fields, pair-old, pair-new, pair-mul, pair-sum, pair-next, pair-small, pair-first, pair-second, pair-full, pair-unfit, pair-more)
 
 -- ---- a bit more
 
@@ -276,92 +320,102 @@ module _ (sets : List ℕ) (long : 20 ≤ length sets) (l : List ℕ) where
 
 -- ---- `add_edge`
 
-module _ (edges n e : ℕ) (c : State) (sets : List ℕ) (t : Bool) (few : edges ≤ 1024) (et : t ≡ edgeFits edges e c) where
-  edge-are : (old : Program) (s : SheetRead) (w : List ℕ) (x : Bytes) → edges ≡ edgeCount old → e ≡ kept x → Holds w sets c s
-      → (going s and none? (s .claims .R) and ltb (value x) (edgeCount old) and allBelow (s .claims .D) (value x)) ≡ t
-  edge-are old s w x eo ee hold =
-      ap (λ (i : ℕ). going s and none? (s .claims .R) and ltb (value x) i and allBelow (s .claims .D) (value x)) (sym eo)
-      ∙ sym (edge-fits-is w sets c s hold edges x few)
-      ∙ ap (λ (i : ℕ). edgeFits edges i c) (sym ee)
-      ∙ sym et
-
-  pub edge-unfit : (r : State) (sets′ : List ℕ) → t ≡ false → Refusal 11 n r → AddsEdge edges n e c sets r sets′
+module _ (edges n : ℕ) (e : Bytes) (c : State) (sets : List ℕ) (i : ℕ) (ei : i ≡ numberOf e) where
+  pub edge-no : (r : State) (sets′ : List ℕ) → 65536 < i → Refusal 2 n r → AddsEdge edges n (e ∷ []) c sets r sets′
   unfolding AddsEdge takeSheetLine
-  edge-unfit r sets′ y q old new suite s w x eo ee hold = stop r w sets′ 11 n _ (true-isnt (edge-are old s w x eo ee hold ∙ y)) q (omega arith)
+  edge-no r sets′ h q old new suite s w eo hold = rw (d-none e (no-number e i ei h)) (q .number-is, q .place-is, omega arith)
 
-  module _ (y : t ≡ true) where
-    edge-in : e < edges
-    unfolding edgeFits
-    edge-in = ltb-true e edges (and-left _ _ (and-right _ _ (and-right _ _ (sym et ∙ y))))
+  module _ (hi : i ≤ 65536) (t : Bool) (few : edges ≤ 1024) (et : t ≡ edgeFits edges i c) where
+    edge-form : sheetForm (bytes "D" ∷ e ∷ []) ≡ d-line e
+    edge-form = d-is e (a-number e i ei hi)
 
-    edge-behind : c .edge ≤ e
-    unfolding edgeFits
-    edge-behind = leb-true (c .edge) e (and-right _ _ (and-right _ _ (and-right _ _ (sym et ∙ y))))
+    -- The definition's test, by the code's.
+    edge-are : (old : Program) (s : SheetRead) (w : List ℕ) → edges ≡ edgeCount old → Holds w sets c s
+        → (going s and none? (s .claims .R) and ltb (value e) (edgeCount old) and allBelow (s .claims .D) (value e)) ≡ t
+    edge-are old s w eo hold =
+        ap (λ (k : ℕ). going s and none? (s .claims .R) and ltb (value e) k and allBelow (s .claims .D) (value e)) (sym eo)
+        ∙ sym (edge-fits-is w sets c s hold edges e few)
+        ∙ ap (λ (k : ℕ). edgeFits edges k c) (sym (number-kept e i ei hi))
+        ∙ sym et
 
-    pub edge-count : Small c → c .edges + 1 < 18446744073709551616
-    edge-count h = omega (arith, h .few-edges, h .low-edge)
-
-    pub edge-next : e + 1 < 18446744073709551616
-    edge-next = omega (arith, edge-in)
-
-    -- The state with the edge more.
-    abbrev withEdge : State
-    withEdge =
-        record {
-          number = 0;
-          place = 0;
-          opened = c .opened;
-          shut = c .shut;
-          pairs = c .pairs;
-          edges = c .edges + 1;
-          tests = c .tests;
-          pair = c .pair;
-          edge = e + 1;
-          test = c .test;
-        }
-
-    held-edge : (s : SheetRead) (w : List ℕ) → 20 ≤ length sets → Holds w sets c s → Holds w (withBit sets e) withEdge (addD e s)
-    held-edge s w long hold =
-        record {
-          opened-is = hold .opened-is;
-          shut-is = hold .shut-is;
-          pairs-n = hold .pairs-n;
-          edges-n = omega (arith, hold .edges-n, snoc-length 0 (s .claims .D) e);
-          tests-n = hold .tests-n;
-          pair-next = hold .pair-next;
-          edge-next = up-more (s .claims .D) (c .edge) e (hold .edge-next) edge-behind;
-          test-next = hold .test-next;
-          held = record {
-            store = hold .held .store;
-            pairs-are = hold .held .pairs-are;
-            edges-are = bit-edge sets long (s .claims .D) e (omega (arith, edge-in)) (hold .held .edges-are);
-            tests-are = bit-test-kept sets long (s .claims .R) e (omega (arith, edge-in)) (hold .held .tests-are);
-          };
-        }
-
-    pub edge-more : (sets′ : List ℕ) → 20 ≤ length sets → sets′ ≡ withBit sets e → AddsEdge edges n e c sets withEdge sets′
+    pub edge-unfit : (r : State) (sets′ : List ℕ) → t ≡ false → Refusal 11 n r → AddsEdge edges n (e ∷ []) c sets r sets′
     unfolding AddsEdge takeSheetLine
-    edge-more sets′ long es old new suite s w x eo ee hold =
-        let xs : e ≡ value x = ee ∙ kept-is (value x) edges (omega arith) (subst (λ (i : ℕ). i < edges) ee edge-in) in
-        go-on withEdge w sets′ 11 n _ (false-isnt (edge-are old s w x eo ee hold ∙ y)) (
-          refl,
-          refl,
-          subst (λ (k : List ℕ). Holds w k withEdge (addD (value x) s)) (sym es)
-              (subst (λ (i : ℕ). Holds w (withBit sets e) withEdge (addD i s)) xs (held-edge s w long hold)),
-        )
+    edge-unfit r sets′ y q old new suite s w eo hold = rw edge-form (stop r w sets′ 11 n _ (true-isnt (edge-are old s w eo hold ∙ y)) q (omega arith))
 
-    pub edge-small : Small c → Small withEdge
-    edge-small h =
-        record {
-          few-pairs = h .few-pairs;
-          low-pair = h .low-pair;
-          few-edges = omega (arith, h .few-edges, edge-behind);
-          low-edge = omega (arith, edge-in);
-          few-tests = h .few-tests;
-          low-test = h .low-test;
-        }
+    module _ (y : t ≡ true) where
+      edge-in : i < edges
+      unfolding edgeFits
+      edge-in = ltb-true i edges (and-left _ _ (and-right _ _ (and-right _ _ (sym et ∙ y))))
 
-pub ruleset edges = (edge-unfit, edge-count, edge-next, edge-more, edge-small)
+      edge-behind : c .edge ≤ i
+      unfolding edgeFits
+      edge-behind = leb-true (c .edge) i (and-right _ _ (and-right _ _ (and-right _ _ (sym et ∙ y))))
+
+      pub edge-count : Small c → c .edges + 1 < 18446744073709551616
+      edge-count h = omega (arith, h .few-edges, h .low-edge)
+
+      pub edge-next : i + 1 < 18446744073709551616
+      edge-next = omega (arith, edge-in)
+
+      -- The state with the edge more.
+      abbrev withEdge : State
+      withEdge =
+          record {
+            number = 0;
+            place = 0;
+            opened = c .opened;
+            shut = c .shut;
+            pairs = c .pairs;
+            edges = c .edges + 1;
+            tests = c .tests;
+            pair = c .pair;
+            edge = i + 1;
+            test = c .test;
+          }
+
+      held-edge : (s : SheetRead) (w : List ℕ) → 20 ≤ length sets → Holds w sets c s → Holds w (withBit sets i) withEdge (addD i s)
+      held-edge s w long hold =
+          record {
+            opened-is = hold .opened-is;
+            shut-is = hold .shut-is;
+            pairs-n = hold .pairs-n;
+            edges-n = omega (arith, hold .edges-n, snoc-length 0 (s .claims .D) i);
+            tests-n = hold .tests-n;
+            pair-next = hold .pair-next;
+            edge-next = up-more (s .claims .D) (c .edge) i (hold .edge-next) edge-behind;
+            test-next = hold .test-next;
+            held = record {
+              store = hold .held .store;
+              pairs-are = hold .held .pairs-are;
+              edges-are = bit-edge sets long (s .claims .D) i (omega (arith, edge-in)) (hold .held .edges-are);
+              tests-are = bit-test-kept sets long (s .claims .R) i (omega (arith, edge-in)) (hold .held .tests-are);
+            };
+          }
+
+      pub edge-more : (sets′ : List ℕ) → 20 ≤ length sets → sets′ ≡ withBit sets i → AddsEdge edges n (e ∷ []) c sets withEdge sets′
+      unfolding AddsEdge takeSheetLine
+      edge-more sets′ long es old new suite s w eo hold =
+          let is : i ≡ value e = omega (arith, number-kept e i ei hi, edge-in) in
+          rw edge-form
+          (go-on withEdge w sets′ 11 n _ (false-isnt (edge-are old s w eo hold ∙ y)) (
+            refl,
+            refl,
+            subst (λ (k : List ℕ). Holds w k withEdge (addD (value e) s)) (sym es)
+                (subst (λ (k : ℕ). Holds w (withBit sets i) withEdge (addD k s)) is (held-edge s w long hold)),
+          ))
+
+      pub edge-small : Small c → Small withEdge
+      edge-small h =
+          record {
+            few-pairs = h .few-pairs;
+            low-pair = h .low-pair;
+            few-edges = omega (arith, h .few-edges, edge-behind);
+            low-edge = omega (arith, edge-in);
+            few-tests = h .few-tests;
+            low-test = h .low-test;
+          }
+
+pub ruleset edges = (edge-no, edge-unfit, edge-count, edge-next, edge-more, edge-small)
 
 -- ---- `add_test`
 
@@ -400,10 +454,18 @@ module _ (tt : Bytes) (table : List ℕ) (count : ℕ) (name : Bytes) (k t : ℕ
     pub test-bit : count ≤ 200 → 1023 + t < 18446744073709551616
     test-bit few = omega (arith, found-at .0)
 
-module _ (tt : Bytes) (table : List ℕ) (count n : ℕ) (name : Bytes) (c : State) (sets : List ℕ) (t : ℕ) (et : t ≡ testFrom tt table (c .test) count name) where
-  pub test-unknown : (r : State) (sets′ : List ℕ) → t < 1 → Refusal 11 n r → AddsTest tt table count n name c sets r sets′
+pub test-no : (tt : Bytes) (table : List ℕ) (count n : ℕ) (name : Bytes) (c : State) (sets : List ℕ) (u : Bool) (r : State) (sets′ : List ℕ) → u ≡ isName name → u ≡ false → Refusal 2 n r
+    → AddsTest tt table count n (name ∷ []) c sets r sets′
+unfolding AddsTest takeSheetLine
+test-no tt table count n name c sets u r sets′ e y q olds news edges old new suite s w for hold = rw (r-none name (sym e ∙ y)) (q .number-is, q .place-is, omega arith)
+
+module _ (tt : Bytes) (table : List ℕ) (count n : ℕ) (name : Bytes) (c : State) (sets : List ℕ) (u : Bool) (eu : u ≡ isName name) (yu : u ≡ true) (t : ℕ) (et : t ≡ testFrom tt table (c .test) count name) where
+  test-form : sheetForm (bytes "R" ∷ name ∷ []) ≡ r-line name
+  test-form = r-is name (sym eu ∙ yu)
+
+  pub test-unknown : (r : State) (sets′ : List ℕ) → t < 1 → Refusal 11 n r → AddsTest tt table count n (name ∷ []) c sets r sets′
   unfolding AddsTest takeSheetLine testOf UpTo
-  test-unknown r sets′ h q olds news edges old new suite s w for hold = go (testOf suite name) refl
+  test-unknown r sets′ h q olds news edges old new suite s w for hold = rw test-form (go (testOf suite name) refl)
     where
       go : (o : Option ℕ) → testOf suite name ≡ o → After (takeSheetLine old new suite n s (r-line name)) r w sets′
       go none e = rw e (q .number-is, q .place-is, omega arith)
@@ -428,10 +490,10 @@ module _ (tt : Bytes) (table : List ℕ) (count n : ℕ) (name : Bytes) (c : Sta
         ∙ and-ends (underway c)
         ∙ sym ef
 
-    pub test-unfit : (r : State) (sets′ : List ℕ) → f ≡ false → Refusal 11 n r → AddsTest tt table count n name c sets r sets′
+    pub test-unfit : (r : State) (sets′ : List ℕ) → f ≡ false → Refusal 11 n r → AddsTest tt table count n (name ∷ []) c sets r sets′
     unfolding AddsTest takeSheetLine
     test-unfit r sets′ y q olds news edges old new suite s w for hold =
-        rw (found-only tt table count name (c .test) t et some-test olds news edges old new suite for)
+        rw (test-form, found-only tt table count name (c .test) t et some-test olds news edges old new suite for)
         (stop r w sets′ 11 n _ (true-isnt (test-are s w hold ∙ y)) q (omega arith))
 
     module _ (few : count ≤ 200) where
@@ -474,11 +536,11 @@ module _ (tt : Bytes) (table : List ℕ) (count n : ℕ) (name : Bytes) (c : Sta
             };
           }
 
-      pub test-more : (sets′ : List ℕ) → f ≡ true → 20 ≤ length sets → sets′ ≡ withBit sets (1023 + t) → AddsTest tt table count n name c sets withTest sets′
+      pub test-more : (sets′ : List ℕ) → f ≡ true → 20 ≤ length sets → sets′ ≡ withBit sets (1023 + t) → AddsTest tt table count n (name ∷ []) c sets withTest sets′
       unfolding AddsTest takeSheetLine
       test-more sets′ y long es olds news edges old new suite s w for hold =
           let q : 1024 + (t - 1) ≡ 1023 + t = omega arith in
-          rw (found-only tt table count name (c .test) t et some-test olds news edges old new suite for)
+          rw (test-form, found-only tt table count name (c .test) t et some-test olds news edges old new suite for)
           (go-on withTest w sets′ 11 n _ (false-isnt (test-are s w hold ∙ y))
           (refl, refl, subst (λ (k : List ℕ). Holds w k withTest (addR (t - 1) s)) (ap (withBit sets) q ∙ sym es) (held-test s w long hold)))
 
@@ -496,56 +558,103 @@ module _ (tt : Bytes) (table : List ℕ) (count n : ℕ) (name : Bytes) (c : Sta
 pub test-count : (c : State) → Small c → c .tests + 1 < 18446744073709551616
 test-count c h = omega (arith, h .few-tests, h .low-test)
 
-pub ruleset tests = (test-bit, test-unknown, test-unfit, test-more, test-small, test-count)
+pub ruleset tests = (test-no, test-bit, test-unknown, test-unfit, test-more, test-small, test-count)
+
+-- ---- `end_line`
+
+module _ (n : ℕ) (s a : Bytes) (c : State) (ea : a ≡ take (span 44 s) s) where
+  pub end-first : (r : State) → length s ≤ length a → Refusal 2 n r → Ends n (split 44 s) c r
+  unfolding Ends takeSheetLine
+  end-first r h q old new suite k w sets hold =
+      rw (ap (λ (ps : List Bytes). sheetForm (bytes "end" ∷ ps)) (first-last 44 s a ea h) ∙ end-one s) (q .number-is, q .place-is, omega arith)
+
+  module _ (m b : Bytes) (h : length a < length s) (em : m ≡ drop (length a + 1) s) (eb : b ≡ take (span 44 m) m) where
+    pub end-second : (r : State) → length m ≤ length b → Refusal 2 n r → Ends n (split 44 s) c r
+    unfolding Ends takeSheetLine
+    end-second r l q old new suite k w sets hold =
+        rw (ap (λ (ps : List Bytes). sheetForm (bytes "end" ∷ ps)) (first-more 44 s a ea m h em ∙ ap (λ (ps : List Bytes). a ∷ ps) (first-last 44 m b eb l)) ∙ end-two a m)
+        (q .number-is, q .place-is, omega arith)
+
+    pub end-fields : (d : Bytes) (r : State) → length b < length m → d ≡ drop (length b + 1) m → Ends n (a ∷ b ∷ d ∷ []) c r → Ends n (split 44 s) c r
+    unfolding Ends
+    end-fields d r l ed q old new suite k w sets hold =
+        rw (ap (λ (ps : List Bytes). sheetForm (bytes "end" ∷ ps)) (first-more 44 s a ea m h em ∙ ap (λ (ps : List Bytes). a ∷ ps) (first-more 44 m b eb d l ed)) ∙ end-whole a b d)
+        (q old new suite k w sets hold)
 
 -- ---- `end`
 
-module _ (n a b d : ℕ) (c : State) (t : Bool) (small : Small c) (et : t ≡ endFits a b d c) where
-  end-are : (s : SheetRead) (w sets : List ℕ) (x y z : Bytes) → a ≡ kept x → b ≡ kept y → d ≡ kept z → Holds w sets c s
-      → (going s and eqb (value x) (length (s .claims .M)) and eqb (value y) (length (s .claims .D)) and eqb (value z) (length (s .claims .R))) ≡ t
-  end-are s w sets x y z ea eb ed hold =
-      sym (end-fits-is w sets c s hold x y z small)
-      ∙ ap₂ (λ (i j : ℕ). endFits i j (kept z) c) (sym ea) (sym eb)
-      ∙ ap (λ (k : ℕ). endFits a b k c) (sym ed)
-      ∙ sym et
-
-  pub end-unfit : (r : State) → t ≡ false → Refusal 11 n r → Ends n a b d c r
+module _ (n : ℕ) (a b d : Bytes) (c : State) where
+  -- A field is no number.
+  end-no : (r : State) → (isNumber a and isNumber b and isNumber d) ≡ false → Refusal 2 n r → Ends n (a ∷ b ∷ d ∷ []) c r
   unfolding Ends takeSheetLine
-  end-unfit r y q old new suite s w sets x z v ea eb ed hold = stop r w sets 11 n _ (true-isnt (end-are s w sets x z v ea eb ed hold ∙ y)) q (omega arith)
+  end-no r e q old new suite s w sets hold = rw (end-none a b d e) (q .number-is, q .place-is, omega arith)
 
-  -- The state with the last line more.
-  abbrev withEnd : State
-  withEnd =
-      record { number = 0; place = 0; opened = c .opened; shut = true; pairs = c .pairs; edges = c .edges; tests = c .tests; pair = c .pair; edge = c .edge; test = c .test }
+  module _ (i : ℕ) (ei : i ≡ numberOf a) where
+    pub end-pairs : (r : State) → 65536 < i → Refusal 2 n r → Ends n (a ∷ b ∷ d ∷ []) c r
+    unfolding _and_
+    end-pairs r h q = end-no r (simp (no-number a i ei h)) q
 
-  pub end-last : t ≡ true → Ends n a b d c withEnd
-  unfolding Ends takeSheetLine
-  end-last y old new suite s w sets x z v ea eb ed hold =
-      go-on withEnd w sets 11 n _ (false-isnt (end-are s w sets x z v ea eb ed hold ∙ y)) (
-        refl,
-        refl,
-        record {
-          opened-is = hold .opened-is;
-          shut-is = refl;
-          pairs-n = hold .pairs-n;
-          edges-n = hold .edges-n;
-          tests-n = hold .tests-n;
-          pair-next = hold .pair-next;
-          edge-next = hold .edge-next;
-          test-next = hold .test-next;
-          held = hold .held;
-        },
-      )
+    module _ (hi : i ≤ 65536) (j : ℕ) (ej : j ≡ numberOf b) where
+      pub end-edges : (r : State) → 65536 < j → Refusal 2 n r → Ends n (a ∷ b ∷ d ∷ []) c r
+      unfolding _and_
+      end-edges r h q = end-no r (simp (a-number a i ei hi, no-number b j ej h)) q
 
-  pub end-small : Small withEnd
-  end-small =
-      record {
-        few-pairs = small .few-pairs;
-        low-pair = small .low-pair;
-        few-edges = small .few-edges;
-        low-edge = small .low-edge;
-        few-tests = small .few-tests;
-        low-test = small .low-test;
-      }
+      module _ (hj : j ≤ 65536) (k : ℕ) (ek : k ≡ numberOf d) where
+        pub end-tests : (r : State) → 65536 < k → Refusal 2 n r → Ends n (a ∷ b ∷ d ∷ []) c r
+        unfolding _and_
+        end-tests r h q = end-no r (simp (a-number a i ei hi, a-number b j ej hj, no-number d k ek h)) q
 
-pub ruleset ends = (end-unfit, end-last, end-small)
+        module _ (hk : k ≤ 65536) (t : Bool) (small : Small c) (et : t ≡ endFits i j k c) where
+          end-form : sheetForm (bytes "end" ∷ a ∷ b ∷ d ∷ []) ≡ end-line a b d
+          end-form = end-is a b d (a-number a i ei hi) (a-number b j ej hj) (a-number d k ek hk)
+
+          -- The definition's test, by the code's.
+          end-are : (s : SheetRead) (w sets : List ℕ) → Holds w sets c s
+              → (going s and eqb (value a) (length (s .claims .M)) and eqb (value b) (length (s .claims .D)) and eqb (value d) (length (s .claims .R))) ≡ t
+          end-are s w sets hold =
+              sym (end-fits-is w sets c s hold a b d small)
+              ∙ ap₂ (λ (x y : ℕ). endFits x y (kept d) c) (sym (number-kept a i ei hi)) (sym (number-kept b j ej hj))
+              ∙ ap (λ (x : ℕ). endFits i j x c) (sym (number-kept d k ek hk))
+              ∙ sym et
+
+          pub end-unfit : (r : State) → t ≡ false → Refusal 11 n r → Ends n (a ∷ b ∷ d ∷ []) c r
+          unfolding Ends takeSheetLine
+          end-unfit r y q old new suite s w sets hold = rw end-form (stop r w sets 11 n _ (true-isnt (end-are s w sets hold ∙ y)) q (omega arith))
+
+          -- The state with the last line more.
+          abbrev withEnd : State
+          withEnd =
+              record { number = 0; place = 0; opened = c .opened; shut = true; pairs = c .pairs; edges = c .edges; tests = c .tests; pair = c .pair; edge = c .edge; test = c .test }
+
+          pub end-last : t ≡ true → Ends n (a ∷ b ∷ d ∷ []) c withEnd
+          unfolding Ends takeSheetLine
+          end-last y old new suite s w sets hold =
+              rw end-form
+              (go-on withEnd w sets 11 n _ (false-isnt (end-are s w sets hold ∙ y)) (
+                refl,
+                refl,
+                record {
+                  opened-is = hold .opened-is;
+                  shut-is = refl;
+                  pairs-n = hold .pairs-n;
+                  edges-n = hold .edges-n;
+                  tests-n = hold .tests-n;
+                  pair-next = hold .pair-next;
+                  edge-next = hold .edge-next;
+                  test-next = hold .test-next;
+                  held = hold .held;
+                },
+              ))
+
+          pub end-small : Small withEnd
+          end-small =
+              record {
+                few-pairs = small .few-pairs;
+                low-pair = small .low-pair;
+                few-edges = small .few-edges;
+                low-edge = small .low-edge;
+                few-tests = small .few-tests;
+                low-test = small .low-test;
+              }
+
+pub ruleset ends = (end-first, end-second, end-fields, end-pairs, end-edges, end-tests, end-unfit, end-last, end-small)

@@ -1,8 +1,8 @@
 -- The returns of `step`, the turns of `read_lines`, and the returns of `read_sheet`. `So` is what holds at the head of the loop, in the form of a continuation: what the
 -- whole sheet reads to is what its rest from `at` on reads to after what the state and the tables hold.
 use mathlib.Core.Path.{_≡_, refl, sym, ap, ap₂, _∙_, subst}
-use mathlib.Core.Bool.{true, false, true≢false}
-use mathlib.Core.List.{List, _∷_}
+use mathlib.Core.Bool.{Bool, true, false}
+use mathlib.Core.List.{List, [], _∷_}
 use Prim.Native.Nat.{ℕ, suc, _+_, _-_, _≤_, _<_}
 use native.Mathlib.Numerals.{add-one}
 use native.Mathlib.Omega.{arith}
@@ -13,145 +13,61 @@ use Rattle.laws.specs.Tests.{has, isnt}
 use Rattle.laws.specs.TestLaws.{true-isnt, false-isnt}
 use Rattle.laws.specs.Slices.{drop-end}
 use Rattle.laws.specs.BitSets.{clear-bits}
-use Rattle.rules.specs.Text.{Answer, Bytes, accepted, empty, joinBy, readLines, readText, refused, split, then, unless}
+use Rattle.rules.specs.Text.{Answer, Bytes, accepted, bytes, empty, readLines, readText, refused, same, split, then, unless}
 use Rattle.rules.specs.Graph.{Program}
 use Rattle.rules.specs.SuiteFile.{Suite}
-use Rattle.rules.specs.Sheet.{Sheet, SheetLine, SheetRead, d-line, end-line, finishSheet, head-line, m-line, noSheet, no-form, r-line, readSheet, sheetForm, stepSheet, takeSheetLine}
-use Rattle.rules.specs.Proofs.SheetLayout.{SheetFormed, sheet-formed}
-use Rattle.rules.specs.Proofs.TextLaws.{join-split, split-cons, empty-not}
+use Rattle.rules.specs.Sheet.{Sheet, SheetRead, finishSheet, headLine, noSheet, readSheet, sheetForm, stepSheet, takeSheetLine}
+use Rattle.rules.specs.Proofs.TextLaws.{empty-not, same-true, split-cons}
 use Rattle.text.specs.Scans.{span}
 use Rattle.text.specs.SplitLaws.{cut-at, uncut-at}
 use Rattle.pairset.specs.Store.{Emptied, Empties}
 use Rattle.pairset.specs.StoreLaws.{no-pairs}
-use Rattle.sheet_reader.specs.declared.Form.{Form}
-use Rattle.sheet_reader.specs.declared.Form.the-variants.{Edge, End, Head as First, Nothing, Pair, Test}
 use Rattle.sheet_reader.specs.declared.State.{State}
 use Rattle.sheet_reader.specs.declared.SheetRead.{SheetRead as Result}
-use Rattle.sheet_reader.specs.Forms.{kept, shape}
 use Rattle.sheet_reader.specs.Claims.{For, Reads}
 use Rattle.sheet_reader.specs.Reading.{AddsEdge, AddsPair, AddsTest, After, Ends, Finishes, Fresh, Holds, Lines, Opens, Refusal, Small, Stepped, Steps, nothingRead}
+use Rattle.sheet_reader.proofs.Forms.{d-whole, head-form, letter, none-begins, r-whole, word}
 use Rattle.sheet_reader.proofs.Orders.{pairs-up-none, up-none}
-
--- ---- the form of a line, by what is kept of it
-
-module _ (x : SheetLine) where
-  form-none : shape x ≡ Nothing → x ≡ no-form
-  unfolding shape
-  form-none = go x
-    where
-      go : (x : SheetLine) → shape x ≡ Nothing → x ≡ no-form
-      go head-line e = absurd (true≢false (let z : true ≡ false = cc in z))
-      go (m-line a b) e = absurd (true≢false (let z : true ≡ false = cc in z))
-      go (d-line a) e = absurd (true≢false (let z : true ≡ false = cc in z))
-      go (r-line a) e = absurd (true≢false (let z : true ≡ false = cc in z))
-      go (end-line a b c) e = absurd (true≢false (let z : true ≡ false = cc in z))
-      go no-form e = refl
-
-  form-head : shape x ≡ First → x ≡ head-line
-  unfolding shape
-  form-head = go x
-    where
-      go : (x : SheetLine) → shape x ≡ First → x ≡ head-line
-      go head-line e = refl
-      go (m-line a b) e = absurd (true≢false (let z : true ≡ false = cc in z))
-      go (d-line a) e = absurd (true≢false (let z : true ≡ false = cc in z))
-      go (r-line a) e = absurd (true≢false (let z : true ≡ false = cc in z))
-      go (end-line a b c) e = absurd (true≢false (let z : true ≡ false = cc in z))
-      go no-form e = absurd (true≢false (let z : true ≡ false = cc in z))
-
-  form-pair : (i j : ℕ) → shape x ≡ Pair i j → (a b : Bytes) × (x ≡ m-line a b) × (i ≡ kept a) × (j ≡ kept b)
-  unfolding shape
-  form-pair i j = go x
-    where
-      go : (x : SheetLine) → shape x ≡ Pair i j → (a b : Bytes) × (x ≡ m-line a b) × (i ≡ kept a) × (j ≡ kept b)
-      go head-line e = absurd (true≢false (let z : true ≡ false = cc in z))
-      go (m-line a b) e = (a, b, refl, cc, cc)
-      go (d-line a) e = absurd (true≢false (let z : true ≡ false = cc in z))
-      go (r-line a) e = absurd (true≢false (let z : true ≡ false = cc in z))
-      go (end-line a b c) e = absurd (true≢false (let z : true ≡ false = cc in z))
-      go no-form e = absurd (true≢false (let z : true ≡ false = cc in z))
-
-  form-edge : (i : ℕ) → shape x ≡ Edge i → (a : Bytes) × (x ≡ d-line a) × (i ≡ kept a)
-  unfolding shape
-  form-edge i = go x
-    where
-      go : (x : SheetLine) → shape x ≡ Edge i → (a : Bytes) × (x ≡ d-line a) × (i ≡ kept a)
-      go head-line e = absurd (true≢false (let z : true ≡ false = cc in z))
-      go (m-line a b) e = absurd (true≢false (let z : true ≡ false = cc in z))
-      go (d-line a) e = (a, refl, cc)
-      go (r-line a) e = absurd (true≢false (let z : true ≡ false = cc in z))
-      go (end-line a b c) e = absurd (true≢false (let z : true ≡ false = cc in z))
-      go no-form e = absurd (true≢false (let z : true ≡ false = cc in z))
-
-  form-test : shape x ≡ Test → (a : Bytes) × (x ≡ r-line a)
-  unfolding shape
-  form-test = go x
-    where
-      go : (x : SheetLine) → shape x ≡ Test → (a : Bytes) × (x ≡ r-line a)
-      go head-line e = absurd (true≢false (let z : true ≡ false = cc in z))
-      go (m-line a b) e = absurd (true≢false (let z : true ≡ false = cc in z))
-      go (d-line a) e = absurd (true≢false (let z : true ≡ false = cc in z))
-      go (r-line a) e = (a, refl)
-      go (end-line a b c) e = absurd (true≢false (let z : true ≡ false = cc in z))
-      go no-form e = absurd (true≢false (let z : true ≡ false = cc in z))
-
-  form-end : (i j k : ℕ) → shape x ≡ End i j k → (a b c : Bytes) × (x ≡ end-line a b c) × (i ≡ kept a) × (j ≡ kept b) × (k ≡ kept c)
-  unfolding shape
-  form-end i j k = go x
-    where
-      go : (x : SheetLine) → shape x ≡ End i j k → (a b c : Bytes) × (x ≡ end-line a b c) × (i ≡ kept a) × (j ≡ kept b) × (k ≡ kept c)
-      go head-line e = absurd (true≢false (let z : true ≡ false = cc in z))
-      go (m-line a b) e = absurd (true≢false (let z : true ≡ false = cc in z))
-      go (d-line a) e = absurd (true≢false (let z : true ≡ false = cc in z))
-      go (r-line a) e = absurd (true≢false (let z : true ≡ false = cc in z))
-      go (end-line a b c) e = (a, b, c, refl, cc, cc, cc)
-      go no-form e = absurd (true≢false (let z : true ≡ false = cc in z))
-
--- The name of an R line stands behind its first comma.
-r-name : (line name : Bytes) → sheetForm (split 44 line) ≡ r-line name → drop 2 line ≡ name
-unfolding joinBy
-r-name line name e =
-    ap (drop 2) (sym (join-split 44 line) ∙ ap (joinBy 44) (subst (λ (x : SheetLine). SheetFormed (split 44 line) x) e (sheet-formed (split 44 line))))
 
 -- ---- `step`
 
-module _ (olds news edges : ℕ) (tt : Bytes) (table : List ℕ) (count n : ℕ) (line : Bytes) (c : State) (w sets : List ℕ) (form : Form) (ef : form ≡ shape (sheetForm (split 44 line))) where
-  pub step-none : (r : State) (w′ sets′ : List ℕ) → form ≡ Nothing → Refusal 2 n r → Steps olds news edges tt table count n line c w sets r w′ sets′
-  unfolding Steps stepSheet takeSheetLine
-  step-none r w′ sets′ e q old new suite s at for hold =
-      rw (form-none (sheetForm (split 44 line)) (sym ef ∙ e)) (q .number-is, q .place-is, omega arith)
+module _ (olds news edges : ℕ) (tt : Bytes) (table : List ℕ) (count n : ℕ) (line : Bytes) (c : State) (w sets : List ℕ) (f : Bytes) where
+  module _ (rest : Bytes) (t : Bool) (y : t ≡ true) where
+    module _ (ef : f ≡ take 2 line) (er : rest ≡ drop 2 line) where
+      pub step-pair : (r : State) (w′ : List ℕ) → t ≡ same f (bytes "M,") → AddsPair olds news n (split 44 rest) c w r w′ → Steps olds news edges tt table count n line c w sets r w′ sets
+      unfolding Steps stepSheet AddsPair
+      step-pair r w′ e q old new suite s at for hold =
+          rw (letter line f rest ef er 77 refl (sym e ∙ y)) (q old new suite s sets (for .old-nodes) (for .new-nodes) hold)
 
-  pub step-head : (r : State) → form ≡ First → Opens n c r → Steps olds news edges tt table count n line c w sets r w sets
-  unfolding Steps stepSheet Opens
-  step-head r e q old new suite s at for hold = rw (form-head (sheetForm (split 44 line)) (sym ef ∙ e)) (q old new suite s w sets hold)
+      pub step-edge : (r : State) (sets′ : List ℕ) → t ≡ same f (bytes "D,") → AddsEdge edges n (rest ∷ []) c sets r sets′ → Steps olds news edges tt table count n line c w sets r w sets′
+      unfolding Steps stepSheet AddsEdge
+      step-edge r sets′ e q old new suite s at for hold =
+          rw (ap sheetForm (letter line f rest ef er 68 refl (sym e ∙ y)) ∙ d-whole rest) (q old new suite s w (for .old-edges) hold)
 
-  pub step-pair : (r : State) (w′ : List ℕ) (i j : ℕ) → form ≡ Pair i j → AddsPair olds news n i j c w r w′ → Steps olds news edges tt table count n line c w sets r w′ sets
-  unfolding Steps stepSheet AddsPair
-  step-pair r w′ i j e q old new suite s at for hold =
-      let f = form-pair (sheetForm (split 44 line)) i j (sym ef ∙ e) in
-      rw (f .2) (q old new suite s sets (f .0) (f .1) (for .old-nodes) (for .new-nodes) (f .3) (f .4) hold)
+      pub step-test : (r : State) (sets′ : List ℕ) → t ≡ same f (bytes "R,") → AddsTest tt table count n (rest ∷ []) c sets r sets′
+          → Steps olds news edges tt table count n line c w sets r w sets′
+      unfolding Steps stepSheet AddsTest
+      step-test r sets′ e q old new suite s at for hold =
+          rw (ap sheetForm (letter line f rest ef er 82 refl (sym e ∙ y)) ∙ r-whole rest) (q olds news edges old new suite s w for hold)
 
-  pub step-edge : (r : State) (sets′ : List ℕ) (i : ℕ) → form ≡ Edge i → AddsEdge edges n i c sets r sets′ → Steps olds news edges tt table count n line c w sets r w sets′
-  unfolding Steps stepSheet AddsEdge
-  step-edge r sets′ i e q old new suite s at for hold =
-      let f = form-edge (sheetForm (split 44 line)) i (sym ef ∙ e) in
-      rw (f .1) (q old new suite s w (f .0) (for .old-edges) (f .2) hold)
+    pub step-end : (r : State) → f ≡ take 4 line → rest ≡ drop 4 line → t ≡ same f (bytes "end,") → Ends n (split 44 rest) c r
+        → Steps olds news edges tt table count n line c w sets r w sets
+    unfolding Steps stepSheet Ends
+    step-end r ef er e q old new suite s at for hold = rw (word line f rest ef er (sym e ∙ y)) (q old new suite s w sets hold)
 
-  pub step-test : (r : State) (sets′ : List ℕ) (name : Bytes) → form ≡ Test → name ≡ drop 2 line → AddsTest tt table count n name c sets r sets′
-      → Steps olds news edges tt table count n line c w sets r w sets′
-  unfolding Steps stepSheet AddsTest
-  step-test r sets′ name e en q old new suite s at for hold =
-      let f = form-test (sheetForm (split 44 line)) (sym ef ∙ e) in
-      let is : name ≡ f .0 = en ∙ r-name line (f .0) (f .1) in
-      rw (f .1) (subst (λ (x : Bytes). After (takeSheetLine old new suite n s (r-line x)) r w sets′) is (q olds news edges old new suite s w for hold))
+  module _ (t : Bool) (et : t ≡ same line headLine) where
+    pub step-head : (r : State) → t ≡ true → Opens n c r → Steps olds news edges tt table count n line c w sets r w sets
+    unfolding Steps stepSheet Opens
+    step-head r y q old new suite s at for hold =
+        rw (ap (λ (l : Bytes). sheetForm (split 44 l)) (same-true line headLine (sym et ∙ y)) ∙ head-form) (q old new suite s w sets hold)
 
-  pub step-end : (r : State) (i j k : ℕ) → form ≡ End i j k → Ends n i j k c r → Steps olds news edges tt table count n line c w sets r w sets
-  unfolding Steps stepSheet Ends
-  step-end r i j k e q old new suite s at for hold =
-      let f = form-end (sheetForm (split 44 line)) i j k (sym ef ∙ e) in
-      rw (f .3) (q old new suite s w sets (f .0) (f .1) (f .2) (f .4) (f .5) (f .6) hold)
+    pub step-none : (g : Bytes) (m d e u : Bool) (r : State) → f ≡ take 2 line → g ≡ take 4 line → m ≡ same f (bytes "M,") → m ≡ false → d ≡ same f (bytes "D,") → d ≡ false → e ≡ same f (bytes "R,") → e ≡ false
+        → u ≡ same g (bytes "end,") → u ≡ false → t ≡ false → Refusal 2 n r → Steps olds news edges tt table count n line c w sets r w sets
+    unfolding Steps stepSheet takeSheetLine
+    step-none g m d e u r ef eg em nm ed nd ee ne eu nu nt q old new suite s at for hold =
+        rw (none-begins line f g ef eg (sym em ∙ nm) (sym ed ∙ nd) (sym ee ∙ ne) (sym eu ∙ nu) (sym et ∙ nt)) (q .number-is, q .place-is, omega arith)
 
-pub ruleset steps = (step-none, step-head, step-pair, step-edge, step-test, step-end)
+pub ruleset steps = (step-pair, step-edge, step-test, step-end, step-head, step-none)
 
 -- ---- `finish`
 

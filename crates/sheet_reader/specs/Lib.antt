@@ -1,4 +1,3 @@
--- What is kept of a sheet, what the functions claim, and what that says of the sheet.
-pub mod Forms
+-- What a sheet's reader promises, what is kept while it reads, and what its inner functions claim.
 pub mod Claims
 pub mod Reading

@@ -1,21 +1,20 @@
 -- What the reader of sheets keeps while it reads, and what its inner functions claim.
 use mathlib.Core.Path.{_≡_}
 use mathlib.Core.Bool.{Bool, false}
-use mathlib.Core.List.{List}
+use mathlib.Core.List.{List, _∷_}
 use Prim.Native.Nat.{ℕ, _+_, _*_, _≤_, _<_}
 use lib.Dec.{eqb, leb, ltb}
 use lib.ListN.{length}
 use Rattle.laws.specs.Tests.{_and_, first, found, isnt}
 use Rattle.laws.specs.Bits.{bitIn}
-use Rattle.rules.specs.Text.{Answer, Bytes, accepted, linesOf, readLines, refused, same}
+use Rattle.rules.specs.Text.{Answer, Bytes, accepted, bytes, linesOf, readLines, refused, same}
 use Rattle.rules.specs.Graph.{Program, edgeCount, nodeCount}
 use Rattle.rules.specs.SuiteFile.{Suite}
-use Rattle.rules.specs.Sheet.{SheetRead, allBelow, d-line, end-line, finishSheet, head-line, m-line, noSheet, pairsBefore, r-line, stepSheet, takeSheetLine}
+use Rattle.rules.specs.Sheet.{SheetRead, allBelow, finishSheet, head-line, noSheet, pairsBefore, sheetForm, stepSheet, takeSheetLine}
 use Rattle.pairset.specs.Store.{Store}
 use Rattle.suite.specs.Reading.{nameAt}
 use Rattle.sheet_reader.specs.declared.State.{State}
 use Rattle.sheet_reader.specs.declared.SheetRead.{SheetRead as Result}
-use Rattle.sheet_reader.specs.Forms.{kept}
 use Rattle.sheet_reader.specs.Claims.{ClaimsHeld, For, Told}
 
 -- ---- what was read so far
@@ -48,7 +47,7 @@ pub record Holds (w sets : List ℕ) (c : State) (s : SheetRead) : Type 0 where
   pub test-next : UpTo (s .claims .R) (c .test)
   pub held : ClaimsHeld w sets (c .pairs) (s .claims)
 
--- An answer against the definition's.
+-- An answer against the definition's. What the tables hold after a refusal is left open.
 abbrev pub After : Answer SheetRead → State → List ℕ → List ℕ → Type 0
 After (refused k p) r w sets = (r .number ≡ k) × (r .place ≡ p) × (0 < k)
 After (accepted s) r w sets = (r .number ≡ 0) × (r .place ≡ 0) × Holds w sets r s
@@ -86,6 +85,7 @@ endFits a b d c = underway c and eqb a (c .pairs) and eqb b (c .edges) and eqb d
 
 -- ---- a line: whatever was read before it, the answer is the definition's
 
+-- `open`
 unfoldable pub Opens : ℕ → State → State → Type 0
 Opens n c r = (old new : Program) (suite : Suite) (s : SheetRead) (w sets : List ℕ) → Holds w sets c s → After (takeSheetLine old new suite n s head-line) r w sets
 
@@ -93,40 +93,43 @@ pub record Opened (n : ℕ) (c r : State) : Type 0 where
   pub opens : Opens n c r
   pub small : Small r
 
-unfoldable pub AddsPair : ℕ → ℕ → ℕ → ℕ → ℕ → State → List ℕ → State → List ℕ → Type 0
-AddsPair olds news n a b c w r w′ =
-    (old new : Program) (suite : Suite) (s : SheetRead) (sets : List ℕ) (x y : Bytes) → olds ≡ nodeCount old → news ≡ nodeCount new → a ≡ kept x → b ≡ kept y → Holds w sets c s
-    → After (takeSheetLine old new suite n s (m-line x y)) r w′ sets
+-- `pair_line` and `add_pair`; here and below ps are the fields behind the first.
+unfoldable pub AddsPair : ℕ → ℕ → ℕ → List Bytes → State → List ℕ → State → List ℕ → Type 0
+AddsPair olds news n ps c w r w′ =
+    (old new : Program) (suite : Suite) (s : SheetRead) (sets : List ℕ) → olds ≡ nodeCount old → news ≡ nodeCount new → Holds w sets c s
+    → After (takeSheetLine old new suite n s (sheetForm (bytes "M" ∷ ps))) r w′ sets
 
-pub record AddedPair (olds news n a b : ℕ) (c : State) (w : List ℕ) (r : State) (w′ : List ℕ) : Type 0 where
-  pub adds : AddsPair olds news n a b c w r w′
+pub record AddedPair (olds news n : ℕ) (ps : List Bytes) (c : State) (w : List ℕ) (r : State) (w′ : List ℕ) : Type 0 where
+  pub adds : AddsPair olds news n ps c w r w′
   pub small : Small r
 
-unfoldable pub AddsEdge : ℕ → ℕ → ℕ → State → List ℕ → State → List ℕ → Type 0
-AddsEdge edges n e c sets r sets′ =
-    (old new : Program) (suite : Suite) (s : SheetRead) (w : List ℕ) (x : Bytes) → edges ≡ edgeCount old → e ≡ kept x → Holds w sets c s
-    → After (takeSheetLine old new suite n s (d-line x)) r w sets′
+-- `add_edge`
+unfoldable pub AddsEdge : ℕ → ℕ → List Bytes → State → List ℕ → State → List ℕ → Type 0
+AddsEdge edges n ps c sets r sets′ =
+    (old new : Program) (suite : Suite) (s : SheetRead) (w : List ℕ) → edges ≡ edgeCount old → Holds w sets c s
+    → After (takeSheetLine old new suite n s (sheetForm (bytes "D" ∷ ps))) r w sets′
 
-pub record AddedEdge (edges n e : ℕ) (c : State) (sets : List ℕ) (r : State) (sets′ : List ℕ) : Type 0 where
-  pub adds : AddsEdge edges n e c sets r sets′
+pub record AddedEdge (edges n : ℕ) (ps : List Bytes) (c : State) (sets : List ℕ) (r : State) (sets′ : List ℕ) : Type 0 where
+  pub adds : AddsEdge edges n ps c sets r sets′
   pub small : Small r
 
-unfoldable pub AddsTest : Bytes → List ℕ → ℕ → ℕ → Bytes → State → List ℕ → State → List ℕ → Type 0
-AddsTest tt table count n name c sets r sets′ =
+-- `add_test`
+unfoldable pub AddsTest : Bytes → List ℕ → ℕ → ℕ → List Bytes → State → List ℕ → State → List ℕ → Type 0
+AddsTest tt table count n ps c sets r sets′ =
     (olds news edges : ℕ) (old new : Program) (suite : Suite) (s : SheetRead) (w : List ℕ) → For olds news edges tt table count old new suite → Holds w sets c s
-    → After (takeSheetLine old new suite n s (r-line name)) r w sets′
+    → After (takeSheetLine old new suite n s (sheetForm (bytes "R" ∷ ps))) r w sets′
 
-pub record AddedTest (tt : Bytes) (table : List ℕ) (count n : ℕ) (name : Bytes) (c : State) (sets : List ℕ) (r : State) (sets′ : List ℕ) : Type 0 where
-  pub adds : AddsTest tt table count n name c sets r sets′
+pub record AddedTest (tt : Bytes) (table : List ℕ) (count n : ℕ) (ps : List Bytes) (c : State) (sets : List ℕ) (r : State) (sets′ : List ℕ) : Type 0 where
+  pub adds : AddsTest tt table count n ps c sets r sets′
   pub small : Small r
 
-unfoldable pub Ends : ℕ → ℕ → ℕ → ℕ → State → State → Type 0
-Ends n a b d c r =
-    (old new : Program) (suite : Suite) (s : SheetRead) (w sets : List ℕ) (x y z : Bytes) → a ≡ kept x → b ≡ kept y → d ≡ kept z → Holds w sets c s
-    → After (takeSheetLine old new suite n s (end-line x y z)) r w sets
+-- `end_line` and `end`
+unfoldable pub Ends : ℕ → List Bytes → State → State → Type 0
+Ends n ps c r =
+    (old new : Program) (suite : Suite) (s : SheetRead) (w sets : List ℕ) → Holds w sets c s → After (takeSheetLine old new suite n s (sheetForm (bytes "end" ∷ ps))) r w sets
 
-pub record Ended (n a b d : ℕ) (c r : State) : Type 0 where
-  pub ends : Ends n a b d c r
+pub record Ended (n : ℕ) (ps : List Bytes) (c r : State) : Type 0 where
+  pub ends : Ends n ps c r
   pub small : Small r
 
 -- `step`

@@ -4,10 +4,8 @@ ghost use mathlib.Core.List.{_∷_, []};
 ghost use Prim.Native.Nat.{_≤_};
 ghost use lib.ListN.{length, replicate};
 ghost use Rattle.laws.specs.BitSets.{withBit};
-ghost use Rattle.rules.specs.Text.{fieldsOf, split};
-ghost use Rattle.rules.specs.Sheet.{sheetForm};
+ghost use Rattle.rules.specs.Text.{split};
 ghost use Rattle.sheet_reader.specs.Claims.{SheetTold};
-ghost use Rattle.sheet_reader.specs.Forms.{shape};
 ghost use Rattle.sheet_reader.specs.Reading.{
   AddedEdge,
   AddedPair,
@@ -47,113 +45,6 @@ pub struct State {
     pub pair: usize,
     pub edge: usize,
     pub test: usize,
-}
-
-// What a line says, by its form and its numbers; a number above 65,536 counts as 65,536.
-pub enum Form {
-    Nothing,
-    Head,
-    // the old node and the new one
-    Pair(usize, usize),
-    Edge(usize),
-    Test,
-    // how many pairs, edges and tests
-    End(usize, usize, usize),
-}
-
-// ---- a line
-
-// What an M line says, by what stands behind its first comma. A number has no comma, so the second field is all the rest.
-fn pair(s: &[u8]) -> Form
-    ensures { λ r. ⌜ r ≡ shape (sheetForm ((77 ∷ []) ∷ split 44 (now (s .entry)))) ⌝ }
-{
-    let a = text::first_short(s, 44);
-    if s.len() <= a.len() {
-        return Form::Nothing;
-    }
-    let i = text::number(a);
-    if 65536 < i {
-        return Form::Nothing;
-    }
-    let j = text::number(text::after(s, a.len() + 1));
-    if 65536 < j {
-        return Form::Nothing;
-    }
-    Form::Pair(i, j)
-}
-
-// The same of a D line.
-fn edge(s: &[u8]) -> Form
-    ensures { λ r. ⌜ r ≡ shape (sheetForm ((68 ∷ []) ∷ split 44 (now (s .entry)))) ⌝ }
-{
-    let e = text::number(s);
-    if 65536 < e {
-        return Form::Nothing;
-    }
-    Form::Edge(e)
-}
-
-// The same of an R line.
-fn test(s: &[u8]) -> Form
-    ensures { λ r. ⌜ r ≡ shape (sheetForm ((82 ∷ []) ∷ split 44 (now (s .entry)))) ⌝ }
-{
-    if text::is_name(s) {
-        return Form::Test;
-    }
-    Form::Nothing
-}
-
-// The same of the last line.
-fn last(s: &[u8]) -> Form
-    ensures { λ r. ⌜ r ≡ shape (sheetForm ((101 ∷ 110 ∷ 100 ∷ []) ∷ split 44 (now (s .entry)))) ⌝ }
-{
-    let a = text::first_short(s, 44);
-    if s.len() <= a.len() {
-        return Form::Nothing;
-    }
-    let rest = text::after(s, a.len() + 1);
-    let b = text::first_short(rest, 44);
-    if rest.len() <= b.len() {
-        return Form::Nothing;
-    }
-    let c = text::after(rest, b.len() + 1);
-    let i = text::number(a);
-    if 65536 < i {
-        return Form::Nothing;
-    }
-    let j = text::number(b);
-    if 65536 < j {
-        return Form::Nothing;
-    }
-    let k = text::number(c);
-    if 65536 < k {
-        return Form::Nothing;
-    }
-    Form::End(i, j, k)
-}
-
-// What a line says.
-fn form_of(l: &[u8]) -> Form
-    ensures { λ r. ⌜ r ≡ shape (sheetForm (fieldsOf (now (l .entry)))) ⌝ }
-{
-    let f = text::front(l, 2);
-    let rest = text::after(l, 2);
-    if text::same(f, b"M,") {
-        return pair(rest);
-    }
-    if text::same(f, b"D,") {
-        return edge(rest);
-    }
-    if text::same(f, b"R,") {
-        return test(rest);
-    }
-    if text::same(text::front(l, 4), b"end,") {
-        return last(text::after(l, 4));
-    }
-    if text::same(l, &text::SHEET_HEAD) {
-        return Form::Head;
-    }
-    Form::Nothing
 }
 
 // ---- bits and names
@@ -196,7 +87,7 @@ fn test_from(tt: &[u8], tests: &[usize], k: usize, count: usize, name: &[u8]) ->
     0
 }
 
-// ---- a line behind those that were read
+// ---- what was read
 
 // A refusal, by number and place.
 fn refuse(number: usize, place: usize) -> State
@@ -249,6 +140,8 @@ fn underway(had: State) -> bool
     false
 }
 
+// ---- a line, by its fields
+
 // The first line.
 fn open(n: usize, had: State) -> State
     requires { ⌜ Small had ⌝ }
@@ -298,26 +191,34 @@ fn pair_fits(olds: usize, news: usize, a: usize, b: usize, had: State) -> bool
     false
 }
 
-// An M line.
+// An M line of the fields a and b. What the table holds after a refusal is left open.
 fn add_pair(
     olds: usize,
     news: usize,
     n: usize,
-    a: usize,
-    b: usize,
+    a: &[u8],
+    b: &[u8],
     had: State,
     w: &mut [usize],
 ) -> State
     requires { ⌜ Small had ⌝ }
     requires { ⌜ (olds ≤ 512) × (news ≤ 512) × (16912 ≤ length (now w)) ⌝ }
-    ensures { λ r. ⌜ AddedPair olds news n a b had (now (w .entry)) r (now (w .exit)) ⌝ }
+    ensures { λ r. ⌜ AddedPair olds news n (now (a .entry) ∷ (now (b .entry) ∷ [])) had (now (w .entry)) r (now (w .exit)) ⌝ }
 {
+    let i = text::number(a);
+    if 65536 < i {
+        return refuse(2, n);
+    }
+    let j = text::number(b);
+    if 65536 < j {
+        return refuse(2, n);
+    }
     let pairs = had.pairs;
     if 4096 <= pairs {
         return refuse(4, n);
     }
-    if pair_fits(olds, news, a, b, had) {
-        pairset::append(w, pairs, a, b);
+    if pair_fits(olds, news, i, j, had) {
+        pairset::append(w, pairs, i, j);
         return State {
             number: 0,
             place: 0,
@@ -326,12 +227,27 @@ fn add_pair(
             pairs: pairs + 1,
             edges: had.edges,
             tests: had.tests,
-            pair: 512 * a + b + 1,
+            pair: 512 * i + j + 1,
             edge: had.edge,
             test: had.test,
         };
     }
     refuse(11, n)
+}
+
+// An M line, by what stands behind its first comma. A number has no comma, so the second field is all that stands behind the next one. What
+// the table holds after a refusal is left open.
+fn pair_line(olds: usize, news: usize, n: usize, rest: &[u8], had: State, w: &mut [usize]) -> State
+    requires { ⌜ Small had ⌝ }
+    requires { ⌜ (olds ≤ 512) × (news ≤ 512) × (16912 ≤ length (now w)) ⌝ }
+    ensures { λ r. ⌜ AddedPair olds news n (split 44 (now (rest .entry))) had (now (w .entry)) r (now (w .exit)) ⌝ }
+{
+    let a = text::first_short(rest, 44);
+    if rest.len() <= a.len() {
+        return refuse(2, n);
+    }
+    let b = text::after(rest, a.len() + 1);
+    add_pair(olds, news, n, a, b, had, w)
 }
 
 // Whether the edge e may come next, where there are so many old edges.
@@ -352,15 +268,19 @@ fn edge_fits(edges: usize, e: usize, had: State) -> bool
     false
 }
 
-// A D line.
-fn add_edge(edges: usize, n: usize, e: usize, had: State, sets: &mut [u64]) -> State
+// A D line of the field e. What the set holds after a refusal is left open.
+fn add_edge(edges: usize, n: usize, e: &[u8], had: State, sets: &mut [u64]) -> State
     requires { ⌜ Small had ⌝ }
     requires { ⌜ (edges ≤ 1024) × (20 ≤ length (now sets)) ⌝ }
-    ensures { λ r. ⌜ AddedEdge edges n e had (now (sets .entry)) r (now (sets .exit)) ⌝ }
+    ensures { λ r. ⌜ AddedEdge edges n (now (e .entry) ∷ []) had (now (sets .entry)) r (now (sets .exit)) ⌝ }
 {
+    let i = text::number(e);
+    if 65536 < i {
+        return refuse(2, n);
+    }
     let listed = had.edges;
-    if edge_fits(edges, e, had) {
-        set_bit(sets, e);
+    if edge_fits(edges, i, had) {
+        set_bit(sets, i);
         return State {
             number: 0,
             place: 0,
@@ -370,14 +290,15 @@ fn add_edge(edges: usize, n: usize, e: usize, had: State, sets: &mut [u64]) -> S
             edges: listed + 1,
             tests: had.tests,
             pair: had.pair,
-            edge: e + 1,
+            edge: i + 1,
             test: had.test,
         };
     }
     refuse(11, n)
 }
 
-// An R line. The tests come in order, so the name is sought from the least that may come next.
+// An R line of the field `name`. The tests come in order, so the name is sought from the least that may come next. What the set holds after a
+// refusal is left open.
 fn add_test(
     tt: &[u8],
     tests: &[usize],
@@ -389,29 +310,32 @@ fn add_test(
 ) -> State
     requires { ⌜ Small had ⌝ }
     requires { ⌜ (count ≤ 200) × (20 ≤ length (now sets)) ⌝ }
-    ensures { λ r. ⌜ AddedTest (now (tt .entry)) (now (tests .entry)) count n (now (name .entry)) had (now (sets .entry)) r (now (sets .exit)) ⌝ }
+    ensures { λ r. ⌜ AddedTest (now (tt .entry)) (now (tests .entry)) count n (now (name .entry) ∷ []) had (now (sets .entry)) r (now (sets .exit)) ⌝ }
 {
-    let listed = had.tests;
-    let t = test_from(tt, tests, had.test, count, name);
-    if t < 1 {
+    if text::is_name(name) {
+        let listed = had.tests;
+        let t = test_from(tt, tests, had.test, count, name);
+        if t < 1 {
+            return refuse(11, n);
+        }
+        if underway(had) {
+            set_bit(sets, 1023 + t);
+            return State {
+                number: 0,
+                place: 0,
+                opened: had.opened,
+                shut: had.shut,
+                pairs: had.pairs,
+                edges: had.edges,
+                tests: listed + 1,
+                pair: had.pair,
+                edge: had.edge,
+                test: t,
+            };
+        }
         return refuse(11, n);
     }
-    if underway(had) {
-        set_bit(sets, 1023 + t);
-        return State {
-            number: 0,
-            place: 0,
-            opened: had.opened,
-            shut: had.shut,
-            pairs: had.pairs,
-            edges: had.edges,
-            tests: listed + 1,
-            pair: had.pair,
-            edge: had.edge,
-            test: t,
-        };
-    }
-    refuse(11, n)
+    refuse(2, n)
 }
 
 // Whether the last line may come next, with these counts.
@@ -433,12 +357,24 @@ fn end_fits(a: usize, b: usize, d: usize, had: State) -> bool
     false
 }
 
-// The last line.
-fn end(n: usize, a: usize, b: usize, d: usize, had: State) -> State
+// The last line, of the fields a, b and d.
+fn end(n: usize, a: &[u8], b: &[u8], d: &[u8], had: State) -> State
     requires { ⌜ Small had ⌝ }
-    ensures { λ r. ⌜ Ended n a b d had r ⌝ }
+    ensures { λ r. ⌜ Ended n (now (a .entry) ∷ (now (b .entry) ∷ (now (d .entry) ∷ []))) had r ⌝ }
 {
-    if end_fits(a, b, d, had) {
+    let i = text::number(a);
+    if 65536 < i {
+        return refuse(2, n);
+    }
+    let j = text::number(b);
+    if 65536 < j {
+        return refuse(2, n);
+    }
+    let k = text::number(d);
+    if 65536 < k {
+        return refuse(2, n);
+    }
+    if end_fits(i, j, k, had) {
         return State {
             number: 0,
             place: 0,
@@ -455,7 +391,26 @@ fn end(n: usize, a: usize, b: usize, d: usize, had: State) -> State
     refuse(11, n)
 }
 
-// Takes a line, numbered n.
+// The same, by what stands behind its first comma.
+fn end_line(n: usize, rest: &[u8], had: State) -> State
+    requires { ⌜ Small had ⌝ }
+    ensures { λ r. ⌜ Ended n (split 44 (now (rest .entry))) had r ⌝ }
+{
+    let a = text::first_short(rest, 44);
+    if rest.len() <= a.len() {
+        return refuse(2, n);
+    }
+    let more = text::after(rest, a.len() + 1);
+    let b = text::first_short(more, 44);
+    if more.len() <= b.len() {
+        return refuse(2, n);
+    }
+    let d = text::after(more, b.len() + 1);
+    end(n, a, b, d, had)
+}
+
+// Takes a line, numbered n, by its first bytes. A field is handed on as the part of the line that holds it. What the tables hold after a
+// refusal is left open.
 fn step(
     olds: usize,
     news: usize,
@@ -473,15 +428,24 @@ fn step(
     requires { ⌜ (olds ≤ 512) × (news ≤ 512) × (edges ≤ 1024) × (count ≤ 200) × (16912 ≤ length (now w)) × (20 ≤ length (now sets)) ⌝ }
     ensures { λ r. ⌜ Stepped olds news edges (now (tt .entry)) (now (tests .entry)) count n (now (line .entry)) had (now (w .entry)) (now (sets .entry)) r (now (w .exit)) (now (sets .exit)) ⌝ }
 {
-    let form = form_of(line);
-    match form {
-        Form::Nothing => refuse(2, n),
-        Form::Head => open(n, had),
-        Form::Pair(a, b) => add_pair(olds, news, n, a, b, had, w),
-        Form::Edge(e) => add_edge(edges, n, e, had, sets),
-        Form::Test => add_test(tt, tests, count, n, text::after(line, 2), had, sets),
-        Form::End(a, b, d) => end(n, a, b, d, had),
+    let f = text::front(line, 2);
+    let rest = text::after(line, 2);
+    if text::same(f, b"M,") {
+        return pair_line(olds, news, n, rest, had, w);
     }
+    if text::same(f, b"D,") {
+        return add_edge(edges, n, rest, had, sets);
+    }
+    if text::same(f, b"R,") {
+        return add_test(tt, tests, count, n, rest, had, sets);
+    }
+    if text::same(text::front(line, 4), b"end,") {
+        return end_line(n, text::after(line, 4), had);
+    }
+    if text::same(line, &text::SHEET_HEAD) {
+        return open(n, had);
+    }
+    refuse(2, n)
 }
 
 // ---- a text
@@ -506,7 +470,7 @@ fn finish(n: usize, had: State) -> SheetRead
     }
 }
 
-// Reads the lines of a sheet into tables that hold nothing.
+// Reads the lines of a sheet into tables that hold nothing. What the tables hold after a refusal is left open.
 fn read_lines(
     sheet: &[u8],
     olds: usize,
@@ -550,7 +514,8 @@ fn read_lines(
     finish(n, had)
 }
 
-// Reads a sheet, for programs of so many old and new nodes and old edges, and the tests of a table.
+// Reads a sheet, for programs of so many old and new nodes and old edges, and the tests of a table. What the tables hold after a refusal is
+// left open.
 pub fn read_sheet(
     sheet: &[u8],
     olds: usize,

@@ -3,11 +3,29 @@ use Rattle.sheet_reader.proofs.All.{all}
 use Rattle.sheet_reader.proofs.add_pair.Statement.{statement}
 use Rattle.sheet_reader.proofs.add_pair.Tie as tie
 
+number-requires : tie.Need-number-requires
+number-requires c κs = search needs
+
 refuse-requires : tie.Need-refuse-requires
 refuse-requires c κs = search needs
 
 returns : tie.Need-returns
 returns c = search (all, needs)
+
+number-requires-2 : tie.Need-number-requires-2
+number-requires-2 c κs = search needs
+
+refuse-requires-2 : tie.Need-refuse-requires-2
+refuse-requires-2 c κs = search needs
+
+returns-2 : tie.Need-returns-2
+returns-2 c = search (all, needs)
+
+refuse-requires-3 : tie.Need-refuse-requires-3
+refuse-requires-3 c κs = search needs
+
+returns-3 : tie.Need-returns-3
+returns-3 c = search (all, needs)
 
 pair-fits-requires : tie.Need-pair-fits-requires
 pair-fits-requires c κs = search needs
@@ -15,43 +33,49 @@ pair-fits-requires c κs = search needs
 append-requires : tie.Need-append-requires
 append-requires c κs = search needs
 
-add-t14 : tie.Need-add-t14
-add-t14 c = search needs
-
-mul-t15 : tie.Need-mul-t15
-mul-t15 c = search (all, needs)
-
 add-t16 : tie.Need-add-t16
-add-t16 c = search (all, needs)
+add-t16 c = search needs
 
-add-t17 : tie.Need-add-t17
-add-t17 c = search (all, needs)
+mul-t17 : tie.Need-mul-t17
+mul-t17 c = search needs
+
+add-t18 : tie.Need-add-t18
+add-t18 c = search needs
+
+add-t19 : tie.Need-add-t19
+add-t19 c = search needs
 
 same-length : tie.Need-same-length
 same-length c = search needs
 
-returns-2 : tie.Need-returns-2
-returns-2 c = search (all, needs)
+returns-4 : tie.Need-returns-4
+returns-4 c = search (all, needs)
 
-refuse-requires-2 : tie.Need-refuse-requires-2
-refuse-requires-2 c κs = search needs
+refuse-requires-4 : tie.Need-refuse-requires-4
+refuse-requires-4 c κs = search needs
 
-returns-3 : tie.Need-returns-3
-returns-3 c = search (all, needs)
+returns-5 : tie.Need-returns-5
+returns-5 c = search (all, needs)
 
 pub add-pair-spec : {M : Type 1} → statement M
 add-pair-spec =
     tie.close
     (tie.spec
+    number-requires
     refuse-requires
     returns
+    number-requires-2
+    refuse-requires-2
+    returns-2
+    refuse-requires-3
+    returns-3
     pair-fits-requires
     append-requires
-    add-t14
-    mul-t15
     add-t16
-    add-t17
+    mul-t17
+    add-t18
+    add-t19
     same-length
-    returns-2
-    refuse-requires-2
-    returns-3)
+    returns-4
+    refuse-requires-4
+    returns-5)
