@@ -3,7 +3,7 @@ use mathlib.Core.Path.{_≡_, refl, sym, ap, _∙_}
 use mathlib.Core.Logic.{⊎-elim}
 use mathlib.Core.Bool.{Bool, true, false}
 use mathlib.Core.List.{List, [], _∷_, _++_}
-use Prim.Native.Nat.{ℕ, _+_, _≤_, _<_}
+use Prim.Native.Nat.{ℕ, _+_}
 use native.Mathlib.Omega.{arith}
 use lib.Dec.{eqb}
 use lib.ListN.{length, take, drop, take-append-drop}
@@ -15,7 +15,7 @@ use Rattle.rules.specs.Sheet.{SheetLine, d-line, end-line, head-line, headLine,
 use Rattle.rules.specs.Proofs.SheetLayout.{SheetFormed, sheet-formed}
 use Rattle.rules.specs.Proofs.TextLaws.{join-split, name-free, number-free, same-of, same-true, split-cons, split-free}
 use Rattle.text.specs.Scans.{span}
-use Rattle.text.specs.SplitLaws.{cut, first-last, first-more, uncut}
+use Rattle.text.specs.SplitLaws.{cut, uncut}
 
 -- ---- the fields of each form
 

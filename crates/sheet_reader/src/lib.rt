@@ -140,7 +140,7 @@ fn underway(had: State) -> bool
     false
 }
 
-// ---- a line, by its fields
+// ---- a line, by its fields: where `text::number` answers more than 65536, a field is no number
 
 // The first line.
 fn open(n: usize, had: State) -> State
