@@ -15,7 +15,7 @@ use Rattle.laws.specs.Slices.{drop-sets-after, same-or}
 use Rattle.rules.specs.Text.{Bytes, same, between, isName, maxBytes, Answer, refused, accepted, readText}
 use Rattle.rules.specs.Graph.{Kind, E, S, C, X, Program, nameAt, kindAt, labelAt, calleeAt, procCount, nodeCount, kindNumber, sameKind, orZero, entry, exit, procOf, called}
 use Rattle.rules.specs.ProgramFile.{Listing, current, begun, isNode, named, lost, complete, finishProgram, readListing}
-use Rattle.rules.specs.Proofs.TextLaws.{same-true, empty-true, unless-passes}
+use Rattle.rules.specs.Proofs.TextLaws.{same-true, empty-true, unless-passes, unless-refuses}
 use Rattle.rules.specs.Proofs.GraphLaws.{sameKind-of, sameKind-true}
 use Rattle.rules.specs.Proofs.ProgramLaws.{Complete, complete-says}
 use Rattle.rules.specs.Proofs.Places.{part-is}
@@ -26,7 +26,7 @@ use Rattle.reader.specs.declared.Count.{Count}
 use Rattle.reader.specs.Result.{linksOf, Small, InTable, Told, ReadInto}
 use Rattle.reader.specs.Reading.{Holds, Completes, ofCurrent, wholeText, LinesRead, Partly, ResolvedNode, ResolvedTo, Resolved, calleeBytes, Finished, Refusal}
 use Rattle.reader.proofs.Completeness.{procs-of, some-procs, number-kind, current-row}
-use Rattle.reader.proofs.Steps.{unless-stops, found-none}
+use Rattle.reader.proofs.Steps.{found-none}
 
 -- ---- `callee_of`
 
@@ -278,7 +278,7 @@ module _ (text w : List ℕ) (c : Count) (sm : Small c) where
   unfolding finishProgram
   finish-empty r z a =
       record {
-        told = λ s n k h. told-refused _ 2 1 r w (unless-stops _ _ _ _ (true-isnt (le-ltb 0 (procCount (s .program)) (omega (arith, h .procs-n))))) (omega arith) a;
+        told = λ s n k h. told-refused _ 2 1 r w (unless-refuses _ _ _ _ (true-isnt (le-ltb 0 (procCount (s .program)) (omega (arith, h .procs-n))))) (omega arith) a;
         small = a .small;
       }
 
@@ -295,7 +295,7 @@ module _ (text w : List ℕ) (c : Count) (sm : Small c) where
         record {
           told = λ s n k h.
               told-refused _ 8 (getD (s .places .procLines) (current (s .program)) 0) r w
-              (unless-passes _ _ _ _ (begun-of s h) ∙ unless-stops _ _ _ _ (true-isnt (sym (q s (k .sound) h (some-of s h)) ∙ t))) (omega arith)
+              (unless-passes _ _ _ _ (begun-of s h) ∙ unless-refuses _ _ _ _ (true-isnt (sym (q s (k .sound) h (some-of s h)) ∙ t))) (omega arith)
               (subst (λ (m : ℕ). Refusal 8 m r) (e ∙ current-row w c s h (some-of s h) 2 (omega arith)) a);
           small = a .small;
         }
@@ -336,7 +336,7 @@ pub ruleset finishes = (finish-empty, finish-open, finish-lost, finish-done)
 
 pub into-long : (text w : List ℕ) (r : Count) → 65536 < length text → Refusal 1 0 r → ReadInto text r w
 unfolding readListing readText
-into-long text w r h a = record { told = told-refused _ 1 0 r w (unless-stops _ _ _ _ (lt-ltb maxBytes (length text) h)) (omega arith) a; small = a .small }
+into-long text w r h a = record { told = told-refused _ 1 0 r w (unless-refuses _ _ _ _ (lt-ltb maxBytes (length text) h)) (omega arith) a; small = a .small }
 
 read-whole : (text : List ℕ) → length text ≤ 65536 → readListing text ≡ wholeText text
 unfolding readListing readText wholeText

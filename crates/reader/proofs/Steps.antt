@@ -1,6 +1,6 @@
 -- The functions that take a line: what the definition's step is at each return.
 use mathlib.Core.Path.{_≡_, refl, sym, ap, _∙_, subst}
-use mathlib.Core.Bool.{Bool, true, false, true≢false}
+use mathlib.Core.Bool.{Bool, true, false}
 use mathlib.Core.Option.{Option, none, some}
 use mathlib.Core.List.{List, [], _∷_}
 use Prim.Native.Nat.{ℕ, _+_, _-_, _*_, _≤_, _<_, min}
@@ -12,10 +12,10 @@ use borrow.Author.Tests.{eqb-true, ltb-true, lt-ltb, le-ltb, leb-true, le-leb, l
 use Rattle.laws.specs.Tests.{_and_, _or_, isnt, any, first, found}
 use Rattle.laws.specs.TestLaws.{and-left, and-right, and-both, or-left, or-right, fails, both-ways, true-isnt, false-isnt, same-test, any-of, any-at, first-at, first-none, found-some}
 use Rattle.laws.specs.Lists.{choose-yes, choose-no}
-use Rattle.rules.specs.Text.{Bytes, same, isWord, value, maxProcs, maxEdges, Answer, refused, unless}
+use Rattle.rules.specs.Text.{Bytes, same, isWord, value, maxProcs, maxEdges, Answer, refused}
 use Rattle.rules.specs.Graph.{nameAt, ownerAt, procCount, nodeCount, edgeCount, leaves, edgeTaken}
 use Rattle.rules.specs.ProgramFile.{proc-line, Listing, current, begun, named, hasEdge, hasWord, isNodeOf, withProc, withNode, withEdge, takeLine}
-use Rattle.rules.specs.Proofs.TextLaws.{unless-passes}
+use Rattle.rules.specs.Proofs.TextLaws.{unless-passes, unless-refuses}
 use Rattle.graph.specs.Table.{firstNode, firstEdge}
 use Rattle.graph.specs.Keys.{wordKey, word-short}
 use Rattle.graph.specs.Lookups.{in-table, Procs, Edges, ProcNamed, EdgeTaken}
@@ -28,11 +28,6 @@ use Rattle.reader.proofs.Stores.{push-proc, push-node, push-edge}
 use Rattle.reader.proofs.Completeness.{edges-of, procs-of, some-procs, current-row}
 
 -- ---- answers
-
-pub unless-stops : {A : Type 0} (b : Bool) (k p : ℕ) (a : Answer A) → b ≡ true → unless b k p a ≡ refused k p
-unfolding unless
-unless-stops true k p a e = refl
-unless-stops false k p a e = absurd (true≢false (sym e))
 
 -- An answer that refuses.
 after-refused : (x : Answer Listing) (k p : ℕ) (r : Count) (w : List ℕ) → x ≡ refused k p → 0 < k → Refusal k p r → After x r w
@@ -65,7 +60,7 @@ module _ (text w : List ℕ) (n at : ℕ) (name : Bytes) (c : Count) where
   proc-full r w′ h a =
       record {
         opened = λ s k hs.
-            after-refused _ 4 n r w′ (unless-stops _ _ _ _ (le-leb 64 (procCount (s .program)) (omega (arith, hs .procs-n)))) (omega arith) a;
+            after-refused _ 4 n r w′ (unless-refuses _ _ _ _ (le-leb 64 (procCount (s .program)) (omega (arith, hs .procs-n)))) (omega arith) a;
         small = a .small;
       }
 
@@ -84,7 +79,7 @@ module _ (text w : List ℕ) (n at : ℕ) (name : Bytes) (c : Count) where
           opened = λ s k h.
               let o = found-some _ (subst (λ (m : ℕ). 0 < m) (named-is s k h) z) in
               let y = first-at (λ q. same (nameAt (s .program) q) name) (procCount (s .program)) (o .0) (o .1) in
-              after-refused _ 5 n r w′ (unless-passes _ _ _ _ (room-procs s h) ∙ unless-stops _ _ _ _ (any-of (λ q. same (nameAt (s .program) q) name) (procCount (s .program)) (o .0) (y .0) (y .1))) (omega arith) a;
+              after-refused _ 5 n r w′ (unless-passes _ _ _ _ (room-procs s h) ∙ unless-refuses _ _ _ _ (any-of (λ q. same (nameAt (s .program) q) name) (procCount (s .program)) (o .0) (y .0) (y .1))) (omega arith) a;
           small = a .small;
         }
 
@@ -134,7 +129,7 @@ module _ (text w : List ℕ) (n at : ℕ) (name : Bytes) (c : Count) where
           stepped = λ s k h.
               let b = some-of s h in
               after-refused _ 8 (getD (s .places .procLines) (current (s .program)) 0) r w′
-              (choose-yes _ _ (lt-ltb 0 (procCount (s .program)) b) ∙ unless-stops _ _ _ _ (true-isnt (sym (q s (k .sound) h b) ∙ t))) (omega arith)
+              (choose-yes _ _ (lt-ltb 0 (procCount (s .program)) b) ∙ unless-refuses _ _ _ _ (true-isnt (sym (q s (k .sound) h b) ∙ t))) (omega arith)
               (subst (λ (m : ℕ). Refusal 8 m r) (e ∙ current-row w c s h b 2 (omega arith)) a);
           small = a .small;
         }
@@ -152,7 +147,7 @@ module _ (w : List ℕ) (n at kind : ℕ) (label callee : Bytes) (c : Count) whe
   node-first r w′ z a =
       record {
         stepped = λ text k e s ks h.
-            after-refused _ 3 n r w′ (unless-stops _ _ _ _ (or-left _ (true-isnt (le-ltb 0 (procCount (s .program)) (omega (arith, h .procs-n)))))) (omega arith) a;
+            after-refused _ 3 n r w′ (unless-refuses _ _ _ _ (or-left _ (true-isnt (le-ltb 0 (procCount (s .program)) (omega (arith, h .procs-n)))))) (omega arith) a;
         small = a .small;
       }
 
@@ -169,7 +164,7 @@ module _ (w : List ℕ) (n at kind : ℕ) (label callee : Bytes) (c : Count) whe
     node-late r w′ l a =
         record {
           stepped = λ text k e s ks h.
-              after-refused _ 3 n r w′ (unless-stops _ _ _ _ (or-right _ (has-edge-is text s ks h ∙ lt-ltb f (c .edges) l))) (omega arith) a;
+              after-refused _ 3 n r w′ (unless-refuses _ _ _ _ (or-right _ (has-edge-is text s ks h ∙ lt-ltb f (c .edges) l))) (omega arith) a;
           small = a .small;
         }
 
@@ -186,7 +181,7 @@ module _ (w : List ℕ) (n at kind : ℕ) (label callee : Bytes) (c : Count) whe
       node-full r w′ l a =
           record {
             stepped = λ text k e s ks h.
-                after-refused _ 4 n r w′ (unless-passes _ _ _ _ (in-place text s ks h) ∙ unless-stops _ _ _ _ (le-leb 512 (nodeCount (s .program)) (omega (arith, h .nodes-n)))) (omega arith) a;
+                after-refused _ 4 n r w′ (unless-passes _ _ _ _ (in-place text s ks h) ∙ unless-refuses _ _ _ _ (le-leb 512 (nodeCount (s .program)) (omega (arith, h .nodes-n)))) (omega arith) a;
             small = a .small;
           }
 
@@ -233,7 +228,7 @@ module _ (w : List ℕ) (n f start : ℕ) (word : Bytes) (t : ℕ) (c : Count) (
         linked = λ text s at from to k h ef et es v m o.
             let g = found-some _ (subst (λ (m : ℕ). 0 < m) (taken-is text s k h v m) z) in
             let u = first-at (leaves (s .program) f word) (edgeCount (s .program)) (g .0) (g .1) in
-            after-refused _ 7 n r w′ (unless-stops _ _ _ _ (ap (λ (i : ℕ). any (edgeCount (s .program)) (leaves (s .program) i word)) (sym ef) ∙ any-of (leaves (s .program) f word) (edgeCount (s .program)) (g .0) (u .0) (u .1))) (omega arith) a;
+            after-refused _ 7 n r w′ (unless-refuses _ _ _ _ (ap (λ (i : ℕ). any (edgeCount (s .program)) (leaves (s .program) i word)) (sym ef) ∙ any-of (leaves (s .program) f word) (edgeCount (s .program)) (g .0) (u .0) (u .1))) (omega arith) a;
         small = a .small;
       }
 
@@ -265,7 +260,7 @@ module _ (w : List ℕ) (n source start : ℕ) (word : Bytes) (target : ℕ) (c 
   edge-first r w′ z a =
       record {
         stepped = λ text at from to ef et es v s k h.
-            after-refused _ 3 n r w′ (unless-stops _ _ _ _ (true-isnt (le-ltb 0 (procCount (s .program)) (omega (arith, h .procs-n))))) (omega arith) a;
+            after-refused _ 3 n r w′ (unless-refuses _ _ _ _ (true-isnt (le-ltb 0 (procCount (s .program)) (omega (arith, h .procs-n))))) (omega arith) a;
         small = a .small;
       }
 
@@ -281,7 +276,7 @@ module _ (w : List ℕ) (n source start : ℕ) (word : Bytes) (target : ℕ) (c 
     edge-full r w′ l a =
         record {
           stepped = λ text at from to ef et es v s k h.
-              after-refused _ 4 n r w′ (unless-passes _ _ _ _ (has-begun s h) ∙ unless-stops _ _ _ _ (le-leb 1024 (edgeCount (s .program)) (omega (arith, h .edges-n)))) (omega arith) a;
+              after-refused _ 4 n r w′ (unless-passes _ _ _ _ (has-begun s h) ∙ unless-refuses _ _ _ _ (le-leb 1024 (edgeCount (s .program)) (omega (arith, h .edges-n)))) (omega arith) a;
           small = a .small;
         }
 
@@ -314,7 +309,7 @@ module _ (w : List ℕ) (n source start : ℕ) (word : Bytes) (target : ℕ) (c 
           record {
             stepped = λ text at from to ef et es v s k h.
                 after-refused _ 6 n r w′ (unless-passes _ _ _ _ (has-begun s h) ∙ unless-passes _ _ _ _ (room-edges s h)
-                ∙ unless-stops _ _ _ _ (true-isnt (fails _ (λ y. both-ways (sym (node-is text s (value from) source k h ef) ∙ and-left _ _ y) (sym eu ∙ z))))) (omega arith) a;
+                ∙ unless-refuses _ _ _ _ (true-isnt (fails _ (λ y. both-ways (sym (node-is text s (value from) source k h ef) ∙ and-left _ _ y) (sym eu ∙ z))))) (omega arith) a;
             small = a .small;
           }
 
@@ -325,7 +320,7 @@ module _ (w : List ℕ) (n source start : ℕ) (word : Bytes) (target : ℕ) (c 
           record {
             stepped = λ text at from to ef et es v s k h.
                 after-refused _ 6 n r w′ (unless-passes _ _ _ _ (has-begun s h) ∙ unless-passes _ _ _ _ (room-edges s h)
-                ∙ unless-stops _ _ _ _ (true-isnt (fails _ (λ y. both-ways (sym (node-is text s (value to) target k h et) ∙ and-right _ _ y) (sym eu ∙ z))))) (omega arith) a;
+                ∙ unless-refuses _ _ _ _ (true-isnt (fails _ (λ y. both-ways (sym (node-is text s (value to) target k h et) ∙ and-right _ _ y) (sym eu ∙ z))))) (omega arith) a;
             small = a .small;
           }
 

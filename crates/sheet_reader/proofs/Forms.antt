@@ -2,20 +2,16 @@
 use mathlib.Core.Path.{_≡_, refl, sym, ap, _∙_}
 use mathlib.Core.Logic.{⊎-elim}
 use mathlib.Core.Bool.{Bool, true, false}
-use mathlib.Core.List.{List, [], _∷_, _++_}
-use Prim.Native.Nat.{ℕ, _+_}
+use mathlib.Core.List.{List, [], _∷_}
 use native.Mathlib.Omega.{arith}
-use lib.Dec.{eqb}
-use lib.ListN.{length, take, drop, take-append-drop}
+use lib.ListN.{take, drop}
 use Rattle.laws.specs.Tests.{_and_, choose}
 use Rattle.laws.specs.TestLaws.{and-not, both-ways, passes?}
-use Rattle.laws.specs.Slices.{below-or}
 use Rattle.rules.specs.Text.{Bytes, bytes, isName, isNumber, joinBy, onto, same, split}
 use Rattle.rules.specs.Sheet.{SheetLine, d-line, end-line, head-line, headLine, m-line, no-form, r-line, sheetForm}
 use Rattle.rules.specs.Proofs.SheetLayout.{SheetFormed, sheet-formed}
-use Rattle.rules.specs.Proofs.TextLaws.{join-split, name-free, number-free, same-of, same-true, split-cons, split-free}
-use Rattle.text.specs.Scans.{span}
-use Rattle.text.specs.SplitLaws.{cut, uncut}
+use Rattle.rules.specs.Proofs.TextLaws.{join-split, name-free, number-free, same-of, split-free}
+use Rattle.text.specs.SplitLaws.{begins, pieces}
 
 -- ---- the fields of each form
 
@@ -89,16 +85,6 @@ end-two a b = refl
 
 -- ---- the last field has no comma
 
--- The text has no comma, or one at least.
-pieces : {X : Type 0} (s : Bytes) → (split 44 s ≡ s ∷ [] → X) → ((p q : Bytes) (qs : List Bytes) → split 44 s ≡ p ∷ q ∷ qs → X) → X
-pieces s f g =
-    below-or (span 44 s) (length s)
-    (λ h.
-    let r = drop (span 44 s + 1) s in
-    let c = split-cons 44 r in
-    g (take (span 44 s) s) (c .0) (c .1) (cut 44 s (take (span 44 s) s) r (span 44 s) refl h refl refl ∙ ap (λ (ps : List Bytes). take (span 44 s) s ∷ ps) (c .2)))
-    (λ h. f (uncut 44 s (span 44 s) refl h))
-
 -- The last field is all the rest, where F, what the last fields say, is no form if there are two or if the one is not what it must be, and what it must be has no comma.
 module _ (F : List Bytes → SheetLine) (must : Bytes → Bool) where
   last-whole : ((s : Bytes) → must s ≡ true → split 44 s ≡ s ∷ []) → ((s : Bytes) → must s ≡ false → F (s ∷ []) ≡ no-form)
@@ -106,7 +92,7 @@ module _ (F : List Bytes → SheetLine) (must : Bytes → Bool) where
   last-whole whole none more s =
       ⊎-elim
       (λ y. ap F (whole s y))
-      (λ n. pieces s (λ e. ap F e) (λ p q qs e. ap F e ∙ more p q qs ∙ sym (none s n)))
+      (λ n. pieces 44 s (λ e. ap F e) (λ p q qs e. ap F e ∙ more p q qs ∙ sym (none s n)))
       (passes? (must s))
 
 number-whole : (s : Bytes) → isNumber s ≡ true → split 44 s ≡ s ∷ []
@@ -137,16 +123,8 @@ pub head-form : sheetForm (split 44 headLine) ≡ head-line
 unfolding split onto sheetForm choose same _and_
 head-form = refl
 
--- A line by its first bytes, and by what stands behind them.
-begins : (n : ℕ) (l f p rest : Bytes) → f ≡ take n l → same f p ≡ true → rest ≡ drop n l → l ≡ p ++ rest
-begins n l f p rest ef e er =
-    sym (take-append-drop n l) ∙ ap (λ (x : Bytes). x ++ drop n l) (sym ef ∙ same-true f p e) ∙ ap (λ (x : Bytes). p ++ x) (sym er)
-
+-- The first field of the last line.
 module _ (l f rest : Bytes) where
-  pub letter : f ≡ take 2 l → rest ≡ drop 2 l → (x : ℕ) → eqb x 44 ≡ false → same f (x ∷ 44 ∷ []) ≡ true → split 44 l ≡ (x ∷ []) ∷ split 44 rest
-  unfolding split onto
-  letter ef er x n e = ap (split 44) (begins 2 l f (x ∷ 44 ∷ []) rest ef e er) ∙ ap (λ (t : Bool). onto t x ([] ∷ split 44 rest)) n
-
   pub word : f ≡ take 4 l → rest ≡ drop 4 l → same f (bytes "end,") ≡ true → split 44 l ≡ bytes "end" ∷ split 44 rest
   unfolding split onto
   word ef er e = ap (split 44) (begins 4 l f (bytes "end,") rest ef e er)

@@ -19,14 +19,14 @@ use Rattle.rules.specs.SuiteFile.{Suite}
 use Rattle.rules.specs.Sheet.{Sheet, SheetRead, finishSheet, headLine, noSheet, readSheet, sheetForm, stepSheet, takeSheetLine}
 use Rattle.rules.specs.Proofs.TextLaws.{empty-not, same-true, split-cons}
 use Rattle.text.specs.Scans.{span}
-use Rattle.text.specs.SplitLaws.{cut-at, uncut-at}
+use Rattle.text.specs.SplitLaws.{cut-at, letter, uncut-at}
 use Rattle.pairset.specs.Store.{Emptied, Empties}
 use Rattle.pairset.specs.StoreLaws.{no-pairs}
 use Rattle.sheet_reader.specs.declared.State.{State}
 use Rattle.sheet_reader.specs.declared.SheetRead.{SheetRead as Result}
 use Rattle.sheet_reader.specs.Claims.{For, Reads}
 use Rattle.sheet_reader.specs.Reading.{AddsEdge, AddsPair, AddsTest, After, Ends, Finishes, Fresh, Holds, Lines, Opens, Refusal, Small, Stepped, Steps, nothingRead}
-use Rattle.sheet_reader.proofs.Forms.{d-whole, head-form, letter, none-begins, r-whole, word}
+use Rattle.sheet_reader.proofs.Forms.{d-whole, head-form, none-begins, r-whole, word}
 use Rattle.sheet_reader.proofs.Orders.{pairs-up-none, up-none}
 
 -- ---- `step`
@@ -37,18 +37,18 @@ module _ (olds news edges : ℕ) (tt : Bytes) (table : List ℕ) (count n : ℕ)
       pub step-pair : (r : State) (w′ : List ℕ) → t ≡ same f (bytes "M,") → AddsPair olds news n (split 44 rest) c w r w′ → Steps olds news edges tt table count n line c w sets r w′ sets
       unfolding Steps stepSheet AddsPair
       step-pair r w′ e q old new suite s at for hold =
-          rw (letter line f rest ef er 77 refl (sym e ∙ y)) (q old new suite s sets (for .old-nodes) (for .new-nodes) hold)
+          rw (letter 44 77 line f rest ef er refl (sym e ∙ y)) (q old new suite s sets (for .old-nodes) (for .new-nodes) hold)
 
       pub step-edge : (r : State) (sets′ : List ℕ) → t ≡ same f (bytes "D,") → AddsEdge edges n (rest ∷ []) c sets r sets′ → Steps olds news edges tt table count n line c w sets r w sets′
       unfolding Steps stepSheet AddsEdge
       step-edge r sets′ e q old new suite s at for hold =
-          rw (ap sheetForm (letter line f rest ef er 68 refl (sym e ∙ y)) ∙ d-whole rest) (q old new suite s w (for .old-edges) hold)
+          rw (ap sheetForm (letter 44 68 line f rest ef er refl (sym e ∙ y)) ∙ d-whole rest) (q old new suite s w (for .old-edges) hold)
 
       pub step-test : (r : State) (sets′ : List ℕ) → t ≡ same f (bytes "R,") → AddsTest tt table count n (rest ∷ []) c sets r sets′
           → Steps olds news edges tt table count n line c w sets r w sets′
       unfolding Steps stepSheet AddsTest
       step-test r sets′ e q old new suite s at for hold =
-          rw (ap sheetForm (letter line f rest ef er 82 refl (sym e ∙ y)) ∙ r-whole rest) (q olds news edges old new suite s w for hold)
+          rw (ap sheetForm (letter 44 82 line f rest ef er refl (sym e ∙ y)) ∙ r-whole rest) (q olds news edges old new suite s w for hold)
 
     pub step-end : (r : State) → f ≡ take 4 line → rest ≡ drop 4 line → t ≡ same f (bytes "end,") → Ends n (split 44 rest) c r
         → Steps olds news edges tt table count n line c w sets r w sets
