@@ -10,12 +10,12 @@ use Rattle.laws.specs.Tests.{has, listed, count, plus}
 use Rattle.laws.specs.TestLaws.{Ascending}
 use Rattle.laws.specs.Lists.{Rising}
 use Rattle.rules.specs.Text.{Bytes, accepted, fieldsOf, linesOf, maxBytes, maxPairs, refused, textOf}
-use Rattle.rules.specs.Graph.{C, Program, WellFormed, called, edgeCount, entry, exit, kindAt, labelAt, nodeCount, sourceAt, targetAt}
+use Rattle.rules.specs.Graph.{C, E, Program, WellFormed, X, called, calleeAt, edgeCount, edgeTaken, entry, exit, itsEdge, kindAt, labelAt, nameAt, nodeCount, ownerAt, procCount, sourceAt, targetAt, wordAt}
 use Rattle.rules.specs.ProgramFile.{Listing, readListing, readProgram}
 use Rattle.rules.specs.SuiteFile.{Suite, TestListing, coverageAt, readSuite, readTests, testCount, testName}
 use Rattle.rules.specs.Run.{Config, Meaning, ended, run, start, trail}
 use Rattle.rules.specs.Closing.{Counterparts, Coverage, Dangerous, Pair, alike, dangers, fits, holds, joined, pairs, repeated}
-use Rattle.rules.specs.Sheet.{Sheet, SheetLine, crossed, d-line, end-line, head-line, leftOff, m-line, no-form, r-line, sheetForm, sheetText, vLine}
+use Rattle.rules.specs.Sheet.{Sheet, SheetLine, crossed, d-line, end-line, head-line, leftOff, m-line, no-form, r-line, rLine, sheetForm, sheetLines, sheetText, vLine}
 use Rattle.rules.specs.Check.{rule1, rule2, rule3, rule4, rule5}
 use Rattle.rules.specs.Job.{Outcome, Given, Version, checkAnswer, labelAnswer, labelPart, labelShown, numberOf, outputAfter, packed, passed, placeOf, readJob, readNewAnswer, readOldAnswer, readTestsAnswer, recordAnswer, recordBytes, refusal, sheetAnswer, sheetBytes, success, wrote}
 use Rattle.rules.specs.Layout.{Follows, SheetFollows, SuiteFollows, writeProgram, writeSuite}
@@ -37,9 +37,28 @@ pub record AnswersPlain (old new tests : Bytes) : Type 0 where
   pub of-record : (i room : ℕ) → Plain (recordAnswer old new tests i room)
   pub of-check : (sheet : Bytes) → Plain (checkAnswer old new tests sheet)
 
--- Number and place are taken out of the one number that an exported call returns.
+-- The one number that an exported call returns for the answer o, and the output that it leaves: below 4,294,967,296 it is how many bytes were written, and they stand at the front of
+-- the output; else number and place of the refusal are taken out of it, and the output is as it was.
+pub record Returns (o : Outcome) (out : Bytes) : Type 0 where
+  pub success-below : packed o < 4294967296 → (b : Bytes) × (o ≡ wrote b) × (packed o ≡ length b) × (outputAfter o out ≡ b ++ drop (length b) out)
+  pub refusal-above : 4294967296 ≤ packed o → (k p : ℕ) × (o ≡ refusal k p) × (packed o / 4294967296 ≡ k) × (packed o % 4294967296 ≡ p) × (outputAfter o out ≡ out)
+
 abbrev pub Unpacks : Type 0
-Unpacks = (o : Outcome) → Plain o → (packed o / 4294967296 ≡ numberOf o) × (packed o % 4294967296 ≡ placeOf o)
+Unpacks = (o : Outcome) → Plain o → (out : Bytes) → Returns o out
+
+-- The numbers that reading a program, reading a test file and checking a sheet may give; so the check never gives 15 or 16, nor 3, 5 or 6 for a line of a sheet.
+pub record NumbersGiven : Type 0 where
+  pub of-program : (text : Bytes) (k p : ℕ) → readProgram text ≡ refused k p → has (1 ∷ 2 ∷ 3 ∷ 4 ∷ 5 ∷ 6 ∷ 7 ∷ 8 ∷ 9 ∷ []) k ≡ true
+  pub of-tests : (m : ℕ) (text : Bytes) (k p : ℕ) → readSuite m text ≡ refused k p → has (1 ∷ 2 ∷ 4 ∷ 5 ∷ 10 ∷ []) k ≡ true
+  pub of-check : (old new tests sheet : Bytes) (g : Given) → readJob old new tests ≡ accepted g → (k p : ℕ) → checkAnswer old new tests sheet ≡ refusal k p
+      → has (1 ∷ 2 ∷ 4 ∷ 11 ∷ 12 ∷ []) k ≡ true
+
+-- 1: exactly where the text is too long; its place is 0.
+pub record TooLong : Type 0 where
+  pub of-program : (text : Bytes) (p : ℕ) → (readProgram text ≡ refused 1 p) ↔ ((maxBytes < length text) × (p ≡ 0))
+  pub of-tests : (m : ℕ) (text : Bytes) (p : ℕ) → (readSuite m text ≡ refused 1 p) ↔ ((maxBytes < length text) × (p ≡ 0))
+  pub of-check : (old new tests sheet : Bytes) (g : Given) → readJob old new tests ≡ accepted g → (p : ℕ)
+      → (checkAnswer old new tests sheet ≡ refusal 1 p) ↔ ((maxBytes < length sheet) × (p ≡ 0))
 
 -- The texts are read in the order old, new, tests: the first refusal is the answer, and where there is none reading succeeds.
 pub record TextsRead (old new tests : Bytes) : Type 0 where
@@ -86,10 +105,6 @@ WritesExactly = (old new tests : Bytes) (g : Given) → readJob old new tests �
 abbrev pub RecordShort : Type 0
 RecordShort = (old new tests : Bytes) (i room : ℕ) (line : Bytes) → recordAnswer old new tests i room ≡ wrote line → length line ≤ 1045
 
--- The check never gives a number above 12, so neither 15 nor 16.
-abbrev pub CheckNumbers : Type 0
-CheckNumbers = (old new tests sheet : Bytes) → numberOf (checkAnswer old new tests sheet) ≤ 12
-
 -- 12: the texts are accepted, the sheet keeps its layout, and of the five rules p, from 1, is the first that does not hold.
 abbrev pub fiveRules : Given → Sheet → List Bool
 fiveRules g c = rule1 (g .old) (g .new) c ∷ rule2 (g .old) (g .new) c ∷ rule3 (g .old) (g .new) c ∷ rule4 (g .old) (g .new) c ∷ rule5 (g .suite .coverages) c ∷ []
@@ -108,7 +123,7 @@ pub record Breaks (old new tests sheet : Bytes) (p : ℕ) : Type 0 where
 abbrev pub ClaimsFalse : Type 0
 ClaimsFalse = (old new tests sheet : Bytes) (p : ℕ) → (checkAnswer old new tests sheet ≡ refusal 12 p) ↔ Breaks old new tests sheet p
 
--- 4: the M line l that stands after 4,096 M lines is refused with 4, whatever it names and wherever it stands, unless a line before it is refused.
+-- 4: the M line l that stands after 4,096 M lines is refused with 4, whatever it names and wherever it stands, unless a line before it is refused, as it is where these stand alone.
 unfoldable pub isM : SheetLine → Bool
 isM head-line = false
 isM (m-line a b) = true
@@ -123,9 +138,16 @@ mCount (l ∷ ls) = plus (isM (sheetForm (fieldsOf l))) (mCount ls)
 
 abbrev pub LineAbove : Type 0
 LineAbove =
-    (old new tests sheet : Bytes) (g : Given) → readJob old new tests ≡ accepted g → length sheet ≤ maxBytes
-    → (ls : List Bytes) (l m : Bytes) (ms : List Bytes) → linesOf sheet ≡ ls ++ (l ∷ m ∷ ms) → mCount ls ≡ maxPairs → isM (sheetForm (fieldsOf l)) ≡ true
-    → (checkAnswer old new tests sheet ≡ refusal 4 (suc (length ls))) ⊎ ((k p : ℕ) × (checkAnswer old new tests sheet ≡ refusal k p) × (1 ≤ p) × (p ≤ length ls))
+    (old new tests front sheet : Bytes) (g : Given) → readJob old new tests ≡ accepted g → length front ≤ maxBytes → length sheet ≤ maxBytes
+    → (ls : List Bytes) (l m : Bytes) (ms : List Bytes) → linesOf front ≡ ls ++ ([] ∷ []) → linesOf sheet ≡ ls ++ (l ∷ m ∷ ms) → mCount ls ≡ maxPairs → isM (sheetForm (fieldsOf l)) ≡ true
+    → (checkAnswer old new tests sheet ≡ refusal 4 (suc (length ls)))
+    ⊎ ((k p : ℕ) × (checkAnswer old new tests sheet ≡ refusal k p) × (checkAnswer old new tests front ≡ refusal k p) × (1 ≤ p) × (p ≤ length ls))
+
+-- 11: of a sheet in order that is cut off before one of its lines, the missing line counts as one past the last.
+abbrev pub LineMissing : Type 0
+LineMissing =
+    (old new tests : Bytes) (g : Given) → readJob old new tests ≡ accepted g → (c : Sheet) → SheetFollows (g .old) (g .new) (g .suite) c
+    → (ls ms : List Bytes) (m : Bytes) → sheetLines (g .suite .names) c ≡ ls ++ (m ∷ ms) → checkAnswer old new tests (textOf ls) ≡ refusal 11 (suc (length ls))
 
 -- A label is shown by side, 0 old and 1 new, and node number; 6 where there is no such side, or no such node of its version, and then nothing is shown.
 pub record LabelsAnswered (old new : Version) : Type 0 where
@@ -161,6 +183,25 @@ SuitePlaced = (m : ℕ) (text : Bytes) (l : TestListing) → readTests m text �
 -- The part of the text that is shown for a node is its label.
 abbrev pub LabelShown : Type 0
 LabelShown = (v : Version) → readListing (v .text) ≡ accepted (v .listing) → (n : ℕ) → n < nodeCount (v .listing .program) → labelPart v n ≡ labelAt (v .listing .program) n
+
+-- ---- what runs and rules look up in a program
+
+-- The entry and the exit of a procedure are its E and its X, the callee of a C is the procedure of that name, the edge that a node takes for a word is its edge of that word, and that of
+-- an E or C is the one that it has.
+pub record Lookups (p : Program) : Type 0 where
+  pub entry-is : (q : ℕ) → q < procCount p → (entry p q < nodeCount p) × (ownerAt p (entry p q) ≡ q) × (kindAt p (entry p q) ≡ E)
+  pub exit-is : (q : ℕ) → q < procCount p → (exit p q < nodeCount p) × (ownerAt p (exit p q) ≡ q) × (kindAt p (exit p q) ≡ X)
+  pub called-is : (n : ℕ) → n < nodeCount p → kindAt p n ≡ C → (called p n < procCount p) × (nameAt p (called p n) ≡ calleeAt p n)
+  pub taken-is : (n : ℕ) (w : Bytes) (e : ℕ) → (edgeTaken p n w ≡ some e) ↔ ((e < edgeCount p) × (sourceAt p e ≡ n) × (wordAt p e ≡ w))
+  pub its-edge-is : (n : ℕ) → n < nodeCount p → (kindAt p n ≡ E) ⊎ (kindAt p n ≡ C) → (e : ℕ) → (itsEdge p n ≡ some e) ↔ ((e < edgeCount p) × (sourceAt p e ≡ n))
+
+abbrev pub LookupsExact : Type 0
+LookupsExact = (text : Bytes) (p : Program) → readProgram text ≡ accepted p → Lookups p
+
+-- Two nodes are alike exactly if kind, label and callee have equal bytes; an old edge and a new one fit exactly if their words are equal and their ends alike.
+pub record AlikeExact (old new : Program) : Type 0 where
+  pub alike-are : (n n′ : ℕ) → (alike old new n n′ ≡ true) ↔ ((kindAt old n ≡ kindAt new n′) × (labelAt old n ≡ labelAt new n′) × (calleeAt old n ≡ calleeAt new n′))
+  pub fits-are : (e e′ : ℕ) → (fits old new e e′ ≡ true) ↔ ((wordAt old e ≡ wordAt new e′) × (alike old new (targetAt old e) (targetAt new e′) ≡ true))
 
 -- ---- pairs, dangerous edges, counterparts and repeated tests are exactly those of the closing rules
 
@@ -213,7 +254,7 @@ pub record LineExact (old new : Program) (name : Bytes) (coverage : Coverage) (l
       → (getD marks x 0 ≡ 49) ↔ ((e : ℕ) × Counterparts old new e x × (holds coverage e ≡ true) × ((f : ℕ) → Counterparts old new e f → f ≡ x))
   pub three : (x : ℕ) → x < edgeCount new → (getD marks x 0 ≡ 48) ⊎ ((getD marks x 0 ≡ 49) ⊎ (getD marks x 0 ≡ 63))
 
--- Demand 2, of the texts of a job.
+-- Demand 2, of the bytes that are written.
 pub record Demand2 (old new tests : Bytes) : Type 0 where
   pub sheet-exact : (room : ℕ) (sheet : Bytes) → sheetAnswer old new tests room ≡ wrote sheet → (g : Given) × (readJob old new tests ≡ accepted g) × SheetExact g sheet
   pub line-exact : (i room : ℕ) (line : Bytes) → recordAnswer old new tests i room ≡ wrote line
@@ -241,6 +282,23 @@ pub record Passes (old new tests sheet : Bytes) : Type 0 where
 
 abbrev pub PassesExactly : Type 0
 PassesExactly = (old new tests sheet : Bytes) → (checkAnswer old new tests sheet ≡ passed) ↔ Passes old new tests sheet
+
+-- The five rules, in words.
+pub record RulesExact (old new : Program) (suite : List Coverage) (c : Sheet) : Type 0 where
+  pub first-listed : (rule1 old new c ≡ true) ↔ (listed (c .M) (entry old 0) (entry new 0) ≡ true)
+  pub pairs-alike : (rule2 old new c ≡ true) ↔ ((n n′ : ℕ) → listed (c .M) n n′ ≡ true → alike old new n n′ ≡ true)
+  pub callees-listed : (rule3 old new c ≡ true)
+      ↔ ((n n′ : ℕ) → listed (c .M) n n′ ≡ true → kindAt old n ≡ C → kindAt new n′ ≡ C → listed (c .M) (entry old (called old n)) (entry new (called new n′)) ≡ true)
+  pub edges-kept : (rule4 old new c ≡ true)
+      ↔ ((n n′ : ℕ) → listed (c .M) n n′ ≡ true → (kindAt old n ≡ C → listed (c .M) (exit old (called old n)) (exit new (called new n′)) ≡ true)
+      → (e : ℕ) → e < edgeCount old → sourceAt old e ≡ n
+      → (has (c .D) e ≡ true)
+      ⊎ ((e′ : ℕ) × (e′ < edgeCount new) × (sourceAt new e′ ≡ n′) × (wordAt old e ≡ wordAt new e′) × (listed (c .M) (targetAt old e) (targetAt new e′) ≡ true)))
+  pub tests-listed : (rule5 suite c ≡ true) ↔ ((i : ℕ) → i < length suite → (e : ℕ) → has (c .D) e ≡ true → holds (getD suite i []) e ≡ true → has (c .R) i ≡ true)
+
+-- A test is left off a sheet exactly if no line of the sheet is its R line.
+abbrev pub LeftOffExact : Type 0
+LeftOffExact = (sheet name : Bytes) → (leftOff sheet name ≡ true) ↔ ((ls ms : List Bytes) → linesOf sheet ≡ ls ++ (rLine name ∷ ms) → ⊥)
 
 -- ---- runs
 
@@ -303,5 +361,6 @@ module _ {ℓ κ} (St : Type ℓ) (Out : Type κ) where
     -- `ry_record` returns one below it: so many bytes of a record line, whose marks are true if the selector leaves the test off.
     pub marked : (i : ℕ) (out out′ : Bytes) (r : ℕ) → r ≡ packed (recordAnswer old new tests i (length out)) → out′ ≡ outputAfter (recordAnswer old new tests i (length out)) out → r < 4294967296
         → (g : Given) × (readJob old new tests ≡ accepted g) × (marks : Bytes) × (length marks ≡ edgeCount (g .new))
+        × (r ≡ length (textOf (vLine (testName (g .suite) i) (crossed (g .old) (coverageAt (g .suite) i)) marks ∷ [])))
         × (out′ ≡ textOf (vLine (testName (g .suite) i) (crossed (g .old) (coverageAt (g .suite) i)) marks ∷ []) ++ drop r out)
         × (has (repeated (g .old) (g .new) (g .suite .coverages)) i ≡ false → MarksTrue g i marks)

@@ -11,6 +11,7 @@ pub mod Closure
 pub mod Marks
 pub mod JobLaws
 pub mod ReadBack
+pub mod Numbers
 pub mod Answers
 pub mod WriteProgram
 pub mod WriteSuite
@@ -21,3 +22,4 @@ pub mod Written
 pub mod Exported
 pub mod Refused
 pub mod Checked
+pub mod Words

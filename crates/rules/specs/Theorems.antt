@@ -1,9 +1,13 @@
 -- The promises, proved, in the order of Promises.
 use Rattle.rules.specs.Text.{Bytes}
+use mathlib.Core.List.{List}
+use Rattle.rules.specs.Graph.{Program}
+use Rattle.rules.specs.Closing.{Coverage}
+use Rattle.rules.specs.Sheet.{Sheet}
 use Rattle.rules.specs.Job.{Version}
 use Rattle.rules.specs.Promises.{
+  AlikeExact,
   AnswersPlain,
-  CheckNumbers,
   ClaimsFalse,
   ClosingRulesExact,
   Demand2,
@@ -11,24 +15,30 @@ use Rattle.rules.specs.Promises.{
   ExportedDemand3,
   LabelShown,
   LabelsAnswered,
+  LeftOffExact,
   LineAbove,
+  LineMissing,
+  LookupsExact,
+  NumbersGiven,
   PassesExactly,
   ProgramLayout,
   ProgramPlaced,
   ProgramWellFormed,
   RecordShort,
   RecordUnnamed,
+  RulesExact,
   SuiteLayout,
   SuitePlaced,
   TextsRead,
   TextsRefused,
+  TooLong,
   Unpacks,
   WritesExactly,
 }
-use Rattle.rules.specs.Proofs.Answers.{check-number, plain-answers, record-short as short-record}
+use Rattle.rules.specs.Proofs.Answers as Answers
 use Rattle.rules.specs.Proofs.Checked as Checked
 use Rattle.rules.specs.Proofs.Closure.{exact}
-use Rattle.rules.specs.Proofs.Exported.{exported, unpacked}
+use Rattle.rules.specs.Proofs.Exported.{exported, returned}
 use Rattle.rules.specs.Proofs.JobLaws.{checked-texts, marked-texts, unlisted-texts}
 use Rattle.rules.specs.Proofs.Places.{listing-placed, label-part, tests-placed}
 use Rattle.rules.specs.Proofs.ProgramLaws.{read-well-formed}
@@ -36,6 +46,7 @@ use Rattle.rules.specs.Proofs.ReadBack.{written-passes}
 use Rattle.rules.specs.Proofs.Refused as Refused
 use Rattle.rules.specs.Proofs.Selection.{selection-exact}
 use Rattle.rules.specs.Proofs.SheetLayout.{check-exact}
+use Rattle.rules.specs.Proofs.Words as Words
 use Rattle.rules.specs.Proofs.WriteProgram.{reads-layout}
 use Rattle.rules.specs.Proofs.WriteSuite.{reads-suite-layout}
 use Rattle.rules.specs.Proofs.Written.{written-exactly}
@@ -43,10 +54,16 @@ use Rattle.rules.specs.Proofs.Written.{written-exactly}
 -- ---- demand 1
 
 pub answers-plain : (old new tests : Bytes) → AnswersPlain old new tests
-answers-plain = plain-answers
+answers-plain = Answers.plain-answers
 
 pub unpacks : Unpacks
-unpacks = unpacked
+unpacks = returned
+
+pub numbers-given : NumbersGiven
+numbers-given = Answers.numbers-given
+
+pub too-long : TooLong
+too-long = Answers.too-long
 
 pub texts-read : (old new tests : Bytes) → TextsRead old new tests
 texts-read = Refused.texts-in-order
@@ -61,16 +78,16 @@ pub writes-exactly : WritesExactly
 writes-exactly = written-exactly
 
 pub record-short : RecordShort
-record-short = short-record
-
-pub check-numbers : CheckNumbers
-check-numbers = check-number
+record-short = Answers.record-short
 
 pub claims-false : ClaimsFalse
 claims-false = Checked.claims-false
 
 pub line-above : LineAbove
 line-above = Checked.line-above
+
+pub line-missing : LineMissing
+line-missing = Checked.line-missing
 
 pub labels-answered : (old new : Version) → LabelsAnswered old new
 labels-answered = Refused.labels-answered
@@ -95,6 +112,12 @@ suite-placed = tests-placed
 pub label-shown : LabelShown
 label-shown = label-part
 
+pub lookups-exact : LookupsExact
+lookups-exact text p e = Words.lookups p (read-well-formed text p e)
+
+pub alike-exact : (old new : Program) → AlikeExact old new
+alike-exact = Words.alike-exact
+
 pub closing-rules-exact : ClosingRulesExact
 closing-rules-exact old new p p′ e e′ = exact p p′ (read-well-formed old p e) (read-well-formed new p′ e′)
 
@@ -105,6 +128,12 @@ demand2 = selection-exact
 
 pub passes-exactly : PassesExactly
 passes-exactly = check-exact
+
+pub rules-exact : (old new : Program) (suite : List Coverage) (c : Sheet) → RulesExact old new suite c
+rules-exact = Words.rules-exact
+
+pub left-off-exact : LeftOffExact
+left-off-exact = Words.left-off-exact
 
 pub demand3 {ℓ κ} : (St : Type ℓ) (Out : Type κ) (old new tests : Bytes) → Demand3 St Out old new tests
 demand3 St Out old new tests =

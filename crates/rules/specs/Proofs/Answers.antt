@@ -1,206 +1,65 @@
--- Answers: a refusal's number is 1 to 16, of a reading at most 11, and its place and the bytes written are below 4,294,967,296, so that one number holds both.
-use mathlib.Core.Path.{_≡_, refl, sym, ap, subst}
-use mathlib.Core.Bool.{Bool, true, false}
-use mathlib.Core.Option.{Option, none, some}
+-- Answers: which numbers each call gives; that number 0 is success, a number is at most 16, and a place and the bytes written are below 4,294,967,296, so that one number holds both.
+use mathlib.Core.Path.{_≡_, refl, sym, ap, _∙_, subst}
+use mathlib.Core.Logic.{_↔_}
+use mathlib.Core.Bool.{Bool, true, false, true≢false}
 use mathlib.Core.List.{List, [], _∷_, _++_}
 use Prim.Native.Nat.{ℕ, suc, _+_, _≤_, _<_}
 use native.Mathlib.Omega.{arith}
-use native.Mathlib.Decide.{decLt}
 use lib.Dec.{eqb}
-use lib.ListN.{length, getD, length-append, List·getD-eq-default}
-use borrow.Author.Tests.{ltb-false}
-use Rattle.laws.specs.Tests.{after, choose, count, first, firstFailed}
+use lib.ListN.{length, length-append}
+use borrow.Author.Tests.{leb-true}
+use Rattle.laws.specs.Tests.{_and_, _or_, choose, count, firstFailed, has}
+use Rattle.laws.specs.TestLaws.{and-left, and-right}
 use Rattle.laws.specs.Counting.{count-few}
-use Rattle.laws.specs.Lists.{snoc-all, snoc-length}
-use Rattle.rules.specs.Text.{Answer, Bytes, accepted, bytes, decimal, fieldsOf, joinBy, linesOf, onto, readLines, readText, refused, split, textOf, then, unless, maxBytes}
-use Rattle.rules.specs.Graph.{Program, edgeCount, nodeCount}
-use Rattle.rules.specs.ProgramFile.{Line, Listing, current, edge-line, finishProgram, formOf, lost, malformed, node-line, nothingRead, proc-line, readListing, readProgram, stepProgram, takeLine, takeProc}
-use Rattle.rules.specs.SuiteFile.{Suite, TestLine, TestListing, coverageAt, finishSuite, no-test, noTests, readSuite, readTests, stepSuite, takeTest, test-line, testForm, testName}
+use Rattle.rules.specs.Text.{Answer, Bytes, accepted, between, bytes, decimal, joinBy, refused, textOf}
+use Rattle.rules.specs.Graph.{Program, edgeCount}
+use Rattle.rules.specs.ProgramFile.{readProgram}
+use Rattle.rules.specs.SuiteFile.{coverageAt, readSuite, testName}
 use Rattle.rules.specs.Closing.{Coverage, holds}
-use Rattle.rules.specs.Sheet.{Sheet, SheetLine, SheetRead, crossed, d-line, end-line, finishSheet, head-line, m-line, marksOf, no-form, noSheet, r-line, readSheet, recordText, sheetForm, stepSheet, takeSheetLine, testOf, vLine}
+use Rattle.rules.specs.Sheet.{Sheet, crossed, marksOf, readSheet, recordText, vLine}
 use Rattle.rules.specs.Check.{broken, rule1, rule2, rule3, rule4, rule5}
-use Rattle.rules.specs.Job.{Given, Outcome, checkAnswer, judged, numberOf, outcome, readJob, readNewAnswer, readOldAnswer, readTestsAnswer, recordAnswer, recordBytes, refusal, sheetAnswer, sheetBytes, success, writing, wrote}
-use Rattle.rules.specs.Promises.{AnswersPlain, CheckNumbers, Plain}
+use Rattle.rules.specs.Job.{Given, Outcome, checkAnswer, checking, judged, outcome, passed, readJob, readNewAnswer, readOldAnswer, readTestsAnswer, recordAnswer, recordBytes, refusal, sheetAnswer, sheetBytes, success, writing, wrote}
+use Rattle.rules.specs.Promises.{AnswersPlain, NumbersGiven, Plain, TooLong}
 use Rattle.rules.specs.Proofs.JobLaws.{known, marks-length, outcome-wrote, record-wrote, wrote-choose, wrote-same}
+use Rattle.rules.specs.Proofs.Numbers.{Any, Good, Refusal, allOf, big, good-number, job-good, jobNumbers, passes-of, program-good, program-long, programNumbers, sheet-good, sheet-long, sheetNumbers, suite-good, suite-long, suiteNumbers}
 use Rattle.rules.specs.Proofs.ReadBack.{name-short, written-passes}
-use Rattle.rules.specs.Proofs.SuiteLaws.{suite-sound}
-use Rattle.rules.specs.Proofs.TextLaws.{decimal-most, split-cons}
-
--- What is above every place.
-abbrev big : ℕ
-big = 4294967296
-
--- The number of a refusal, at most m; with its place.
-abbrev Number : ℕ → ℕ → Type 0
-Number m k = (0 < k) × (k ≤ m)
-
-abbrev Refusal : ℕ → ℕ → ℕ → Type 0
-Refusal m k p = Number m k × (p < big)
-
--- The answer of a reading, whose numbers are at most 11; what it accepts has P.
-abbrev pub Good : {A : Type 0} → (A → Type 0) → Answer A → Type 0
-Good P (refused k p) = Refusal 11 k p
-Good P (accepted a) = P a
-
--- Nothing is asked of it.
-abbrev pub Any : {A : Type 0} → A → Type 0
-Any a = Unit {0}
-
-module _ {A : Type 0} (P : A → Type 0) where
-  unless-good : (b : Bool) (k p : ℕ) (a : Answer A) → Number 11 k → p < big → (b ≡ false → Good P a) → Good P (unless b k p a)
-  unfolding unless
-  unless-good true k p a h l n = (h, l)
-  unless-good false k p a h l n = n refl
-
-  choose-good : (b : Bool) (x y : Answer A) → Good P x → Good P y → Good P (choose b x y)
-  unfolding choose
-  choose-good true x y h k = h
-  choose-good false x y h k = k
-
-  after-good : (o : Option ℕ) (a : Answer A) (f : ℕ → Answer A) → Good P a → ((m : ℕ) → Good P (f m)) → Good P (after o a f)
-  after-good none a f h n = h
-  after-good (some m) a f h n = n m
-
-then-good : {A B : Type 0} (P : A → Type 0) (Q : B → Type 0) (a : Answer A) (f : A → Answer B) → Good P a → ((x : A) → P x → Good Q (f x)) → Good Q (then a f)
-unfolding then
-then-good P Q (refused k p) f h n = h
-then-good P Q (accepted x) f h n = n x h
-
--- ---- a text has few lines
-
-onto-length : (t : Bool) (x : ℕ) (p : Bytes) (ps : List Bytes) → length (onto t x (p ∷ ps)) ≤ suc (suc (length ps))
-unfolding onto
-onto-length true x p ps = omega arith
-onto-length false x p ps = omega arith
-
-split-length : (b : ℕ) (s : Bytes) → length (split b s) ≤ suc (length s)
-unfolding split
-split-length b [] = omega arith
-split-length b (x ∷ s) =
-    let c = split-cons b s in
-    let h : length (c .1) ≤ length s = omega (arith, split-length b s, ap length (c .2)) in
-    omega (arith, ap (λ (ps : List Bytes). length (onto (eqb x b) x ps)) (c .2), onto-length (eqb x b) x (c .0) (c .1))
-
--- ---- reading
-
-module _ {S A : Type 0} (P : S → Type 0) (Q : A → Type 0) (step : ℕ → ℕ → S → Bytes → Answer S) (finish : ℕ → S → Answer A)
-    (steps : (n at : ℕ) (st : S) (l : Bytes) → n < big → P st → Good P (step n at st l)) (ends : (n : ℕ) (st : S) → n < big → P st → Good Q (finish n st)) where
-  lines-good : (ls : List Bytes) (n at : ℕ) (st : S) → n + length ls < big → P st → Good Q (readLines step finish n at st ls)
-  unfolding readLines
-  lines-good [] n at st h p = ((omega arith, omega arith), omega arith)
-  lines-good (l ∷ []) n at st h p = unless-good Q _ _ _ _ (omega arith, omega arith) (omega arith) (λ e. ends n st (omega arith) p)
-  lines-good (l ∷ m ∷ ls) n at st h p =
-      then-good P Q _ _ (steps n at st l (omega arith) p) (λ s q. lines-good (m ∷ ls) (suc n) (at + length l + 1) s (omega arith) q)
-
-  text-good : (st : S) (text : Bytes) → P st → Good Q (readText step finish st text)
-  unfolding readText
-  text-good st text p =
-      unless-good Q _ _ _ _ (omega arith, omega arith) (omega arith) (λ e. lines-good (linesOf text) 1 0 st (omega (arith, ltb-false maxBytes (length text) e, split-length 10 text)) p)
-
--- Line numbers that were stored.
-abbrev Small : List ℕ → Type 0
-Small ns = (i : ℕ) → getD ns i 0 < big
-
-small-more : (ns : List ℕ) (n : ℕ) → Small ns → n < big → Small (ns ++ (n ∷ []))
-small-more ns n h l i = go (decLt i (suc (length ns)))
-  where
-    long : length (ns ++ (n ∷ [])) ≡ suc (length ns)
-    long = snoc-length 0 ns n
-
-    go : Dec (i < suc (length ns)) → getD (ns ++ (n ∷ [])) i 0 < big
-    go (yes k) = snoc-all 0 ns n (λ (m : ℕ). m < big) (λ j b. h j) l i (omega (arith, long))
-    go (no k) = subst (λ (m : ℕ). m < big) (sym (List·getD-eq-default (ns ++ (n ∷ [])) 0 (let z : length (ns ++ (n ∷ [])) ≤ i = omega (arith, long) in z))) (omega arith)
-
-small-none : Small []
-small-none i = omega arith
-
-abbrev Kept : Listing → Type 0
-Kept s = Small (s .places .procLines) × Small (s .places .nodeLines)
-
-proc-good : (n at : ℕ) (name : Bytes) (s : Listing) → n < big → Kept s → Good Kept (takeProc n at name s)
-proc-good n at name s h k =
-    unless-good Kept _ _ _ _ (omega arith, omega arith) h (λ e. unless-good Kept _ _ _ _ (omega arith, omega arith) h (λ e. (small-more (s .places .procLines) n (k .0) h, k .1)))
-
-line-good : (n at : ℕ) (s : Listing) (l : Line) → n < big → Kept s → Good Kept (takeLine n at s l)
-unfolding takeLine
-line-good n at s (proc-line name) h k =
-    choose-good Kept _ _ _ (unless-good Kept _ _ _ _ (omega arith, omega arith) (k .0 (current (s .program))) (λ e. proc-good n at name s h k)) (proc-good n at name s h k)
-line-good n at s (node-line kind label callee) h k =
-    unless-good Kept _ _ _ _ (omega arith, omega arith) h (λ e. unless-good Kept _ _ _ _ (omega arith, omega arith) h (λ e. (k .0, small-more (s .places .nodeLines) n (k .1) h)))
-line-good n at s (edge-line from word to) h k =
-    unless-good Kept _ _ _ _ (omega arith, omega arith) h (λ e.
-    unless-good Kept _ _ _ _ (omega arith, omega arith) h (λ e. unless-good Kept _ _ _ _ (omega arith, omega arith) h (λ e. unless-good Kept _ _ _ _ (omega arith, omega arith) h (λ e. k))))
-line-good n at s malformed h k = ((omega arith, omega arith), h)
-
-finish-good : (n : ℕ) (s : Listing) → n < big → Kept s → Good Any (finishProgram n s)
-unfolding finishProgram
-finish-good n s h k =
-    unless-good Any _ _ _ _ (omega arith, omega arith) (omega arith) (λ e.
-    unless-good Any _ _ _ _ (omega arith, omega arith) (k .0 (current (s .program))) (λ e.
-    after-good Any (first (nodeCount (s .program)) (lost (s .program))) _ _ tt (λ m. ((omega arith, omega arith), k .1 m))))
-
-program-good : (text : Bytes) → Good Any (readProgram text)
-unfolding readProgram readListing stepProgram
-program-good text =
-    then-good Any Any _ _
-    (text-good Kept Any stepProgram finishProgram (λ n at s l. line-good n at s (formOf (fieldsOf l))) finish-good nothingRead text (small-none, small-none)) (λ s k. tt)
-
-test-good : (m n at : ℕ) (l : TestListing) (x : TestLine) → n < big → Good Any (takeTest m n at l x)
-unfolding takeTest
-test-good m n at l (test-line name row) h =
-    unless-good Any _ _ _ _ (omega arith, omega arith) h (λ e. unless-good Any _ _ _ _ (omega arith, omega arith) h (λ e. unless-good Any _ _ _ _ (omega arith, omega arith) h (λ e. tt)))
-test-good m n at l no-test h = ((omega arith, omega arith), h)
-
-suite-good : (m : ℕ) (text : Bytes) → Good Any (readSuite m text)
-unfolding readSuite readTests stepSuite
-suite-good m text =
-    then-good Any Any _ _ (text-good Any Any (stepSuite m) finishSuite (λ n at s l h k. test-good m n at s (testForm (fieldsOf l)) h) (λ n s h k. tt) noTests text tt) (λ s k. tt)
-
-sheet-line-good : (old new : Program) (suite : Suite) (n : ℕ) (s : SheetRead) (x : SheetLine) → n < big → Good Any (takeSheetLine old new suite n s x)
-unfolding takeSheetLine
-sheet-line-good old new suite n s head-line h = unless-good Any _ _ _ _ (omega arith, omega arith) h (λ e. tt)
-sheet-line-good old new suite n s (m-line a b) h = unless-good Any _ _ _ _ (omega arith, omega arith) h (λ e. unless-good Any _ _ _ _ (omega arith, omega arith) h (λ e. tt))
-sheet-line-good old new suite n s (d-line e) h = unless-good Any _ _ _ _ (omega arith, omega arith) h (λ e. tt)
-sheet-line-good old new suite n s (r-line name) h =
-    after-good Any (testOf suite name) _ _ ((let z : 0 < 11 = omega arith in z, let z : 11 ≤ 11 = omega arith in z), h) (λ i. unless-good Any _ _ _ _ (omega arith, omega arith) h (λ e. tt))
-sheet-line-good old new suite n s (end-line m d r) h = unless-good Any _ _ _ _ (omega arith, omega arith) h (λ e. tt)
-sheet-line-good old new suite n s no-form h = ((omega arith, omega arith), h)
-
-pub sheet-good : (old new : Program) (suite : Suite) (text : Bytes) → Good Any (readSheet old new suite text)
-unfolding readSheet stepSheet finishSheet
-sheet-good old new suite text =
-    text-good Any Any (stepSheet old new suite) finishSheet (λ n at s l h k. sheet-line-good old new suite n s (sheetForm (fieldsOf l)) h)
-    (λ n s h k. unless-good Any _ _ _ _ (omega arith, omega arith) h (λ e. tt)) noSheet text tt
-
-pub job-good : (old new tests : Bytes) → Good Any (readJob old new tests)
-unfolding readJob
-job-good old new tests =
-    then-good Any Any _ _ (program-good old) (λ p k. then-good Any Any _ _ (program-good new) (λ r k. then-good Any Any _ _ (suite-good (edgeCount p) tests) (λ s k. tt)))
+use Rattle.rules.specs.Proofs.TextLaws.{decimal-most}
 
 -- ---- outcomes
 
--- A refusal whose number is at most m, or something written.
-abbrev Told : ℕ → Outcome → Type 0
-Told m (wrote b) = Unit {0}
-Told m (refusal k p) = Refusal m k p
+-- A refusal with a number of ks, or something written.
+abbrev Told : List ℕ → Outcome → Type 0
+Told ks (wrote b) = Unit {0}
+Told ks (refusal k p) = Refusal ks k p
 
-outcome-told : {A : Type 0} (m : ℕ) (a : Answer A) (f : A → Outcome) → 11 ≤ m → Good Any a → ((x : A) → Told m (f x)) → Told m (outcome a f)
+-- What follows a reading, whose numbers are among those of the call.
+outcome-told : {A : Type 0} (ks js : List ℕ) (a : Answer A) (f : A → Outcome) → allOf (has js) ks ≡ true → Good ks Any a → ((x : A) → Told js (f x)) → Told js (outcome a f)
 unfolding outcome
-outcome-told m (refused k p) f l h n = ((h .0 .0, let z : k ≤ m = omega (arith, h .0 .1) in z), h .1)
-outcome-told m (accepted x) f l h n = n x
+outcome-told ks js (refused k p) f s h n = (passes-of (has js) ks k s (h .0), h .1)
+outcome-told ks js (accepted x) f s h n = n x
 
-choose-told : (m : ℕ) (b : Bool) (x y : Outcome) → Told m x → Told m y → Told m (choose b x y)
+choose-told : (ks : List ℕ) (b : Bool) (x y : Outcome) → Told ks x → Told ks y → Told ks (choose b x y)
 unfolding choose
-choose-told m true x y h k = h
-choose-told m false x y h k = k
+choose-told ks true x y h k = h
+choose-told ks false x y h k = k
 
--- A refusal with place 0.
-placeless : (m k : ℕ) → 0 < k → k ≤ m → Told m (refusal k 0)
-placeless m k h l = ((h, l), let z : 0 < big = omega arith in z)
+told-number : (ks : List ℕ) (o : Outcome) (k p : ℕ) → Told ks o → o ≡ refusal k p → has ks k ≡ true
+told-number ks (wrote b) k p t e = absurd (true≢false (let z : true ≡ false = cc in z))
+told-number ks (refusal j q) k p t e = subst (λ (i : ℕ). has ks i ≡ true) (let z : j ≡ k = cc in z) (t .0)
 
-writing-told : (g : Given) (room : ℕ) (b : Bytes) → Told 16 (writing g room b)
-unfolding writing
-writing-told g room b = choose-told 16 _ _ _ (placeless 16 15 (omega arith) (omega arith)) (choose-told 16 _ _ _ (placeless 16 16 (omega arith) (omega arith)) tt)
+-- The numbers of the calls that write, and of the check; of a sheet's check, where the texts are accepted.
+abbrev writeNumbers : List ℕ
+writeNumbers = 1 ∷ 2 ∷ 3 ∷ 4 ∷ 5 ∷ 6 ∷ 7 ∷ 8 ∷ 9 ∷ 10 ∷ 15 ∷ 16 ∷ []
+
+abbrev checkNumbers : List ℕ
+checkNumbers = 1 ∷ 2 ∷ 3 ∷ 4 ∷ 5 ∷ 6 ∷ 7 ∷ 8 ∷ 9 ∷ 10 ∷ 11 ∷ 12 ∷ []
+
+abbrev judgeNumbers : List ℕ
+judgeNumbers = 1 ∷ 2 ∷ 4 ∷ 11 ∷ 12 ∷ []
+
+writing-told : (g : Given) (room : ℕ) (b : Bytes) → Told writeNumbers (writing g room b)
+unfolding writing has _or_
+writing-told g room b = choose-told writeNumbers _ _ _ (refl, let z : 0 < big = omega arith in z) (choose-told writeNumbers _ _ _ (refl, let z : 0 < big = omega arith in z) tt)
 
 -- The place of a broken rule is at most 5.
 failed-few : (k : ℕ) (l : List Bool) → firstFailed k l ≤ k + length l
@@ -213,28 +72,26 @@ broken-few : (old new : Program) (suite : List Coverage) (s : Sheet) → broken 
 unfolding broken
 broken-few old new suite s = omega (arith, failed-few 1 (rule1 old new s ∷ rule2 old new s ∷ rule3 old new s ∷ rule4 old new s ∷ rule5 suite s ∷ []))
 
-judged-told : (g : Given) (s : Sheet) → Told 12 (judged g s)
-unfolding judged
-judged-told g s = choose-told 12 _ _ _ tt ((let z : 0 < 12 = omega arith in z, let z : 12 ≤ 12 = omega arith in z), broken-few (g .old) (g .new) (g .suite .coverages) s)
+checking-told : (g : Given) (sheet : Bytes) → Told judgeNumbers (checking g sheet)
+unfolding judged allOf has _or_ _and_
+checking-told g sheet =
+    outcome-told (1 ∷ sheetNumbers) judgeNumbers _ _ refl (sheet-good (g .old) (g .new) (g .suite) sheet)
+    (λ s. choose-told judgeNumbers _ _ _ tt (refl, broken-few (g .old) (g .new) (g .suite .coverages) s))
 
-check-told : (old new tests sheet : Bytes) → Told 12 (checkAnswer old new tests sheet)
-unfolding checkAnswer
-check-told old new tests sheet =
-    outcome-told 12 _ _ (omega arith) (job-good old new tests) (λ g. outcome-told 12 _ _ (omega arith) (sheet-good (g .old) (g .new) (g .suite) sheet) (judged-told g))
+more-told : (ks js : List ℕ) (o : Outcome) → allOf (has js) ks ≡ true → Told ks o → Told js o
+more-told ks js (wrote b) s t = tt
+more-told ks js (refusal k p) s t = (passes-of (has js) ks k s (t .0), t .1)
 
-few-told : (m : ℕ) (o : Outcome) → Told m o → numberOf o ≤ m
-few-told m (wrote b) t = omega arith
-few-told m (refusal k p) t = t .0 .1
-
--- The check's numbers.
-pub check-number : CheckNumbers
-check-number old new tests sheet = few-told 12 (checkAnswer old new tests sheet) (check-told old new tests sheet)
+-- ---- the promises
 
 -- What is told is plain, if what was written is short.
-plain : (m : ℕ) (o : Outcome) → m ≤ 16 → Told m o → ((b : Bytes) → o ≡ wrote b → length b < big) → Plain o
-plain m (wrote b) l t h = record { zero-succeeds = λ e. (b, refl); few-numbers = omega arith; fits-beside = h b refl }
-plain m (refusal k p) l t h =
-    record { zero-succeeds = λ e. absurd (let z : ⊥ = omega (arith, t .0 .0) in z); few-numbers = omega (arith, t .0 .1); fits-beside = t .1 }
+plain : (ks : List ℕ) (o : Outcome) → allOf (between 1 16) ks ≡ true → Told ks o → ((b : Bytes) → o ≡ wrote b → length b < big) → Plain o
+unfolding between
+plain ks (wrote b) s t h = record { zero-succeeds = λ e. (b, refl); few-numbers = omega arith; fits-beside = h b refl }
+plain ks (refusal k p) s t h =
+    let r = passes-of (between 1 16) ks k s (t .0) in
+    let l : 1 ≤ k = leb-true 1 k (and-left _ _ r) in
+    record { zero-succeeds = λ e. absurd (let z : ⊥ = omega (arith, l) in z); few-numbers = leb-true k 16 (and-right _ _ r); fits-beside = t .1 }
 
 -- Where nothing is written, nothing long is.
 unwritten : (o : Outcome) → ((b : Bytes) → o ≡ wrote b → b ≡ []) → (b : Bytes) → o ≡ wrote b → length b < big
@@ -273,18 +130,56 @@ record-short old new tests i room b e =
     )
 
 pub plain-answers : (old new tests : Bytes) → AnswersPlain old new tests
-unfolding readOldAnswer readNewAnswer readTestsAnswer sheetAnswer recordAnswer checkAnswer
+unfolding readOldAnswer readNewAnswer readTestsAnswer sheetAnswer recordAnswer checkAnswer allOf between has _or_ _and_
 plain-answers old new tests =
     record {
-      of-old = plain 11 _ (omega arith) (outcome-told 11 _ _ (omega arith) (program-good old) (λ p. tt)) (unwritten _ (success-only _ _ (λ p. nothing-wrote)));
-      of-new = plain 11 _ (omega arith) (outcome-told 11 _ _ (omega arith) (program-good old) (λ p. outcome-told 11 _ _ (omega arith) (program-good new) (λ r. tt)))
+      of-old = plain jobNumbers _ refl (outcome-told _ jobNumbers _ _ refl (program-good old) (λ p. tt)) (unwritten _ (success-only _ _ (λ p. nothing-wrote)));
+      of-new = plain jobNumbers _ refl (outcome-told _ jobNumbers _ _ refl (program-good old) (λ p. outcome-told _ jobNumbers _ _ refl (program-good new) (λ r. tt)))
           (unwritten _ (success-only _ _ (λ p. success-only _ _ (λ r. nothing-wrote))));
-      of-tests = plain 11 _ (omega arith) (outcome-told 11 _ _ (omega arith) (job-good old new tests) (λ g. tt)) (unwritten _ (success-only _ _ (λ g. nothing-wrote)));
+      of-tests = plain jobNumbers _ refl (outcome-told _ jobNumbers _ _ refl (job-good old new tests) (λ g. tt)) (unwritten _ (success-only _ _ (λ g. nothing-wrote)));
       of-sheet = λ room.
-          plain 16 _ (omega arith) (outcome-told 16 _ _ (omega arith) (job-good old new tests) (λ g. writing-told g room (sheetBytes g))) (λ b e. omega (arith, written-passes old new tests room b e .1));
+          plain writeNumbers _ refl (outcome-told _ writeNumbers _ _ refl (job-good old new tests) (λ g. writing-told g room (sheetBytes g))) (λ b e. omega (arith, written-passes old new tests room b e .1));
       of-record = λ i room.
-          plain 16 _ (omega arith)
-          (outcome-told 16 _ _ (omega arith) (job-good old new tests) (λ g. choose-told 16 _ _ _ (writing-told g room (recordBytes g i)) (placeless 16 6 (omega arith) (omega arith))))
+          plain writeNumbers _ refl
+          (outcome-told _ writeNumbers _ _ refl (job-good old new tests) (λ g. choose-told writeNumbers _ _ _ (writing-told g room (recordBytes g i)) (refl, let z : 0 < big = omega arith in z)))
           (λ b e. omega (arith, record-short old new tests i room b e));
-      of-check = λ sheet. plain 12 _ (omega arith) (check-told old new tests sheet) (unwritten _ (success-only _ _ (λ g. success-only _ _ (judged-wrote g))));
+      of-check = λ sheet.
+          plain checkNumbers _ refl (outcome-told _ checkNumbers _ _ refl (job-good old new tests) (λ g. more-told judgeNumbers checkNumbers (checking g sheet) refl (checking-told g sheet)))
+          (unwritten _ (success-only _ _ (λ g. success-only _ _ (judged-wrote g))));
+    }
+
+checked : (old new tests sheet : Bytes) (g : Given) → readJob old new tests ≡ accepted g → checkAnswer old new tests sheet ≡ checking g sheet
+unfolding checkAnswer outcome
+checked old new tests sheet g e = ap (λ (a : Answer Given). outcome a (λ x. checking x sheet)) e
+
+pub numbers-given : NumbersGiven
+numbers-given =
+    record {
+      of-program = λ text k p e. good-number Any (1 ∷ programNumbers) (readProgram text) k p (program-good text) e;
+      of-tests = λ m text k p e. good-number Any (1 ∷ suiteNumbers) (readSuite m text) k p (suite-good m text) e;
+      of-check = λ old new tests sheet g r k p e. told-number judgeNumbers (checking g sheet) k p (checking-told g sheet) (sym (checked old new tests sheet g r) ∙ e);
+    }
+
+-- A refusal with 1 is that of reading the sheet.
+one-read : (g : Given) (sheet : Bytes) (p : ℕ) → (checking g sheet ≡ refusal 1 p) ↔ (readSheet (g .old) (g .new) (g .suite) sheet ≡ refused 1 p)
+unfolding outcome judged choose
+one-read g sheet p = go (readSheet (g .old) (g .new) (g .suite) sheet)
+  where
+    never : (b : Bool) (q : ℕ) → choose b passed (refusal 12 q) ≡ refusal 1 p → ⊥
+    never true q e = true≢false (let z : true ≡ false = cc in z)
+    never false q e = let z : _≡_ {A = ℕ} 12 1 = cc in let y : ⊥ = omega (arith, z) in y
+
+    go : (a : Answer Sheet) → (outcome a (judged g) ≡ refusal 1 p) ↔ (a ≡ refused 1 p)
+    go (refused j q) = (λ e. cc, λ e. cc)
+    go (accepted c) = (λ e. absurd (never (eqb (broken (g .old) (g .new) (g .suite .coverages) c) 0) (broken (g .old) (g .new) (g .suite .coverages) c) e), λ e. absurd (true≢false (let z : true ≡ false = cc in z)))
+
+pub too-long : TooLong
+too-long =
+    record {
+      of-program = program-long;
+      of-tests = suite-long;
+      of-check = λ old new tests sheet g r p.
+          let l = sheet-long (g .old) (g .new) (g .suite) sheet p in
+          let o = one-read g sheet p in
+          (λ e. l .0 (o .0 (sym (checked old new tests sheet g r) ∙ e)), λ h. checked old new tests sheet g r ∙ o .1 (l .1 h));
     }

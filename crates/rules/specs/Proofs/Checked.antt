@@ -1,28 +1,30 @@
--- When the check of a sheet refuses with 12 and with 4, and which numbers it gives.
-use mathlib.Core.Path.{_≡_, refl, sym, ap, _∙_}
+-- When the check of a sheet refuses with 12, with 4, and with 11 for a line that is missing.
+use mathlib.Core.Path.{_≡_, refl, sym, ap, _∙_, subst}
 use mathlib.Core.Logic.{_⊎_, inl, inr, ⊎-elim}
 use mathlib.Core.Bool.{Bool, true, false, true≢false}
 use mathlib.Core.Option.{Option, none, some}
-use mathlib.Core.List.{List, [], _∷_, _++_}
+use mathlib.Core.List.{List, [], _∷_, _++_, append-assoc}
 use Prim.Native.Nat.{ℕ, zero, suc, _+_, _≤_, _<_}
 use native.Mathlib.Omega.{arith}
 use lib.Dec.{eqb}
 use lib.ListN.{length, getD}
 use borrow.Author.Tests.{eq-eqb, le-leb, le-ltb, ne-eqb}
-use Rattle.laws.specs.Tests.{after, choose, firstFailed, plus}
+use Rattle.laws.specs.Tests.{_or_, after, choose, firstFailed, has, plus}
 use Rattle.laws.specs.TestLaws.{both-ways}
 use Rattle.laws.specs.Lists.{choose-no, snoc-length}
-use Rattle.rules.specs.Text.{Answer, Bytes, accepted, fieldsOf, maxPairs, readLines, readText, refused, then, unless}
+use Rattle.rules.specs.Text.{Answer, Bytes, accepted, fieldsOf, linesOf, maxBytes, maxPairs, readLines, readText, refused, textOf, then, unless}
 use Rattle.rules.specs.Graph.{Program}
 use Rattle.rules.specs.SuiteFile.{Suite}
-use Rattle.rules.specs.Sheet.{Sheet, SheetLine, SheetRead, d-line, end-line, finishSheet, head-line, m-line, no-form, noSheet, r-line, readSheet, sheetForm, stepSheet, takeSheetLine, testOf}
+use Rattle.rules.specs.Sheet.{Sheet, SheetLine, SheetRead, d-line, end-line, finishSheet, head-line, m-line, no-form, noSheet, r-line, readSheet, sheetForm, sheetLines, sheetText, stepSheet, takeSheetLine, testOf}
 use Rattle.rules.specs.Check.{broken}
 use Rattle.rules.specs.Job.{Given, Outcome, checkAnswer, checking, judged, numberOf, outcome, passed, readJob, refusal, wrote}
-use Rattle.rules.specs.Promises.{Breaks, ClaimsFalse, LineAbove, fiveRules, isM, mCount}
-use Rattle.rules.specs.Proofs.Answers.{Any, Good, job-good, sheet-good}
+use Rattle.rules.specs.Promises.{Breaks, ClaimsFalse, LineAbove, LineMissing, fiveRules, isM, mCount}
+use Rattle.rules.specs.Proofs.Numbers.{Any, Good, job-good, jobNumbers, sheet-good, sheetNumbers}
 use Rattle.rules.specs.Proofs.JobLaws.{known}
-use Rattle.rules.specs.Proofs.SheetLayout.{accepted-orderly, sheet-layout}
-use Rattle.rules.specs.Proofs.TextLaws.{unless-passes, unless-refuses}
+use Rattle.rules.specs.Proofs.ReadBack.{Goes, ended-append, goes-all, sheet-short}
+use Rattle.rules.specs.Proofs.SheetLaws.{sheet-free}
+use Rattle.rules.specs.Proofs.SheetLayout.{accepted-orderly, cut-sheet, few-of, sheet-layout}
+use Rattle.rules.specs.Proofs.TextLaws.{AllFree, lines-next, split-ended, unless-passes, unless-refuses}
 
 -- ---- 12
 
@@ -47,11 +49,11 @@ failed-is (true ∷ l) k h n =
     below i f zero b = refl
     below i f (suc j) b = f j (omega arith)
 
--- A refusal with 12 comes behind a reading that was accepted.
-read-past : {A : Type 0} (a : Answer A) (f : A → Outcome) → Good Any a → (p : ℕ) → outcome a f ≡ refusal 12 p → (x : A) × (a ≡ accepted x) × (f x ≡ refusal 12 p)
+-- A refusal with 12 comes behind a reading that was accepted, if reading never gives 12.
+read-past : {A : Type 0} (ks : List ℕ) (a : Answer A) (f : A → Outcome) → Good ks Any a → has ks 12 ≡ false → (p : ℕ) → outcome a f ≡ refusal 12 p → (x : A) × (a ≡ accepted x) × (f x ≡ refusal 12 p)
 unfolding outcome
-read-past (refused k q) f h p e = absurd (let z : ⊥ = omega (arith, h .0 .1, ap numberOf e) in z)
-read-past (accepted x) f h p e = (x, refl, e)
+read-past ks (refused k q) f h n p e = absurd (both-ways (subst (λ (i : ℕ). has ks i ≡ true) (ap numberOf e) (h .0)) n)
+read-past ks (accepted x) f h n p e = (x, refl, e)
 
 refusal-place : {k j p q : ℕ} → refusal k p ≡ refusal j q → p ≡ q
 refusal-place e = cc
@@ -68,14 +70,14 @@ judged-false g c p e = go (broken (g .old) (g .new) (g .suite .coverages) c) (eq
     go b false h q = (refusal-place q, λ z. both-ways (eq-eqb b 0 (refusal-place q ∙ z)) h)
 
 pub claims-false : ClaimsFalse
-unfolding checkAnswer outcome judged broken
+unfolding checkAnswer outcome judged broken has _or_
 claims-false old new tests sheet p = (there, back)
   where
     there : checkAnswer old new tests sheet ≡ refusal 12 p → Breaks old new tests sheet p
     there e =
-        let u = read-past (readJob old new tests) (λ g. checking g sheet) (job-good old new tests) p e in
+        let u = read-past jobNumbers (readJob old new tests) (λ g. checking g sheet) (job-good old new tests) refl p e in
         let g = u .0 in
-        let v = read-past (readSheet (g .old) (g .new) (g .suite) sheet) (judged g) (sheet-good (g .old) (g .new) (g .suite) sheet) p (u .2) in
+        let v = read-past (1 ∷ sheetNumbers) (readSheet (g .old) (g .new) (g .suite) sheet) (judged g) (sheet-good (g .old) (g .new) (g .suite) sheet) refl p (u .2) in
         let o = accepted-orderly (g .old) (g .new) (g .suite) sheet (v .0) (v .1) in
         let b = judged-false g (v .0) p (v .2) in
         let f = failed-is (fiveRules g (v .0)) 1 (omega arith) (λ z. b .1 (sym (b .0) ∙ z)) in
@@ -135,29 +137,37 @@ plus-moves true i j = omega arith
 plus-moves false i j = refl
 
 module _ (old new : Program) (suite : Suite) (l m : Bytes) (ms : List Bytes) (is : isM (sheetForm (fieldsOf l)) ≡ true) where
-  -- Reading the lines ls from the line n on, and behind them the line l.
+  -- Reading the lines ls from the line n on, and behind them the line l; and the lines ls alone.
   abbrev reads : ℕ → ℕ → SheetRead → List Bytes → Answer Sheet
   reads n at s ls = readLines (stepSheet old new suite) finishSheet n at s (ls ++ (l ∷ m ∷ ms))
 
-  -- The line l is refused with 4, or one of the lines before it is refused.
-  abbrev Stops : ℕ → ℕ → SheetRead → List Bytes → Type 0
-  Stops n at s ls = (reads n at s ls ≡ refused 4 (n + length ls)) ⊎ ((k p : ℕ) × (reads n at s ls ≡ refused k p) × (n ≤ p) × (p < n + length ls))
+  abbrev alone : ℕ → ℕ → SheetRead → List Bytes → Answer Sheet
+  alone n at s ls = readLines (stepSheet old new suite) finishSheet n at s (ls ++ ([] ∷ []))
 
-  reads-next : (n at : ℕ) (s : SheetRead) (x : Bytes) (ls : List Bytes) → reads n at s (x ∷ ls) ≡ then (stepSheet old new suite n at s x) (λ t. reads (suc n) (at + length x + 1) t ls)
-  unfolding readLines
-  reads-next n at s x [] = refl
-  reads-next n at s x (y ∷ ls) = refl
+  -- The line l is refused with 4, or one of the lines before it is refused, whatever follows.
+  abbrev Stops : ℕ → ℕ → SheetRead → List Bytes → Type 0
+  Stops n at s ls = (reads n at s ls ≡ refused 4 (n + length ls)) ⊎ ((k p : ℕ) × (reads n at s ls ≡ refused k p) × (alone n at s ls ≡ refused k p) × (n ≤ p) × (p < n + length ls))
 
   stops-next : (n at : ℕ) (s : SheetRead) (x : Bytes) (ls : List Bytes) (a : Answer SheetRead) → stepSheet old new suite n at s x ≡ a → Counted old new suite n s (sheetForm (fieldsOf x)) a
       → length (s .claims .M) + mCount (x ∷ ls) ≡ maxPairs → ((t : SheetRead) → length (t .claims .M) + mCount ls ≡ maxPairs → Stops (suc n) (at + length x + 1) t ls) → Stops n at s (x ∷ ls)
   unfolding Counted mCount then
   stops-next n at s x ls (refused k p) e c h f =
-      inr (k, p, reads-next n at s x ls ∙ ap (λ (a : Answer SheetRead). then a (λ t. reads (suc n) (at + length x + 1) t ls)) e, let z : n ≤ p = omega (arith, c) in z, let z : p < n + suc (length ls) = omega (arith, c) in z)
+      inr (
+        k,
+        p,
+        lines-next (stepSheet old new suite) finishSheet n at s x l ls (m ∷ ms) ∙ ap (λ (a : Answer SheetRead). then a (λ t. reads (suc n) (at + length x + 1) t ls)) e,
+        lines-next (stepSheet old new suite) finishSheet n at s x [] ls [] ∙ ap (λ (a : Answer SheetRead). then a (λ t. alone (suc n) (at + length x + 1) t ls)) e,
+        let z : n ≤ p = omega (arith, c) in z,
+        let z : p < n + suc (length ls) = omega (arith, c) in z,
+      )
   stops-next n at s x ls (accepted t) e c h f =
-      let on : reads n at s (x ∷ ls) ≡ reads (suc n) (at + length x + 1) t ls = reads-next n at s x ls ∙ ap (λ (a : Answer SheetRead). then a (λ t. reads (suc n) (at + length x + 1) t ls)) e in
+      let on : reads n at s (x ∷ ls) ≡ reads (suc n) (at + length x + 1) t ls
+      = lines-next (stepSheet old new suite) finishSheet n at s x l ls (m ∷ ms) ∙ ap (λ (a : Answer SheetRead). then a (λ t. reads (suc n) (at + length x + 1) t ls)) e in
+      let by : alone n at s (x ∷ ls) ≡ alone (suc n) (at + length x + 1) t ls
+      = lines-next (stepSheet old new suite) finishSheet n at s x [] ls [] ∙ ap (λ (a : Answer SheetRead). then a (λ t. alone (suc n) (at + length x + 1) t ls)) e in
       let q : suc n + length ls ≡ n + suc (length ls) = omega arith in
       ⊎-elim (λ r. inl (on ∙ r ∙ ap (refused 4) q))
-      (λ r. inr (r .0, r .1, on ∙ r .2, let z : n ≤ r .1 = omega (arith, r .3) in z, let z : r .1 < n + suc (length ls) = omega (arith, r .4) in z))
+      (λ r. inr (r .0, r .1, on ∙ r .2, by ∙ r .3, let z : n ≤ r .1 = omega (arith, r .4) in z, let z : r .1 < n + suc (length ls) = omega (arith, r .5) in z))
       (f t (omega (arith, c, h, plus-moves (isM (sheetForm (fieldsOf x))) (length (s .claims .M)) (mCount ls))))
 
   stops : (ls : List Bytes) (n at : ℕ) (s : SheetRead) → length (s .claims .M) + mCount ls ≡ maxPairs → Stops n at s ls
@@ -167,13 +177,53 @@ module _ (old new : Program) (suite : Suite) (l m : Bytes) (ms : List Bytes) (is
       inl (ap (λ (a : Answer SheetRead). then a (λ t. readLines (stepSheet old new suite) finishSheet (suc n) (at + length l + 1) t (m ∷ ms))) (above old new suite n s (sheetForm (fieldsOf l)) is (omega (arith, h))) ∙ ap (refused 4) e)
   stops (x ∷ ls) n at s h = stops-next n at s x ls _ refl (line-counted old new suite n s (sheetForm (fieldsOf x))) h (λ t k. stops ls (suc n) (at + length x + 1) t k)
 
-pub line-above : LineAbove
+-- The check of a sheet that is not too long, by its lines.
+by-lines : (old new tests sheet : Bytes) (g : Given) (ls : List Bytes) → readJob old new tests ≡ accepted g → length sheet ≤ maxBytes → linesOf sheet ≡ ls
+    → checkAnswer old new tests sheet ≡ outcome (readLines (stepSheet (g .old) (g .new) (g .suite)) finishSheet 1 0 noSheet ls) (judged g)
 unfolding checkAnswer outcome readSheet readText
-line-above old new tests sheet g e short ls l m ms is-lines many is =
-    let read : checkAnswer old new tests sheet ≡ outcome (readLines (stepSheet (g .old) (g .new) (g .suite)) finishSheet 1 0 noSheet (ls ++ (l ∷ m ∷ ms))) (judged g)
-    = ap (λ (a : Answer Given). outcome a (λ x. checking x sheet)) e
-    ∙ ap (λ (a : Answer Sheet). outcome a (judged g)) (unless-passes _ _ _ _ (le-ltb _ _ short) ∙ ap (readLines (stepSheet (g .old) (g .new) (g .suite)) finishSheet 1 0 noSheet) is-lines) in
+by-lines old new tests sheet g ls e short is-lines =
+    ap (λ (a : Answer Given). outcome a (λ x. checking x sheet)) e
+    ∙ ap (λ (a : Answer Sheet). outcome a (judged g)) (unless-passes _ _ _ _ (le-ltb _ _ short) ∙ ap (readLines (stepSheet (g .old) (g .new) (g .suite)) finishSheet 1 0 noSheet) is-lines)
+
+pub line-above : LineAbove
+unfolding outcome
+line-above old new tests front sheet g e brief short ls l m ms front-lines is-lines many is =
+    let read = by-lines old new tests sheet g (ls ++ (l ∷ m ∷ ms)) e short is-lines in
     let one : 1 + length ls ≡ suc (length ls) = omega arith in
     ⊎-elim (λ r. inl (read ∙ ap (λ (a : Answer Sheet). outcome a (judged g)) (r ∙ ap (refused 4) one)))
-    (λ r. inr (r .0, r .1, read ∙ ap (λ (a : Answer Sheet). outcome a (judged g)) (r .2), r .3, let z : r .1 ≤ length ls = omega (arith, r .4) in z))
+    (λ r. inr (
+      r .0,
+      r .1,
+      read ∙ ap (λ (a : Answer Sheet). outcome a (judged g)) (r .2),
+      by-lines old new tests front g (ls ++ ([] ∷ [])) e brief front-lines ∙ ap (λ (a : Answer Sheet). outcome a (judged g)) (r .3),
+      r .4,
+      let z : r .1 ≤ length ls = omega (arith, r .5) in z,
+    ))
     (stops (g .old) (g .new) (g .suite) l m ms is ls 1 0 noSheet (omega (arith, many)))
+
+-- ---- 11, for a line that is missing
+
+free-front : (ls ms : List Bytes) → AllFree 10 (ls ++ ms) → AllFree 10 ls
+free-front [] ms h = tt
+free-front (l ∷ ls) ms h = (h .0, free-front ls ms (h .1))
+
+pub line-missing : LineMissing
+unfolding outcome sheetText Goes
+line-missing old new tests g e c o ls ms m is =
+    let n = known old new tests g e in
+    let h = n .suite-sound in
+    let whole : length (textOf (sheetLines (g .suite .names) c)) ≤ maxBytes
+    = sheet-short (g .old) (g .new) (g .suite) (n .old-sound) (n .new-sound) _ h c o (few-of (g .old) (g .new) (g .suite) (n .old-sound) _ h c o) in
+    let short : length (textOf ls) ≤ maxBytes = omega (arith, whole, ap (λ (x : List Bytes). length (textOf x)) is, ended-append ls (m ∷ ms)) in
+    let lines : linesOf (textOf ls) ≡ ls ++ ([] ∷ []) = split-ended ls (free-front ls (m ∷ ms) (subst (λ (x : List Bytes). AllFree 10 x) is (sheet-free _ (g .suite) h c))) in
+    let read : readLines (stepSheet (g .old) (g .new) (g .suite)) finishSheet 1 0 noSheet ((ls ++ (m ∷ ms)) ++ ([] ∷ [])) ≡ accepted c
+    = subst (λ (x : List Bytes). readLines (stepSheet (g .old) (g .new) (g .suite)) finishSheet 1 0 noSheet (x ++ ([] ∷ [])) ≡ accepted c) is (goes-all (g .old) (g .new) (g .suite) _ h c o 1 0) in
+    let cut : readLines (stepSheet (g .old) (g .new) (g .suite)) finishSheet 1 0 noSheet (ls ++ ([] ∷ [])) ≡ refused 11 (suc (length ls)) = go g ls ms m c read in
+    by-lines old new tests (textOf ls) g (ls ++ ([] ∷ [])) e short lines ∙ ap (λ (a : Answer Sheet). outcome a (judged g)) cut
+  where
+    go : (g : Given) (ls ms : List Bytes) (m : Bytes) (c : Sheet) → readLines (stepSheet (g .old) (g .new) (g .suite)) finishSheet 1 0 noSheet ((ls ++ (m ∷ ms)) ++ ([] ∷ [])) ≡ accepted c
+        → readLines (stepSheet (g .old) (g .new) (g .suite)) finishSheet 1 0 noSheet (ls ++ ([] ∷ [])) ≡ refused 11 (suc (length ls))
+    go g ls [] m c r =
+        cut-sheet (g .old) (g .new) (g .suite) ls m [] [] c (ap (readLines (stepSheet (g .old) (g .new) (g .suite)) finishSheet 1 0 noSheet) (sym (append-assoc ls (m ∷ []) ([] ∷ []))) ∙ r)
+    go g ls (y ∷ ys) m c r =
+        cut-sheet (g .old) (g .new) (g .suite) ls m y (ys ++ ([] ∷ [])) c (ap (readLines (stepSheet (g .old) (g .new) (g .suite)) finishSheet 1 0 noSheet) (sym (append-assoc ls (m ∷ y ∷ ys) ([] ∷ []))) ∙ r)

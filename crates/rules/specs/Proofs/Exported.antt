@@ -1,25 +1,33 @@
 -- What the one number of an exported call says: number and place are taken out of it again, and demand 3 of the numbers that the calls return.
 use mathlib.Core.Path.{_≡_, refl, sym, ap, ap₂, _∙_, subst}
-use mathlib.Core.Bool.{true}
+use mathlib.Core.Bool.{true, false, true≢false}
 use mathlib.Core.List.{[], _∷_, _++_}
-use Prim.Native.Nat.{ℕ, _+_, _<_}
+use Prim.Native.Nat.{ℕ, _+_, _*_, _<_, _/_, _%_}
 use native.Mathlib.Omega.{arith}
 use lib.ListN.{length, take, drop}
 use lib.Seq.{take-append-seam}
 use Rattle.rules.specs.Text.{Bytes}
 use Rattle.rules.specs.SuiteFile.{testName}
 use Rattle.rules.specs.Sheet.{leftOff}
-use Rattle.rules.specs.Job.{Outcome, numberOf, outputAfter, packed, passed, placeOf, wrote}
+use Rattle.rules.specs.Job.{Outcome, numberOf, outputAfter, packed, passed, placeOf, refusal, wrote}
 use Rattle.rules.specs.Promises.{AnswersPlain, Demand3, ExportedDemand3, Plain, Unpacks}
 
 -- ---- number and place
 
--- The number and the place, taken out of the one number.
-pub unpacked : Unpacks
-unfolding packed
-unpacked o h =
-    let p : placeOf o < 4294967296 = h .fits-beside in
-    (omega arith, omega arith)
+-- Number and place are taken out of the one number, and the output is what was written or what it was.
+pub returned : Unpacks
+unfolding packed outputAfter
+returned (wrote b) h out =
+    record {
+      success-below = λ l. (b, refl, let z : 0 * 4294967296 + length b ≡ length b = omega arith in z, refl);
+      refusal-above = λ l. let s : length b < 4294967296 = h .fits-beside in absurd (let z : ⊥ = omega arith in z);
+    }
+returned (refusal k p) h out =
+    let s : p < 4294967296 = h .fits-beside in
+    record {
+      success-below = λ l. let z : k ≡ 0 = omega arith in let w = h .zero-succeeds z in absurd (true≢false (let e : refusal k p ≡ wrote (w .0) = w .1 in let q : true ≡ false = cc in q));
+      refusal-above = λ l. (k, p, refl, let z : (k * 4294967296 + p) / 4294967296 ≡ k = omega arith in z, let z : (k * 4294967296 + p) % 4294967296 ≡ p = omega arith in z, refl);
+    }
 
 nothing : (b : Bytes) → length b ≡ 0 → b ≡ []
 nothing [] e = refl
@@ -64,5 +72,5 @@ exported St Out old new tests d a =
           let w = below-wrote _ (a .of-record i (length out)) (subst (λ (k : ℕ). k < 4294967296) e b) in
           let n : r ≡ length (w .0) = e ∙ w .2 in
           let m = d .marked i (length out) (w .0) (w .1) in
-          (m .0, m .1, m .2, m .3, written _ (w .0) out out′ r (w .1) n l ∙ ap (λ (x : Bytes). x ++ drop r out) (m .4), m .5);
+          (m .0, m .1, m .2, m .3, n ∙ ap length (m .4), written _ (w .0) out out′ r (w .1) n l ∙ ap (λ (x : Bytes). x ++ drop r out) (m .4), m .5);
     }

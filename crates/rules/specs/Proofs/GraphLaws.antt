@@ -62,7 +62,7 @@ taken-at p n w e h =
     (r .0, s .0, s .1)
 
 -- The first number that passes, where one passes and no other.
-first-found : (n : ℕ) (f : ℕ → Bool) → count n f ≡ 1 → (i : ℕ) × (i < n) × (f i ≡ true) × ((j : ℕ) → j < n → f j ≡ true → j ≡ i) × (first n f ≡ some i)
+pub first-found : (n : ℕ) (f : ℕ → Bool) → count n f ≡ 1 → (i : ℕ) × (i < n) × (f i ≡ true) × ((j : ℕ) → j < n → f j ≡ true → j ≡ i) × (first n f ≡ some i)
 first-found n f e =
     let r = count-one f n e in
     (r .0, r .1, r .2, r .3, first-only f n (r .0) (r .1) (r .2) (r .3))

@@ -131,7 +131,7 @@ module _ (old new : Program) (suite : Suite) where
   -- ---- all the lines
 
   -- From what was read so far, the lines are read to the end, and give the sheet c.
-  Goes : Sheet → SheetRead → List Bytes → Type 0
+  unfoldable pub Goes : Sheet → SheetRead → List Bytes → Type 0
   Goes c s ls = (n at : ℕ) → readLines (stepSheet old new suite) finishSheet n at s (ls ++ ([] ∷ [])) ≡ accepted c
 
   goes-more : (c : Sheet) (s t : SheetRead) (l : Bytes) (ls : List Bytes) → ((n at : ℕ) → stepSheet old new suite n at s l ≡ accepted t) → Goes c t ls → Goes c s (l ∷ ls)
@@ -181,7 +181,7 @@ module _ (old new : Program) (suite : Suite) where
       (λ a b t u. ⊎-elim (λ v. late a b v (has-rest x rest b u)) (λ v. subst (λ (i : ℕ). i < b) (one-has x a v) (up b u)) (has-append done (x ∷ []) a t))
       (subst (λ (r : List ℕ). Goes c (reading M D r) ls) (sym (append-assoc done (x ∷ []) rest)) g))
 
-  goes-all : (w : ℕ) → SoundSuite w suite → (c : Sheet) → SheetFollows old new suite c → Goes c noSheet (sheetLines (suite .names) c)
+  pub goes-all : (w : ℕ) → SoundSuite w suite → (c : Sheet) → SheetFollows old new suite c → Goes c noSheet (sheetLines (suite .names) c)
   unfolding sheetLines
   goes-all w h c o =
       goes-more c noSheet (reading [] [] []) headLine _ step-head
@@ -191,7 +191,7 @@ module _ (old new : Program) (suite : Suite) where
 
 -- ---- a written sheet is short enough
 
-ended-append : (ls ms : List Bytes) → length (textOf (ls ++ ms)) ≡ length (textOf ls) + length (textOf ms)
+pub ended-append : (ls ms : List Bytes) → length (textOf (ls ++ ms)) ≡ length (textOf ls) + length (textOf ms)
 unfolding textOf
 ended-append [] ms = omega arith
 ended-append (l ∷ ls) ms =

@@ -81,7 +81,7 @@ name-at-free m b s h l i = go (decLt i (testCount s))
     go (yes k) = name-free b (testName s i) l (h .nameForms i k)
     go (no k) = subst (λ (n : Bytes). Free b n) (sym (List·getD-eq-default (s .names) [] (let z : testCount s ≤ i = omega arith in z))) refl
 
-sheet-free : (m : ℕ) (s : Suite) → SoundSuite m s → (c : Sheet) → AllFree 10 (sheetLines (s .names) c)
+pub sheet-free : (m : ℕ) (s : Suite) → SoundSuite m s → (c : Sheet) → AllFree 10 (sheetLines (s .names) c)
 unfolding sheetLines
 sheet-free m s h c = (
   head-free,

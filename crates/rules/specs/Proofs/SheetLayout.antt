@@ -12,7 +12,7 @@ use borrow.Author.Tests.{eqb-true, ltb-true, leb-false}
 use Rattle.laws.specs.Tests.{_and_, isnt, has, after, choose, none?}
 use Rattle.laws.specs.TestLaws.{none-has, one-has, and-left, and-right, or-cases, isnt-false, both-ways, has-append, first-at, allPairs-at, listed-append, listed-one, Before, asc-none, asc-append, asc-one, none-failed, none-left}
 use Rattle.laws.specs.Lists.{Rising, rise-none, rise-more, rise-append, has-first, has-rest, none-listed}
-use Rattle.rules.specs.Text.{Bytes, same, bytes, maxPairs, fieldsOf, commas, joinBy, textOf, isName, isNumber, value, decimal, refused, accepted, unless, maxBytes}
+use Rattle.rules.specs.Text.{Bytes, same, bytes, maxPairs, fieldsOf, commas, joinBy, textOf, isName, isNumber, value, decimal, refused, accepted, unless, then, empty, readLines, maxBytes}
 use Rattle.rules.specs.Graph.{Program, nodeCount, edgeCount}
 use Rattle.rules.specs.SuiteFile.{Suite, testCount, testName}
 use Rattle.rules.specs.Closing.{Coverage}
@@ -26,7 +26,7 @@ use Rattle.rules.specs.Proofs.Lockstep.{five-rules}
 use Rattle.rules.specs.Proofs.ProgramLaws.{Sound}
 use Rattle.rules.specs.Proofs.ReadBack.{Few, read-back, sheet-short}
 use Rattle.rules.specs.Proofs.SuiteLaws.{SoundSuite}
-use Rattle.rules.specs.Proofs.TextLaws.{same-true, unless-accepted, accepted-same, join-split, lines-ended, decimal-value, text-holds}
+use Rattle.rules.specs.Proofs.TextLaws.{same-true, unless-accepted, accepted-same, join-split, lines-ended, decimal-value, text-holds, then-accepted, then-passes, unless-passes, unless-refuses, lines-next}
 
 -- ---- the forms of a sheet's lines
 
@@ -357,6 +357,35 @@ module _ (old new : Program) (suite : Suite) where
   stage-over ls s h (inr (inl w)) = absurd (both-ways h (w .ajar))
   stage-over ls s h (inr (inr w)) = w
 
+  -- Where a line is taken, the last line was not read before it.
+  open-still : (n at : ℕ) (ls : List Bytes) (s : SheetRead) (l : Bytes) (t : SheetRead) → Stage ls s → stepSheet old new suite n at s l ≡ accepted t → s .shut ≡ false
+  unfolding stepSheet Stage
+  open-still n at ls s l t (inl w) e = ap (λ (x : SheetRead). x .shut) (w .0)
+  open-still n at ls s l t (inr (inl w)) e = w .ajar
+  open-still n at ls s l t (inr (inr w)) e = absurd (past-line s (sheetForm (fieldsOf l)) t (w .opens) (w .shuts) (sheet-taken n s (sheetForm (fieldsOf l)) t e))
+
+  -- Lines that are read to the end, cut off before the line m: one is missing.
+  cut-short : (ls done : List Bytes) (n at : ℕ) (s : SheetRead) (m y : Bytes) (ys : List Bytes) (c : Sheet) → Stage done s
+      → readLines (stepSheet old new suite) finishSheet n at s (ls ++ (m ∷ y ∷ ys)) ≡ accepted c → readLines (stepSheet old new suite) finishSheet n at s (ls ++ ([] ∷ [])) ≡ refused 11 (n + length ls)
+  unfolding readLines finishSheet empty isnt
+  cut-short [] done n at s m y ys c w e =
+      let t = then-accepted _ _ _ e in
+      let o = open-still n at done s m (t .0) w (t .1) in
+      let z : n ≡ n + 0 = omega arith in
+      unless-passes _ _ _ _ refl ∙ unless-refuses _ 11 n _ (ap isnt o) ∙ ap (refused 11) z
+  cut-short (x ∷ ls) done n at s m y ys c w e =
+      let t = then-accepted _ _ _ (sym (lines-next (stepSheet old new suite) finishSheet n at s x m ls (y ∷ ys)) ∙ e) in
+      let z : suc n + length ls ≡ n + suc (length ls) = omega arith in
+      lines-next (stepSheet old new suite) finishSheet n at s x [] ls [] ∙ then-passes _ (t .1)
+      ∙ cut-short ls (done ++ (x ∷ [])) (suc n) (at + length x + 1) (t .0) m y ys c (stage-step n at done s x (t .0) w (t .1)) (t .2) ∙ ap (refused 11) z
+
+  pub cut-sheet : (ls : List Bytes) (m y : Bytes) (ys : List Bytes) (c : Sheet)
+      → readLines (stepSheet old new suite) finishSheet 1 0 noSheet (ls ++ (m ∷ y ∷ ys)) ≡ accepted c → readLines (stepSheet old new suite) finishSheet 1 0 noSheet (ls ++ ([] ∷ [])) ≡ refused 11 (suc (length ls))
+  unfolding Stage
+  cut-sheet ls m y ys c e =
+      let z : 1 + length ls ≡ suc (length ls) = omega arith in
+      cut-short ls [] 1 0 noSheet m y ys c (inl (refl, refl)) e ∙ ap (refused 11) z
+
   pub accepted-orderly : (text : Bytes) (c : Sheet) → readSheet old new suite text ≡ accepted c → SheetFollows old new suite c × (text ≡ sheetText (suite .names) c)
   unfolding readSheet finishSheet sheetText Stage
   accepted-orderly text c e =
@@ -369,7 +398,7 @@ module _ (old new : Program) (suite : Suite) where
       )
 
   -- Edges and tests in order are not too many.
-  few-of : Sound old → (w : ℕ) → SoundSuite w suite → (c : Sheet) → SheetFollows old new suite c → Few c
+  pub few-of : Sound old → (w : ℕ) → SoundSuite w suite → (c : Sheet) → SheetFollows old new suite c → Few c
   few-of so w h c o =
       record {
         fewD = omega (arith, rise-few (o .risesD) 0 (edgeCount old) (omega arith) (λ x t. omega arith) (o .edges), so .fewEdges);

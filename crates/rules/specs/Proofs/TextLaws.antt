@@ -290,6 +290,13 @@ module _ {S A : Type 0} (step : ℕ → ℕ → S → Bytes → Answer S) (finis
   unfolding readText
   text-short text st a e = ltb-false maxBytes (length text) (unless-accepted _ _ _ _ _ e .0)
 
+-- One line before others.
+pub lines-next : {S A : Type 0} (step : ℕ → ℕ → S → Bytes → Answer S) (finish : ℕ → S → Answer A) (n at : ℕ) (st : S) (l m : Bytes) (ls ms : List Bytes)
+    → readLines step finish n at st ((l ∷ ls) ++ (m ∷ ms)) ≡ then (step n at st l) (λ s. readLines step finish (suc n) (at + length l + 1) s (ls ++ (m ∷ ms)))
+unfolding readLines
+lines-next step finish n at st l m [] ms = refl
+lines-next step finish n at st l m (k ∷ ls) ms = refl
+
 -- ---- decimal numbers
 
 split-ten : {X : Type 0} (n : ℕ) → (n < 10 → X) → (10 ≤ n → X) → X

@@ -1,0 +1,100 @@
+-- Definitions by computation in the document's words: look-ups, alike, the five rules of the check, left off.
+use mathlib.Core.Path.{_≡_, sym, ap, _∙_, subst}
+use mathlib.Core.Logic.{inl, inr, ⊎-elim}
+use mathlib.Core.Bool.{true, true≢false}
+use mathlib.Core.Option.{some}
+use mathlib.Core.List.{List, [], _∷_, _++_}
+use Prim.Native.Nat.{ℕ, _<_}
+use lib.ListN.{length, getD}
+use borrow.Author.Tests.{eqb-true, eq-eqb}
+use Rattle.laws.specs.TestLaws.{and-left, and-right, and-both, implied, implies, or-cases, or-left, or-right, every-at, every-of, any-at, any-of, anyOf-of, anyOf-at, allPairs-at, allPairs-of, both-ways, fails, isnt-true, true-isnt}
+use Rattle.rules.specs.Text.{Bytes, linesOf}
+use Rattle.rules.specs.Graph.{Program, WellFormed, X, edgeCount, exit, isOf, kindAt, nodeCount, orZero, ownerAt, procCount}
+use Rattle.rules.specs.Closing.{Coverage, alike, bothCall, goesOn, holds, meets, sameCallee, sameLabel}
+use Rattle.rules.specs.Sheet.{Sheet, among, leftOff, rLine}
+use Rattle.rules.specs.Check.{entered, keeps, edgeKept, edgesKept, rule1, rule2, rule3, rule4, rule5}
+use Rattle.rules.specs.Promises.{AlikeExact, LeftOffExact, Lookups, RulesExact}
+use Rattle.rules.specs.Proofs.ClosingLaws.{same-word, word-same, fits-word, fits-ends, fits-of}
+use Rattle.rules.specs.Proofs.GraphLaws.{called-is, called-name, edge-is, entry-is, first-found, isOf-true, its-edge, sameKind-of, sameKind-true, taken-at}
+use Rattle.rules.specs.Proofs.SheetLaws.{among-here, among-later}
+use Rattle.rules.specs.Proofs.TextLaws.{same-of, same-true}
+
+-- ---- look-ups
+
+exit-found : (p : Program) → WellFormed p → (q : ℕ) → q < procCount p → (exit p q < nodeCount p) × (ownerAt p (exit p q) ≡ q) × (kindAt p (exit p q) ≡ X)
+unfolding exit orZero
+exit-found p wf q h =
+    let r = first-found (nodeCount p) (isOf p q X) (wf .exits q h) in
+    let s = isOf-true p q X (r .0) (r .2) in
+    rw (r .4) (r .1, s .0, s .1)
+
+pub lookups : (p : Program) → WellFormed p → Lookups p
+lookups p wf =
+    record {
+      entry-is = entry-is p wf;
+      exit-is = exit-found p wf;
+      called-is = λ n h k. (called-is p wf n h k, called-name p wf n h k);
+      taken-is = λ n w e. (taken-at p n w e, λ h. edge-is p wf e n w (h .0) (h .1) (h .2));
+      its-edge-is = λ n h k e.
+          let i = its-edge p wf n h k in
+          (λ t. let u = taken-at p n _ e t in (u .0, u .1), λ t. i .1 ∙ ap some (sym (i .2 e (t .0) (t .1))));
+    }
+
+-- ---- alike, and the rules of the check
+
+pub alike-exact : (old new : Program) → AlikeExact old new
+unfolding alike sameLabel sameCallee
+alike-exact old new =
+    record {
+      alike-are = λ n n′. (
+        λ h. (sameKind-true _ _ (and-left _ _ h), same-true _ _ (and-left _ _ (and-right _ _ h)), same-true _ _ (and-right _ _ (and-right _ _ h))),
+        λ h. and-both (sameKind-of (h .0)) (and-both (same-of (h .1)) (same-of (h .2))),
+      );
+      fits-are = λ e e′. (λ h. (same-word old new e e′ (fits-word old new e e′ h), fits-ends old new e e′ h), λ h. fits-of old new e e′ (word-same old new e e′ (h .0)) (h .1));
+    }
+
+pub rules-exact : (old new : Program) (suite : List Coverage) (c : Sheet) → RulesExact old new suite c
+unfolding rule1 rule2 rule3 rule4 rule5 entered bothCall edgesKept edgeKept keeps goesOn meets
+rules-exact old new suite c =
+    record {
+      first-listed = (λ h. h, λ h. h);
+      pairs-alike = (λ h. allPairs-at _ (c .M) h, λ h. allPairs-of _ (c .M) h);
+      callees-listed = (
+        λ h n n′ l k k′. implied _ _ (allPairs-at (entered old new c) (c .M) h n n′ l) (and-both (sameKind-of k) (sameKind-of k′)),
+        λ h. allPairs-of (entered old new c) (c .M) (λ n n′ l. implies _ _ (λ b. h n n′ l (sameKind-true _ _ (and-left _ _ b)) (sameKind-true _ _ (and-right _ _ b)))),
+      );
+      edges-kept = (
+        λ h n n′ l g e b s.
+            let t = every-at (edgeKept old new c n n′) (edgeCount old) (implied _ _ (allPairs-at (edgesKept old new c) (c .M) h n n′ l) (implies _ _ (λ k. g (sameKind-true _ _ k)))) e b in
+            ⊎-elim (λ d. inl d)
+            (λ a.
+            let r = any-at (keeps old new c n′ e) (edgeCount new) a in
+            let u = and-right _ _ (r .2) in
+            inr (r .0, r .1, eqb-true _ _ (and-left _ _ (r .2)), same-word old new e (r .0) (and-left _ _ u), and-right _ _ u))
+            (or-cases _ _ (implied _ _ t (eq-eqb _ _ s))),
+        λ h. allPairs-of (edgesKept old new c) (c .M) (λ n n′ l. implies _ _ (λ g.
+            every-of (edgeKept old new c n n′) (edgeCount old) (λ e b. implies _ _ (λ s.
+            ⊎-elim (λ d. or-left _ d)
+            (λ r. or-right _ (any-of (keeps old new c n′ e) (edgeCount new) (r .0) (r .1) (and-both (eq-eqb _ _ (r .2)) (and-both (word-same old new e (r .0) (r .3)) (r .4)))))
+            (h n n′ l (λ k. implied _ _ g (sameKind-of k)) e b (eqb-true _ _ s)))))),
+      );
+      tests-listed = (
+        λ h i b e d p. implied _ _ (every-at _ _ h i b) (anyOf-of (holds (getD suite i [])) (c .D) e d p),
+        λ h. every-of _ (length suite) (λ i b. implies _ _ (λ m. let r = anyOf-at (holds (getD suite i [])) (c .D) m in h i b (r .0) (r .1) (r .2))),
+      );
+    }
+
+-- ---- left off
+
+among-at : (ls : List Bytes) (l : Bytes) → among ls l ≡ true → (a b : List Bytes) × (ls ≡ a ++ (l ∷ b))
+unfolding among
+among-at [] l e = absurd (true≢false (sym e))
+among-at (m ∷ ls) l e =
+    ⊎-elim (λ p. ([], ls, ap (λ (x : Bytes). x ∷ ls) (same-true m l p))) (λ p. let u = among-at ls l p in (m ∷ u .0, u .1, ap (λ (x : List Bytes). m ∷ x) (u .2))) (or-cases _ _ e)
+
+pub left-off-exact : LeftOffExact
+unfolding leftOff
+left-off-exact sheet name = (
+  λ h ls ms e. both-ways (subst (λ (x : List Bytes). among x (rLine name) ≡ true) (sym e) (among-later ls _ _ (among-here (rLine name) ms))) (isnt-true _ h),
+  λ h. true-isnt (fails _ (λ t. let u = among-at (linesOf sheet) (rLine name) t in h (u .0) (u .1) (u .2))),
+)
