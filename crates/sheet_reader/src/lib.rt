@@ -429,15 +429,14 @@ fn step(
     ensures { λ r. ⌜ Stepped olds news edges (now (tt .entry)) (now (tests .entry)) count n (now (line .entry)) had (now (w .entry)) (now (sets .entry)) r (now (w .exit)) (now (sets .exit)) ⌝ }
 {
     let f = text::front(line, 2);
-    let rest = text::after(line, 2);
     if text::same(f, b"M,") {
-        return pair_line(olds, news, n, rest, had, w);
+        return pair_line(olds, news, n, text::after(line, 2), had, w);
     }
     if text::same(f, b"D,") {
-        return add_edge(edges, n, rest, had, sets);
+        return add_edge(edges, n, text::after(line, 2), had, sets);
     }
     if text::same(f, b"R,") {
-        return add_test(tt, tests, count, n, rest, had, sets);
+        return add_test(tt, tests, count, n, text::after(line, 2), had, sets);
     }
     if text::same(text::front(line, 4), b"end,") {
         return end_line(n, text::after(line, 4), had);

@@ -6,14 +6,14 @@ use Rattle.sheet_reader.proofs.step.Tie as tie
 front-requires : tie.Need-front-requires
 front-requires c κs = search needs
 
-after-requires : tie.Need-after-requires
-after-requires c κs = search needs
-
 slice-aggregate-same : tie.Need-slice-aggregate-same
 slice-aggregate-same c = search needs
 
 same-requires : tie.Need-same-requires
 same-requires c κs = search needs
+
+after-requires : tie.Need-after-requires
+after-requires c κs = search needs
 
 pair-line-requires : tie.Need-pair-line-requires
 pair-line-requires c κs = search needs
@@ -30,6 +30,9 @@ slice-aggregate-same-2 c = search needs
 same-requires-2 : tie.Need-same-requires-2
 same-requires-2 c κs = search needs
 
+after-requires-2 : tie.Need-after-requires-2
+after-requires-2 c κs = search needs
+
 add-edge-requires : tie.Need-add-edge-requires
 add-edge-requires c κs = search needs
 
@@ -44,6 +47,9 @@ slice-aggregate-same-3 c = search needs
 
 same-requires-3 : tie.Need-same-requires-3
 same-requires-3 c κs = search needs
+
+after-requires-3 : tie.Need-after-requires-3
+after-requires-3 c κs = search needs
 
 add-test-requires : tie.Need-add-test-requires
 add-test-requires c κs = search needs
@@ -63,8 +69,8 @@ slice-aggregate-same-4 c = search needs
 same-requires-4 : tie.Need-same-requires-4
 same-requires-4 c κs = search needs
 
-after-requires-2 : tie.Need-after-requires-2
-after-requires-2 c κs = search needs
+after-requires-4 : tie.Need-after-requires-4
+after-requires-4 c κs = search needs
 
 end-line-requires : tie.Need-end-line-requires
 end-line-requires c κs = search needs
@@ -95,26 +101,28 @@ step-spec =
     tie.close
     (tie.spec
     front-requires
-    after-requires
     slice-aggregate-same
     same-requires
+    after-requires
     pair-line-requires
     same-length
     returns
     slice-aggregate-same-2
     same-requires-2
+    after-requires-2
     add-edge-requires
     same-length-2
     returns-2
     slice-aggregate-same-3
     same-requires-3
+    after-requires-3
     add-test-requires
     same-length-3
     returns-3
     front-requires-2
     slice-aggregate-same-4
     same-requires-4
-    after-requires-2
+    after-requires-4
     end-line-requires
     returns-4
     slice-aggregate-same-5
