@@ -197,25 +197,37 @@ counting =
       word = λ l s. choose (same l (bytes "read layer")) (bytes "stop") (bytes "ok");
     }
 
--- After five steps from state 0: has the run ended, its state, its outputs, and the edges crossed.
-seen : Program → Option (Bool × ℕ × List Bytes × List ℕ)
+-- After k steps from state 0: has the run ended, its state, its outputs, and the edges crossed; none where it takes fewer steps.
+seen : ℕ → Program → Option (Bool × ℕ × List Bytes × List ℕ)
 unfolding counting
-seen p = after (run p counting 5 (start p 0)) none (λ c. some (ended p c, c .state, c .outs, trail p counting 5 (start p 0)))
+seen k p = after (run p counting k (start p 0)) none (λ c. some (ended p c, c .state, c .outs, trail p counting k (start p 0)))
 
-ran : String → Option (Bool × ℕ × List Bytes × List ℕ)
+ran : ℕ → String → Option (Bool × ℕ × List Bytes × List ℕ)
 unfolding seen
-ran text = opened (readProgram (bytes text))
+ran k text = opened (readProgram (bytes text))
   where
     opened : Answer Program → Option (Bool × ℕ × List Bytes × List ℕ)
-    opened (refused k p) = none
-    opened (accepted p) = seen p
+    opened (refused n p) = none
+    opened (accepted p) = seen k p
 
--- P2's programs and the call that returns run as document 01 says.
-runs-computed : (ran layers ≡ some (true, 2, bytes "read layer" ∷ bytes "hold" ∷ [], 0 ∷ 2 ∷ 4 ∷ []))
-    × (ran by-layer ≡ some (true, 2, bytes "read layer" ∷ bytes "hold" ∷ [], 0 ∷ 2 ∷ 4 ∷ [])) × (ran returning ≡ some (true, 1, bytes "wind" ∷ [], 0 ∷ 2 ∷ 1 ∷ []))
-unfolding ran layers by-layer returning run step stepAt start trail crossing edgeAhead listOf ended endedAt
+-- A call in a call, and a step without an edge for its word.
+nested : String
+nested = "P,up\nN,E,,\nN,C,wind,down\nN,X,,\nB,0,-,1\nB,1,-,2\nP,down\nN,E,,\nN,C,hold,on\nN,X,,\nB,3,-,4\nB,4,-,5\nP,on\nN,E,,\nN,X,,\nB,6,-,7\n"
+
+stopping : String
+stopping = "P,up\nN,E,,\nN,S,hold,\nN,X,,\nB,0,-,1\nB,1,go,2\n"
+
+-- P2's programs, the call that returns, the call in a call and the step that stops run as document 01 says: an exit closes the newest open call, and a run that has stopped takes no more
+-- steps and has not ended.
+runs-computed : (ran 5 layers ≡ some (true, 2, bytes "read layer" ∷ bytes "hold" ∷ [], 0 ∷ 2 ∷ 4 ∷ []))
+    × (ran 5 by-layer ≡ some (true, 2, bytes "read layer" ∷ bytes "hold" ∷ [], 0 ∷ 2 ∷ 4 ∷ []))
+    × (ran 5 returning ≡ some (true, 1, bytes "wind" ∷ [], 0 ∷ 2 ∷ 1 ∷ []))
+    × (ran 9 nested ≡ some (true, 2, bytes "wind" ∷ bytes "hold" ∷ [], 0 ∷ 2 ∷ 4 ∷ 3 ∷ 1 ∷ []))
+    × (ran 2 stopping ≡ some (false, 1, bytes "hold" ∷ [], 0 ∷ []))
+    × (ran 3 stopping ≡ none)
+unfolding ran layers by-layer returning nested stopping run step stepAt start trail crossing edgeAhead listOf ended endedAt
     _and_ _or_ _⇒_ isnt choose every any orElse ifTrue first plus count
     same empty onto split between allBytes nameByte labelByte wordByte digitByte isName isLabel isWord isNumber valueFrom then unless readLines readText
     sameKind orZero isOf entry exit procOf called leaves edgeTaken degree worded
     kindOf isNode isEdge formOf hasEdge named isNodeOf hasWord degreeFine complete lost takeLine stepProgram finishProgram readListing readProgram
-runs-computed = (refl, refl, refl)
+runs-computed = (refl, refl, refl, refl, refl, refl)
