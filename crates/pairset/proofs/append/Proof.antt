@@ -1,5 +1,5 @@
 use borrow.Author.Needs.{needs}
-use Rattle.pairset.proofs.Laws.{all}
+use Rattle.pairset.proofs.Laws.{all, append-done}
 use Rattle.pairset.proofs.append.Statement.{statement}
 use Rattle.pairset.proofs.append.Tie as tie
 
@@ -49,7 +49,7 @@ same-length : tie.Need-same-length
 same-length c = search needs
 
 returns-4 : tie.Need-returns-4
-returns-4 c = search (all, needs)
+returns-4 c = append-done _ _ _ _ _ _ _ _ (c .before .before .before .before .before .before .before .before .before .before .before .before .last-pair .ensures) (c .before .before .before .before .before .before .before .before .before .before .put-row .ensures) (c .before .before .before .before .before .before .set-bit .ensures) (c .before .before .put .ensures)
 
 pub append-spec : {M : Type 1} → statement M
 append-spec =
