@@ -123,7 +123,7 @@ pub record Breaks (old new tests sheet : Bytes) (p : ℕ) : Type 0 where
 abbrev pub ClaimsFalse : Type 0
 ClaimsFalse = (old new tests sheet : Bytes) (p : ℕ) → (checkAnswer old new tests sheet ≡ refusal 12 p) ↔ Breaks old new tests sheet p
 
--- 4: the M line l that stands after 4,096 M lines is refused with 4, whatever it names and wherever it stands, unless a line before it is refused, as it is where these stand alone.
+-- A line of a sheet is an M line; how many of the lines are.
 unfoldable pub isM : SheetLine → Bool
 isM head-line = false
 isM (m-line a b) = true
@@ -136,6 +136,8 @@ unfoldable pub mCount : List Bytes → ℕ
 mCount [] = 0
 mCount (l ∷ ls) = plus (isM (sheetForm (fieldsOf l))) (mCount ls)
 
+-- 4: the M line l that stands after 4,096 M lines is refused with 4, whatever it names and wherever it stands, unless one of the lines before it is refused: then the check of `front`, which
+-- is these lines alone, gives the same refusal.
 abbrev pub LineAbove : Type 0
 LineAbove =
     (old new tests front sheet : Bytes) (g : Given) → readJob old new tests ≡ accepted g → length front ≤ maxBytes → length sheet ≤ maxBytes
@@ -300,7 +302,7 @@ pub record RulesExact (old new : Program) (suite : List Coverage) (c : Sheet) : 
 abbrev pub LeftOffExact : Type 0
 LeftOffExact = (sheet name : Bytes) → (leftOff sheet name ≡ true) ↔ ((ls ms : List Bytes) → linesOf sheet ≡ ls ++ (rLine name ∷ ms) → ⊥)
 
--- ---- runs
+-- ---- tests that are left off, by whole runs
 
 -- A new run stands where the old one does: on a node alike, with the same word chosen, as many open calls, equal states and equal outputs, and it has ended just if the old one has.
 pub record Alongside {ℓ κ} {St : Type ℓ} {Out : Type κ} (old new : Program) (c c′ : Config St Out) : Type (ℓ ⊔ κ) where

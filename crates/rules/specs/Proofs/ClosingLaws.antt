@@ -1,5 +1,6 @@
 -- What `alike`, `sameWord` and `fits` give: the only proofs that look behind these names.
 use mathlib.Core.Path.{_≡_, refl, sym, ap, _∙_}
+use mathlib.Core.Logic.{_↔_}
 use mathlib.Core.Bool.{Bool, true}
 use mathlib.Core.List.{[]}
 use Prim.Native.Nat.{ℕ}
@@ -27,6 +28,13 @@ module _ (old new : Program) (n n′ : ℕ) where
   pub alike-parts : alike old new n n′ ≡ (sameKind (kindAt old n) (kindAt new n′) and sameLabel (labelAt old n) (labelAt new n′) and sameCallee (calleeAt old n) (calleeAt new n′))
   unfolding alike
   alike-parts = refl
+
+  pub alike-is : (alike old new n n′ ≡ true) ↔ ((kindAt old n ≡ kindAt new n′) × (labelAt old n ≡ labelAt new n′) × (calleeAt old n ≡ calleeAt new n′))
+  unfolding alike sameLabel sameCallee
+  alike-is = (
+    λ h. (sameKind-true _ _ (and-left _ _ h), same-true _ _ (and-left _ _ (and-right _ _ h)), same-true _ _ (and-right _ _ (and-right _ _ h))),
+    λ h. and-both (sameKind-of (h .0)) (and-both (same-of (h .1)) (same-of (h .2))),
+  )
 
   pub bare-callees : calleeAt old n ≡ [] → calleeAt new n′ ≡ [] → sameCallee (calleeAt old n) (calleeAt new n′) ≡ true
   unfolding sameCallee

@@ -10,14 +10,14 @@ use borrow.Author.Tests.{eqb-true, eq-eqb}
 use Rattle.laws.specs.TestLaws.{and-left, and-right, and-both, implied, implies, or-cases, or-left, or-right, every-at, every-of, any-at, any-of, anyOf-of, anyOf-at, allPairs-at, allPairs-of, both-ways, fails, isnt-true, true-isnt}
 use Rattle.rules.specs.Text.{Bytes, linesOf}
 use Rattle.rules.specs.Graph.{Program, WellFormed, X, edgeCount, exit, isOf, kindAt, nodeCount, orZero, ownerAt, procCount}
-use Rattle.rules.specs.Closing.{Coverage, alike, bothCall, goesOn, holds, meets, sameCallee, sameLabel}
+use Rattle.rules.specs.Closing.{Coverage, bothCall, goesOn, holds, meets}
 use Rattle.rules.specs.Sheet.{Sheet, among, leftOff, rLine}
 use Rattle.rules.specs.Check.{entered, keeps, edgeKept, edgesKept, rule1, rule2, rule3, rule4, rule5}
 use Rattle.rules.specs.Promises.{AlikeExact, LeftOffExact, Lookups, RulesExact}
-use Rattle.rules.specs.Proofs.ClosingLaws.{same-word, word-same, fits-word, fits-ends, fits-of}
+use Rattle.rules.specs.Proofs.ClosingLaws.{alike-is, same-word, word-same, fits-word, fits-ends, fits-of}
 use Rattle.rules.specs.Proofs.GraphLaws.{called-is, called-name, edge-is, entry-is, first-found, isOf-true, its-edge, sameKind-of, sameKind-true, taken-at}
 use Rattle.rules.specs.Proofs.SheetLaws.{among-here, among-later}
-use Rattle.rules.specs.Proofs.TextLaws.{same-of, same-true}
+use Rattle.rules.specs.Proofs.TextLaws.{same-true}
 
 -- ---- look-ups
 
@@ -43,13 +43,9 @@ lookups p wf =
 -- ---- alike, and the rules of the check
 
 pub alike-exact : (old new : Program) → AlikeExact old new
-unfolding alike sameLabel sameCallee
 alike-exact old new =
     record {
-      alike-are = λ n n′. (
-        λ h. (sameKind-true _ _ (and-left _ _ h), same-true _ _ (and-left _ _ (and-right _ _ h)), same-true _ _ (and-right _ _ (and-right _ _ h))),
-        λ h. and-both (sameKind-of (h .0)) (and-both (same-of (h .1)) (same-of (h .2))),
-      );
+      alike-are = alike-is old new;
       fits-are = λ e e′. (λ h. (same-word old new e e′ (fits-word old new e e′ h), fits-ends old new e e′ h), λ h. fits-of old new e e′ (word-same old new e e′ (h .0)) (h .1));
     }
 
