@@ -1,13 +1,14 @@
 -- The whole chain: on a fresh job, with texts that are accepted and lent memory that is long enough, the three calls that read succeed and those of stage 3 answer as the texts do.
-use mathlib.Core.Path.{_≡_, subst}
+use mathlib.Core.Path.{_≡_, refl, subst}
+use mathlib.Core.Bool.{true}
 use Prim.Native.Nat.{ℕ, _≤_}
 use Rattle.rules.specs.Text.{Bytes, accepted}
-use Rattle.rules.specs.Job.{Given, readJob, write-sheet}
+use Rattle.rules.specs.Job.{Call, Given, ofStage, readJob, show-label, write-sheet}
 use Rattle.held.specs.Held.{lent}
 use Rattle.job.specs.Progress.{Chain, Succeeds, chain-succeeds}
-use Rattle.job_calls.specs.Calls.{LentJob, goesBy, lentJob, pairScratch}
+use Rattle.job_calls.specs.Calls.{LentJob, goesBy, labelScratch, lentJob, pairScratch}
 use Rattle.job_calls.specs.DueLaws.{held-goes}
-use Rattle.job_calls.specs.Answers.{ByTexts, by-texts}
+use Rattle.job_calls.specs.Answers.{ByTexts, LabelsByTexts, by-texts, labels-by-texts}
 
 -- The job and the tables that the three calls left, with so many numbers of scratch.
 abbrev pub leftJob : (old new tests : Bytes) → Chain old new tests → ℕ → LentJob
@@ -19,10 +20,16 @@ module _ (old new tests : Bytes) (c : Chain old new tests) (g : Given) (e : read
   succeeds = chain-succeeds old new tests c g e
 
   -- Nothing is due for a call of stage 3 that is lent the scratch that it asks for.
-  pub chain-goes : (asked n : ℕ) → asked ≤ n → goesBy write-sheet asked (leftJob old new tests c n) ≡ accepted (succeeds .all)
-  chain-goes asked n room = held-goes asked (leftJob old new tests c n) (succeeds .all) (succeeds .held) room
+  pub chain-goes : (call : Call) → ofStage call 3 ≡ true → (asked n : ℕ) → asked ≤ n → goesBy call asked (leftJob old new tests c n) ≡ accepted (succeeds .all)
+  chain-goes call s asked n room = held-goes call s asked (leftJob old new tests c n) (succeeds .all) (succeeds .held) room
 
   -- The sheet, the record lines and the check are those of the texts.
   pub chain-by-texts : (n : ℕ) → pairScratch ≤ n → ByTexts (leftJob old new tests c n) g
+  unfolding ofStage
   chain-by-texts n room =
-      subst (λ (x : Given). ByTexts (leftJob old new tests c n) x) (succeeds .gives) (by-texts (leftJob old new tests c n) (succeeds .all) (chain-goes pairScratch n room))
+      subst (λ (x : Given). ByTexts (leftJob old new tests c n) x) (succeeds .gives) (by-texts (leftJob old new tests c n) (succeeds .all) (chain-goes write-sheet refl pairScratch n room))
+
+  -- So are the labels, and their parts.
+  pub chain-labels : (n : ℕ) → labelScratch ≤ n → LabelsByTexts (leftJob old new tests c n) (succeeds .all)
+  unfolding ofStage
+  chain-labels n room = labels-by-texts (leftJob old new tests c n) (succeeds .all) (chain-goes show-label refl labelScratch n room)

@@ -5,10 +5,10 @@ use mathlib.Core.Option.{Option, none, some}
 use Prim.Native.Nat.{ℕ, _≤_}
 use native.Mathlib.Omega.{arith}
 use lib.Dec.{eqb, leb}
-use borrow.Author.Tests.{eq-eqb, le-leb, leb-true}
+use borrow.Author.Tests.{le-leb, leb-true}
 use Rattle.laws.specs.Tests.{choose}
 use Rattle.rules.specs.Text.{refused, accepted}
-use Rattle.rules.specs.Job.{ofStage, stageAfter, write-sheet}
+use Rattle.rules.specs.Job.{Call, ofStage, stageAfter, write-sheet}
 use Rattle.rules.specs.Proofs.TextLaws.{accepted-same}
 use Rattle.records.specs.declared.Job.{Job}
 use Rattle.held.specs.Held.{AllRead, heldTests, jobTests}
@@ -51,7 +51,7 @@ held-stage : (k : LentJob) (h : AllRead) → holding k ≡ some h → k .job .st
 unfolding jobTests stageAfter
 held-stage k h e = ap (λ (j : Job). j .stage) (held-tests-parts (k .job) (k .old) (k .new) (k .text) (k .tests) (k .rows) h e .3)
 
--- Where job and tables are held and the scratch is long enough a call goes by what is held.
-pub held-goes : (asked : ℕ) (k : LentJob) (h : AllRead) → holding k ≡ some h → asked ≤ k .scratch → goesBy write-sheet asked k ≡ accepted h
-unfolding goesBy ofStage choose
-held-goes asked k h e room = simp (eq-eqb _ _ (held-stage k h e), le-leb asked _ room, e)
+-- Where job and tables are held and the scratch is long enough a call of stage 3 goes by what is held.
+pub held-goes : (c : Call) → ofStage c 3 ≡ true → (asked : ℕ) (k : LentJob) (h : AllRead) → holding k ≡ some h → asked ≤ k .scratch → goesBy c asked k ≡ accepted h
+unfolding goesBy choose
+held-goes c s asked k h e room = simp (ap (ofStage c) (held-stage k h e) ∙ s, le-leb asked _ room, e)

@@ -60,7 +60,7 @@ module _ (u : Bool) (k : ℕ) where
   unfolding choose
   if-not n = sym (simp n)
 
--- Where the first field names the kind k.
+-- Where the kind field names the kind k.
 kind-is : (a b c : Bytes) (r : ℕ) (k : Kind) (u : Bool) → kindOf a ≡ some k → u ≡ isNode k b c → r ≡ choose u (kindNumber k) 4 → r ≡ nodeKind a b c
 unfolding nodeKind
 kind-is a b c r k u e d q = q ∙ sym (simp (e, ← d))

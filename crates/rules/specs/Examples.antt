@@ -1,4 +1,4 @@
--- P1 to P8, refusals, and three runs, computed by the definitions from the texts to the bytes.
+-- P1 to P8, refusals, and runs, computed by the definitions from the texts to the bytes.
 use mathlib.Core.Path.{_≡_, refl}
 use mathlib.Core.Bool.{Bool, true, false}
 use mathlib.Core.Option.{Option, none, some}

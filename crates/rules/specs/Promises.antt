@@ -195,6 +195,7 @@ pub record Lookups (p : Program) : Type 0 where
   pub exit-is : (q : ℕ) → q < procCount p → (exit p q < nodeCount p) × (ownerAt p (exit p q) ≡ q) × (kindAt p (exit p q) ≡ X)
   pub called-is : (n : ℕ) → n < nodeCount p → kindAt p n ≡ C → (called p n < procCount p) × (nameAt p (called p n) ≡ calleeAt p n)
   pub taken-is : (n : ℕ) (w : Bytes) (e : ℕ) → (edgeTaken p n w ≡ some e) ↔ ((e < edgeCount p) × (sourceAt p e ≡ n) × (wordAt p e ≡ w))
+  pub its-edge-there : (n : ℕ) → n < nodeCount p → (kindAt p n ≡ E) ⊎ (kindAt p n ≡ C) → (e : ℕ) × (itsEdge p n ≡ some e)
   pub its-edge-is : (n : ℕ) → n < nodeCount p → (kindAt p n ≡ E) ⊎ (kindAt p n ≡ C) → (e : ℕ) → (itsEdge p n ≡ some e) ↔ ((e < edgeCount p) × (sourceAt p e ≡ n))
 
 abbrev pub LookupsExact : Type 0

@@ -148,7 +148,8 @@ plain-answers old new tests =
           (unwritten _ (success-only _ _ (λ g. success-only _ _ (judged-wrote g))));
     }
 
-checked : (old new tests sheet : Bytes) (g : Given) → readJob old new tests ≡ accepted g → checkAnswer old new tests sheet ≡ checking g sheet
+-- The check, where the texts are accepted.
+pub checked : (old new tests sheet : Bytes) (g : Given) → readJob old new tests ≡ accepted g → checkAnswer old new tests sheet ≡ checking g sheet
 unfolding checkAnswer outcome
 checked old new tests sheet g e = ap (λ (a : Answer Given). outcome a (λ x. checking x sheet)) e
 

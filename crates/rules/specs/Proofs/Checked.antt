@@ -17,10 +17,11 @@ use Rattle.rules.specs.Graph.{Program}
 use Rattle.rules.specs.SuiteFile.{Suite}
 use Rattle.rules.specs.Sheet.{Sheet, SheetLine, SheetRead, d-line, end-line, finishSheet, head-line, m-line, no-form, noSheet, r-line, readSheet, sheetForm, sheetLines, sheetText, stepSheet, takeSheetLine, testOf}
 use Rattle.rules.specs.Check.{broken}
-use Rattle.rules.specs.Job.{Given, Outcome, checkAnswer, checking, judged, numberOf, outcome, passed, readJob, refusal, wrote}
+use Rattle.rules.specs.Job.{Given, Outcome, checkAnswer, checking, judged, numberOf, outcome, passed, readJob, refusal}
 use Rattle.rules.specs.Promises.{Breaks, ClaimsFalse, LineAbove, LineMissing, fiveRules, isM, mCount}
 use Rattle.rules.specs.Proofs.Numbers.{Any, Good, job-good, jobNumbers, sheet-good, sheetNumbers}
-use Rattle.rules.specs.Proofs.JobLaws.{known}
+use Rattle.rules.specs.Proofs.Answers.{checked}
+use Rattle.rules.specs.Proofs.JobLaws.{known, never-wrote}
 use Rattle.rules.specs.Proofs.ReadBack.{Goes, ended-append, goes-all, sheet-short}
 use Rattle.rules.specs.Proofs.SheetLaws.{sheet-free}
 use Rattle.rules.specs.Proofs.SheetLayout.{accepted-orderly, cut-sheet, few-of, sheet-layout}
@@ -58,9 +59,6 @@ read-past ks (accepted x) f h n p e = (x, refl, e)
 refusal-place : {k j p q : ℕ} → refusal k p ≡ refusal j q → p ≡ q
 refusal-place e = cc
 
-never-wrote : {b : Bytes} {k p : ℕ} → wrote b ≡ refusal k p → ⊥
-never-wrote e = true≢false (let z : true ≡ false = cc in z)
-
 judged-false : (g : Given) (c : Sheet) (p : ℕ) → judged g c ≡ refusal 12 p → (broken (g .old) (g .new) (g .suite .coverages) c ≡ p) × (p ≡ 0 → ⊥)
 unfolding judged choose
 judged-false g c p e = go (broken (g .old) (g .new) (g .suite .coverages) c) (eqb (broken (g .old) (g .new) (g .suite .coverages) c) 0) refl e
@@ -89,7 +87,7 @@ claims-false old new tests sheet p = (there, back)
         let n = known old new tests g (h .reads) in
         let r : readSheet (g .old) (g .new) (g .suite) sheet ≡ accepted (h .claims) = sheet-layout (g .old) (g .new) (g .suite) (n .old-sound) (n .new-sound) _ (n .suite-sound) sheet (h .claims) .1 (h .order, h .text) in
         let b : firstFailed 1 (fiveRules g (h .claims)) ≡ p = omega (arith, failed-at (fiveRules g (h .claims)) 1 (h .rule) (h .broken) (h .kept), h .place) in
-        ap (λ (a : Answer Given). outcome a (λ x. checking x sheet)) (h .reads)
+        checked old new tests sheet g (h .reads)
         ∙ ap (λ (a : Answer Sheet). outcome a (judged g)) r
         ∙ ap (λ (k : ℕ). choose (eqb k 0) passed (refusal 12 k)) b
         ∙ choose-no _ _ (ne-eqb p 0 (λ z. let y : ⊥ = omega (arith, h .place) in y))
@@ -180,9 +178,9 @@ module _ (old new : Program) (suite : Suite) (l m : Bytes) (ms : List Bytes) (is
 -- The check of a sheet that is not too long, by its lines.
 by-lines : (old new tests sheet : Bytes) (g : Given) (ls : List Bytes) → readJob old new tests ≡ accepted g → length sheet ≤ maxBytes → linesOf sheet ≡ ls
     → checkAnswer old new tests sheet ≡ outcome (readLines (stepSheet (g .old) (g .new) (g .suite)) finishSheet 1 0 noSheet ls) (judged g)
-unfolding checkAnswer outcome readSheet readText
+unfolding readSheet readText
 by-lines old new tests sheet g ls e short is-lines =
-    ap (λ (a : Answer Given). outcome a (λ x. checking x sheet)) e
+    checked old new tests sheet g e
     ∙ ap (λ (a : Answer Sheet). outcome a (judged g)) (unless-passes _ _ _ _ (le-ltb _ _ short) ∙ ap (readLines (stepSheet (g .old) (g .new) (g .suite)) finishSheet 1 0 noSheet) is-lines)
 
 pub line-above : LineAbove

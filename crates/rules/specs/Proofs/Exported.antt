@@ -9,7 +9,7 @@ use lib.Seq.{take-append-seam}
 use Rattle.rules.specs.Text.{Bytes}
 use Rattle.rules.specs.SuiteFile.{testName}
 use Rattle.rules.specs.Sheet.{leftOff}
-use Rattle.rules.specs.Job.{Outcome, numberOf, outputAfter, packed, passed, placeOf, refusal, wrote}
+use Rattle.rules.specs.Job.{Outcome, outputAfter, packed, passed, refusal, wrote}
 use Rattle.rules.specs.Promises.{AnswersPlain, Demand3, ExportedDemand3, Plain, Unpacks}
 
 -- ---- number and place
@@ -33,44 +33,35 @@ nothing : (b : Bytes) → length b ≡ 0 → b ≡ []
 nothing [] e = refl
 nothing (x ∷ b) e = absurd (let z : ⊥ = omega arith in z)
 
--- One that is below 4,294,967,296 is success, and says how many bytes were written.
-pub below-wrote : (o : Outcome) → Plain o → packed o < 4294967296 → (b : Bytes) × (o ≡ wrote b) × (packed o ≡ length b)
-unfolding packed
-below-wrote o h l =
-    let z : numberOf o ≡ 0 = omega arith in
-    let w = h .zero-succeeds z in
-    let n : placeOf o ≡ length (w .0) = ap placeOf (w .1) in
-    (w .0, w .1, omega (arith, z, n))
-
 -- 0 is success with nothing written.
-pub zero-passed : (o : Outcome) → Plain o → packed o ≡ 0 → o ≡ passed
+zero-passed : (o : Outcome) → Plain o → packed o ≡ 0 → o ≡ passed
 zero-passed o h e =
-    let w = below-wrote o h (omega (arith, e)) in
+    let w = returned o h [] .success-below (omega (arith, e)) in
     w .1 ∙ ap wrote (nothing (w .0) (omega (arith, w .2, e)))
 
 -- ---- demand 3
 
-written : (o : Outcome) (b out out′ : Bytes) (r : ℕ) → o ≡ wrote b → r ≡ length b → out′ ≡ outputAfter o out → out′ ≡ b ++ drop r out
-unfolding outputAfter
-written o b out out′ r e n l = l ∙ ap (λ (x : Outcome). outputAfter x out) e ∙ ap (λ (k : ℕ). b ++ drop k out) (sym n)
+-- What a call returned below 4,294,967,296, and left in its output.
+written : (o : Outcome) → Plain o → (out out′ : Bytes) (r : ℕ) → r ≡ packed o → out′ ≡ outputAfter o out → r < 4294967296 → (b : Bytes) × (o ≡ wrote b) × (r ≡ length b) × (out′ ≡ b ++ drop r out)
+written o h out out′ r e l s =
+    let w = returned o h out .success-below (subst (λ (k : ℕ). k < 4294967296) e s) in
+    let n : r ≡ length (w .0) = e ∙ w .2 in
+    (w .0, w .1, n, l ∙ w .3 ∙ ap (λ (k : ℕ). w .0 ++ drop k out) (sym n))
 
 pub exported {ℓ κ} : (St : Type ℓ) (Out : Type κ) (old new tests : Bytes) → Demand3 St Out old new tests → AnswersPlain old new tests → ExportedDemand3 St Out old new tests
 unfolding packed
 exported St Out old new tests d a =
     record {
       checker = λ sheet r e z. d .checker sheet (zero-passed _ (a .of-check sheet) (sym e ∙ z));
-      passes = λ out out′ r e l b.
-          let w = below-wrote _ (a .of-sheet (length out)) (subst (λ (k : ℕ). k < 4294967296) e b) in
-          let n : r ≡ length (w .0) = e ∙ w .2 in
-          (w .0, w .1, n, written _ (w .0) out out′ r (w .1) n l, ap packed (d .passes (length out) (w .0) (w .1) .0));
-      unlisted = λ out out′ r e l b g j i h.
-          let w = below-wrote _ (a .of-sheet (length out)) (subst (λ (k : ℕ). k < 4294967296) e b) in
-          let n : r ≡ length (w .0) = e ∙ w .2 in
-          let f : take r out′ ≡ w .0 = ap₂ (λ (k : ℕ) (x : Bytes). take k x) n (written _ (w .0) out out′ r (w .1) n l) ∙ take-append-seam (w .0) (drop r out) in
+      passes = λ out out′ r e l s.
+          let w = written _ (a .of-sheet (length out)) out out′ r e l s in
+          (w .0, w .1, w .2, w .3, ap packed (d .passes (length out) (w .0) (w .1) .0));
+      unlisted = λ out out′ r e l s g j i h.
+          let w = written _ (a .of-sheet (length out)) out out′ r e l s in
+          let f : take r out′ ≡ w .0 = ap₂ (λ (k : ℕ) (x : Bytes). take k x) (w .2) (w .3) ∙ take-append-seam (w .0) (drop r out) in
           d .unlisted (length out) (w .0) (w .1) g j i (subst (λ (x : Bytes). leftOff x (testName (g .suite) i) ≡ true) f h);
-      marked = λ i out out′ r e l b.
-          let w = below-wrote _ (a .of-record i (length out)) (subst (λ (k : ℕ). k < 4294967296) e b) in
-          let n : r ≡ length (w .0) = e ∙ w .2 in
+      marked = λ i out out′ r e l s.
+          let w = written _ (a .of-record i (length out)) out out′ r e l s in
           let m = d .marked i (length out) (w .0) (w .1) in
-          (m .0, m .1, m .2, m .3, n ∙ ap length (m .4), written _ (w .0) out out′ r (w .1) n l ∙ ap (λ (x : Bytes). x ++ drop r out) (m .4), m .5);
+          (m .0, m .1, m .2, m .3, w .2 ∙ ap length (m .4), w .3 ∙ ap (λ (x : Bytes). x ++ drop r out) (m .4), m .5);
     }

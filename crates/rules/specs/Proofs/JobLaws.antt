@@ -78,6 +78,10 @@ wrote-choose false k p o b e = absurd (true≢false (let z : true ≡ false = cc
 pub wrote-same : {b c : Bytes} → wrote b ≡ wrote c → b ≡ c
 wrote-same e = cc
 
+-- What is written is no refusal.
+pub never-wrote : {b : Bytes} {k p : ℕ} → wrote b ≡ refusal k p → ⊥
+never-wrote e = true≢false (let z : true ≡ false = cc in z)
+
 -- Something was written: not too many pairs, room enough, and these are the bytes.
 pub writing-wrote : (g : Given) (room : ℕ) (b c : Bytes) → writing g room b ≡ wrote c → (length (pairs (g .old) (g .new)) ≤ maxPairs) × (length b ≤ room) × (b ≡ c)
 unfolding writing

@@ -12,7 +12,7 @@ use borrow.Author.Tests.{eqb-true, ltb-true, leb-false}
 use Rattle.laws.specs.Tests.{_and_, isnt, has, after, choose, none?}
 use Rattle.laws.specs.TestLaws.{none-has, one-has, and-left, and-right, or-cases, isnt-false, both-ways, has-append, first-at, allPairs-at, listed-append, listed-one, Before, asc-none, asc-append, asc-one, none-failed, none-left}
 use Rattle.laws.specs.Lists.{Rising, rise-none, rise-more, rise-append, has-first, has-rest, none-listed}
-use Rattle.rules.specs.Text.{Bytes, same, bytes, maxPairs, fieldsOf, commas, joinBy, textOf, isName, isNumber, value, decimal, refused, accepted, unless, then, empty, readLines, maxBytes}
+use Rattle.rules.specs.Text.{Bytes, same, bytes, maxPairs, fieldsOf, commas, joinBy, textOf, isName, isNumber, value, decimal, refused, accepted, unless, empty, readLines, maxBytes}
 use Rattle.rules.specs.Graph.{Program, nodeCount, edgeCount}
 use Rattle.rules.specs.SuiteFile.{Suite, testCount, testName}
 use Rattle.rules.specs.Closing.{Coverage}

@@ -35,6 +35,7 @@ lookups p wf =
       exit-is = exit-found p wf;
       called-is = λ n h k. (called-is p wf n h k, called-name p wf n h k);
       taken-is = λ n w e. (taken-at p n w e, λ h. edge-is p wf e n w (h .0) (h .1) (h .2));
+      its-edge-there = λ n h k. let i = its-edge p wf n h k in (i .0, i .1);
       its-edge-is = λ n h k e.
           let i = its-edge p wf n h k in
           (λ t. let u = taken-at p n _ e t in (u .0, u .1), λ t. i .1 ∙ ap some (sym (i .2 e (t .0) (t .1))));

@@ -1,6 +1,6 @@
 -- When a sheet or a record line is written, and when it is refused with 15 and with 16: each for its one reason.
 use mathlib.Core.Path.{_≡_, refl, sym, ap, _∙_, subst}
-use mathlib.Core.Bool.{Bool, true, false, true≢false}
+use mathlib.Core.Bool.{Bool, true, false}
 use Prim.Native.Nat.{ℕ, _≤_, _<_}
 use native.Mathlib.Omega.{arith}
 use lib.Dec.{ltb}
@@ -13,13 +13,10 @@ use Rattle.rules.specs.SuiteFile.{testCount}
 use Rattle.rules.specs.Closing.{pairs}
 use Rattle.rules.specs.Job.{Given, Outcome, outcome, recordAnswer, recordBytes, recording, refusal, sheetAnswer, sheetBytes, writing, wrote}
 use Rattle.rules.specs.Promises.{Writes, WritesExactly}
-use Rattle.rules.specs.Proofs.JobLaws.{writing-wrote}
+use Rattle.rules.specs.Proofs.JobLaws.{never-wrote, writing-wrote}
 
 other : {k j : ℕ} → refusal k 0 ≡ refusal j 0 → k ≡ j
 other e = cc
-
-unwritten : {k : ℕ} {b : Bytes} → wrote b ≡ refusal k 0 → ⊥
-unwritten e = true≢false (let z : true ≡ false = cc in z)
 
 module _ (g : Given) (room : ℕ) (b : Bytes) where
   abbrev n : ℕ
@@ -37,7 +34,7 @@ module _ (g : Given) (room : ℕ) (b : Bytes) where
       go : (t u : Bool) → ltb maxPairs n ≡ t → choose t (refusal 15 0) (choose u (refusal 16 0) (wrote b)) ≡ refusal 15 0 → maxPairs < n
       go true u h e = ltb-true maxPairs n h
       go false true h e = absurd (let z : 16 ≡ 15 = other e in omega (arith, z))
-      go false false h e = absurd (unwritten e)
+      go false false h e = absurd (never-wrote e)
 
   short-room : writing g room b ≡ refusal 16 0 → (n ≤ maxPairs) × (room < length b)
   unfolding writing choose
@@ -46,7 +43,7 @@ module _ (g : Given) (room : ℕ) (b : Bytes) where
       go : (t u : Bool) → ltb maxPairs n ≡ t → ltb room (length b) ≡ u → choose t (refusal 15 0) (choose u (refusal 16 0) (wrote b)) ≡ refusal 16 0 → (n ≤ maxPairs) × (room < length b)
       go true u h k e = absurd (let z : 15 ≡ 16 = other e in omega (arith, z))
       go false true h k e = (ltb-false maxPairs n h, ltb-true room (length b) k)
-      go false false h k e = absurd (unwritten e)
+      go false false h k e = absurd (never-wrote e)
 
   writing-exact : Writes g room b (writing g room b)
   unfolding writing
