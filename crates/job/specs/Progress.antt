@@ -146,8 +146,8 @@ module _ (j : Job) (v v′ : Lent) (tests : Bytes) (t u w : List ℕ) (r : Answe
 abbrev pub done : Answer
 done = record { number = 0; place = 0 }
 
--- A call of `read_old` that is lent enough: what it is lent, what it answers and leaves, its contract, the lengths.
-pub record OldCall (j : Job) (old : Bytes) : Type 0 where
+-- A call that reads a program, with the contract R, and is lent enough: what it is lent, what it answers and leaves, the lengths.
+pub record ProgramCall (R : List Node → List ℕ → List ℕ → Answer → Job → List Node → List ℕ → List ℕ → Type 0) : Type 0 where
   pub n : List Node
   pub l : List ℕ
   pub w : List ℕ
@@ -156,25 +156,17 @@ pub record OldCall (j : Job) (old : Bytes) : Type 0 where
   pub nodes : List Node
   pub links : List ℕ
   pub scratch : List ℕ
-  pub reads : ReadOld j old n l w answer job nodes links scratch
+  pub reads : R n l w answer job nodes links scratch
   pub many-nodes : 512 ≤ length n
   pub many-links : 6080 ≤ length l
   pub room : 8128 ≤ length w
 
--- One of `read_new`, with the old version v.
-pub record NewCall (j : Job) (v : Lent) (new : Bytes) : Type 0 where
-  pub n : List Node
-  pub l : List ℕ
-  pub w : List ℕ
-  pub answer : Answer
-  pub job : Job
-  pub nodes : List Node
-  pub links : List ℕ
-  pub scratch : List ℕ
-  pub reads : ReadNew j v new n l w answer job nodes links scratch
-  pub many-nodes : 512 ≤ length n
-  pub many-links : 6080 ≤ length l
-  pub room : 8128 ≤ length w
+-- One of `read_old`; one of `read_new`, with the old version v.
+abbrev pub OldCall : Job → Bytes → Type 0
+OldCall j old = ProgramCall (ReadOld j old)
+
+abbrev pub NewCall : Job → Lent → Bytes → Type 0
+NewCall j v new = ProgramCall (ReadNew j v new)
 
 -- One of `read_tests`, with both versions.
 pub record TestsCall (j : Job) (v v′ : Lent) (tests : Bytes) : Type 0 where
