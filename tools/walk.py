@@ -1,6 +1,6 @@
 #!/usr/bin/env python3
 # walk.py CRATE FN [--print]: writes crates/CRATE/proofs/FN/Proof.antt, the proof of a call that takes records behind references: a walk of straight-line code (no
-# branch, no loop) over `&mut S`, `&[T]`, `&mut [T]`, records by value and numbers, which copies a record out, calls functions that have no `requires`, stores a record, makes a struct, returns; and over locals
+# branch, no loop) over `&mut S`, `&[T]`, `&mut [T]`, records and enums by value, and numbers, which copies a record out, calls functions that have no `requires`, stores a record, makes a struct, returns; and over locals
 # that are lent: a record as `&mut S`, the first elements of an array `[S; N]` of records as `&mut [S]` or `&[S]`. Run `rt fmt` after it.
 # tools/walks/CRATE-FN.py is a Python file with:  COMMENT (lines for the top), FINAL (a term for what the `ensures` says), USES (lines `use ..` that FINAL and the callees' clauses need),
 # and optionally NEEDS = { 'parameter': N }, where the function requires `parameter ≤ N` of these, in order.
@@ -47,6 +47,11 @@ structs = {}
 for c, s in src.items():
     for m in re.finditer(r'pub struct (\w+)(?:<[^>]*>)? \{(.*?)\n\}', s, re.S):
         structs[m[1]] = (c, [(a, b.strip()) for a, b in re.findall(r'pub (\w+): ([^,\n]+),', m[2])])
+enums = {}
+for c, s in src.items():
+    for m in re.finditer(r'pub enum (\w+) \{', s): enums[m[1]] = c
+ll = lambda t: 'EL' if t in enums else 'LL'
+home_of = lambda t: enums[t] if t in enums else structs[t][0]
 fld = lambda f: '«%s»' % f if '_' in f else f
 row = lambda t: t if t in ('usize', 'u8', 'u64') else t + '-type.the-row'
 den = lambda t: 'ℕ' if t in ('usize', 'u8', 'u64') else t
@@ -54,8 +59,8 @@ mod = lambda c, k: (f'Rattle.{c}.{k}' if c == crate else f'Rattle.{c}.{k}
 used = set()
 def S(t): used.add(t); return t
 def laws(t): return f'{S(t)}-type.the-type {t}-laws.the-laws'
-def val(t, x): return f'LL.val {laws(t)} {x}'
-def typed(t, x, is_): return f'LL.lawful {laws(t)} 𝓤 H A W .typed {x} _ {is_} .0'
+def val(t, x): return f'{ll(t)}.val {laws(t)} {x}'
+def typed(t, x, is_): return f'{ll(t)}.lawful {laws(t)} 𝓤 H A W {"tt " if t in enums else ""}.typed {x} _ {is_} .0'
 def nest(xs): return '(' + ', ('.join(xs) + ', tt' + ')' * len(xs) if xs else 'tt'
 def path(v, i, end='.0'): return v + ' .1' * i + ' ' + end
 def paren(x): return x if re.match(r'^[\w′₀-₉-]+$', x) or (x[0] == '(' and x[-1] == ')' and x[1:-1].count('(') == x[1:-1].count(')') and '(' not in x[1:-1]) else '(' + x + ')'
@@ -275,7 +280,7 @@ def call(s, rest):
         if kinds[idx][0] == 'plain':
             m = kinds[idx][1]
             if m[0] == 'num': w(f'number ! {paren(m[1])} {paren(m[3])} $')
-            else: T = m[0][1]; w(f'owned ! {row(S(T))} (Is {row(T)}) (LL.makes {S(T)}-type.the-type {T}-laws.the-plain 𝓤 H A) {m[1]} _ {m[3]} $')
+            else: T = m[0][1]; w(f'owned ! {row(S(T))} (Is {row(T)}) ({ll(T)}.makes {S(T)}-type.the-type {T}-laws.the-plain 𝓤 H A) {m[1]} _ {m[3]} $')
             ctx = [f'arg:{idx}'] + ctx
     for idx, k in enumerate(kinds):
         if k[0] in ('lend', 'share'):
@@ -419,10 +424,10 @@ walk = '\n'.join('        ' + l for l in lines)
 st = {'ref': lambda i, t: f'stay-ref ({life[i]} ∷ []) tt (plain (λ _. {row(t)}))', 'mut': lambda i, t: ('gave' if state[i] == 'given' else 'stay') + f'-slice ({life[i]} ∷ []) tt (plain (λ _. {row(t)}))', 'shr': lambda i, t: 'stay-dropped _ _', 'num': lambda i, t: 'stay-dropped _ _', 'val': lambda i, t: 'stay-dropped _ _'}
 go = {'ref': lambda i, t: f'goes-ref 𝓤 H A W {len(lifes)} {life[i]} tt (plain (λ _. {row(t)}))', 'mut': lambda i, t: 'goes-' + ('gave-' if state[i] == 'given' else '') + f'slice 𝓤 H A W {len(lifes)} {life[i]} tt (plain (λ _. {row(t)}))', 'shr': lambda i, t: '(λ κs x v vs _. W .laws .⇛-intro (emp 𝓤))', 'num': lambda i, t: '(λ κs x v vs _. W .laws .⇛-intro (emp 𝓤))', 'val': lambda i, t: '(λ κs x v vs _. W .laws .⇛-intro (emp 𝓤))'}
 kp = lambda i: path('κs', life[i]); qp = lambda i: path('qs', life[i])
-tell = {'ref': lambda i, t: f'mut-tells (named {life[i]}) ({kp(i)}) {row(t)}', 'mut': lambda i, t: f'mut-slice-tells (named {life[i]}) ({kp(i)}) {row(t)}', 'shr': lambda i, t: f'shr-slice-tells (named {life[i]}) ({kp(i)}) {row(t)}', 'num': lambda i, t: 'uint-tells w64', 'val': lambda i, t: f'LL.tells {laws(t)}'}
-spell = {'ref': lambda t: 'ptr-vals', 'mut': lambda t: 'slice-vals', 'shr': lambda t: 'slice-vals', 'num': lambda t: 'uint-vals w64', 'val': lambda t: f'LL.vals {laws(t)}'}
+tell = {'ref': lambda i, t: f'mut-tells (named {life[i]}) ({kp(i)}) {row(t)}', 'mut': lambda i, t: f'mut-slice-tells (named {life[i]}) ({kp(i)}) {row(t)}', 'shr': lambda i, t: f'shr-slice-tells (named {life[i]}) ({kp(i)}) {row(t)}', 'num': lambda i, t: 'uint-tells w64', 'val': lambda i, t: f'{ll(t)}.tells {laws(t)}'}
+spell = {'ref': lambda t: 'ptr-vals', 'mut': lambda t: 'slice-vals', 'shr': lambda t: 'slice-vals', 'num': lambda t: 'uint-vals w64', 'val': lambda t: f'{ll(t)}.vals {laws(t)}'}
 for p, t in params:
-    if t[1] in structs: S(t[1])
+    if t[1] in structs or t[1] in enums: S(t[1])
 key = lambda g: f'#{g["crate"]}·{ascii_(g["name"])}'
 me_ = ascii_(fn)
 kn = [f'(known{sub(k+1)} : Triple 𝓤 (𝓣 .C {key(g)}) (tripleOf 𝓤 H A g{sub(k+1)}.signature (g{sub(k+1)}.spec 𝓤 H A mem run)))' for k, g in enumerate(callees)]
@@ -504,11 +509,12 @@ for m, ns in more:
     if k: uses.append(f'use {m}.{{{", ".join(k)}}}')
 uses.append(f'use {mod(R, "specs")}.Walking.Names.{{{", ".join(named_)}}}')
 uses.append('use denote.Struct.Laws as LL') if 'LL.' in text else None
+uses.append('use denote.Enum.Laws as EL') if 'EL.' in text else None
 for m, ns in kit.items():
     k = [x for x in ns if has(x)]
     if k: uses.append(f'use {mod(R, "specs")}.Walking.{m}.{{{", ".join(k)}}}')
 for t in sorted(used):
-    c = structs[t][0]; uses.append(f'use {mod(c, "specs")}.declared.{t}.{{{t}}}')
+    c = home_of(t); uses.append(f'use {mod(c, "specs")}.declared.{t}.{{{t}}}')
     uses.append(f'use {mod(c, "proofs")}.{t} as {t}-type')
     if f'{t}-laws.' in text: uses.append(f'use {mod(c, "proofs")}.{t}.Laws as {t}-laws')
 uses += C.get('USES', [])

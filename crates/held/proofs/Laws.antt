@@ -16,7 +16,8 @@ use Rattle.reader.specs.declared.Count.{Count}
 use Rattle.suite.specs.declared.Read.{Read}
 use Rattle.program.specs.Lent.{isLeft, leftNumber, TablesLeft}
 use Rattle.lent_tests.specs.Lent.{isLeft as isLeftTests, leftNumber as testsNumber, leftCount, TestsLeft}
-use Rattle.held.specs.Held.{Lent, numbers, longEnough, leftBy, versionLeft, testsLong, testsBy, suiteLeft, countLeft, readLeft}
+use Rattle.lent_job.specs.Held.{Lent, numbers, longEnough, leftBy, versionLeft, testsLong, testsBy, suiteLeft}
+use Rattle.held.specs.Left.{countLeft, readLeft}
 
 -- ---- `version_left`
 

@@ -4,7 +4,8 @@ use suite::Read;
 ghost use mathlib.Core.Path.{_≡_};
 ghost use Prim.Native.Nat.{_≤_};
 ghost use lib.ListN.{length};
-ghost use Rattle.held.specs.Held.{countLeft, numbers, readLeft, suiteLeft, versionLeft};
+ghost use Rattle.held.specs.Left.{countLeft, readLeft};
+ghost use Rattle.lent_job.specs.Held.{numbers, suiteLeft, versionLeft};
 
 // Whether the tables of a version, lent with `room` records of nodes, are long enough and what reading the text leaves: 0 with the counts, else 14.
 // What the work table holds afterwards is left open.

@@ -12,7 +12,9 @@ use Rattle.laws.specs.Tests.{_and_, after, choose}
 use Rattle.rules.specs.Text.{Bytes, Answer as Reading, refused, accepted}
 use Rattle.rules.specs.Graph.{procCount, nodeCount, edgeCount}
 use Rattle.rules.specs.ProgramFile.{Listing, readListing}
-use Rattle.rules.specs.Job.{ofStage, read-old, stageAfter}
+use Rattle.rules.specs.Job.{ofStage, outcome, read-old, stageAfter}
+use Rattle.rules.specs.Promises.{Plain}
+use Rattle.answer.specs.Outcomes.{packing, packs}
 use Rattle.reader.specs.declared.Count.{Count}
 use Rattle.reader.specs.Result.{Told, ReadInto}
 use Rattle.program.specs.Lent.{copiedLinks}
@@ -21,10 +23,12 @@ use Rattle.records.specs.declared.Job.{Job}
 use Rattle.records.specs.declared.Node.{Node}
 use Rattle.records.specs.Jobs.{fresh, sameJob}
 use Rattle.records.specs.Nodes.{nodesOf}
-use Rattle.held.specs.Held.{jobOld}
+use Rattle.lent_job.specs.Held.{jobOld}
 use Rattle.job.specs.declared.Taken.{Taken}
-use Rattle.job.specs.ReadOldLaws.{none-due, records-are, roomy-parts}
-use Rattle.job.specs.ReadOld.{roomy, freshDue, oldDue, programRead, answered, recordsRead, countRead, linksRead, oldJob, refusedTaken, withOld, takenOf, TakenBy, LeftBy, OldTaken, ReadOld, pastDue}
+use Rattle.lent_job.specs.ReadLaws.{none-due, records-are, roomy-parts}
+use Rattle.lent_job.specs.ReadOld.{roomy, freshDue, oldDue, programRead, readAnswer, recordsRead, linksRead, oldJob, LeftBy, ReadOld, pastDue}
+use Rattle.lent_job.specs.Answers.{old-plain}
+use Rattle.job.specs.Taken.{countRead, refusedTaken, withOld, takenOf, TakenBy, OldTaken}
 
 -- ---- `long_enough`
 
@@ -98,7 +102,7 @@ job-counted j s c p q r = rw (p, q, r)
 
 module _ (after : Reading Listing → Job) (j : Job) (still : (k p : ℕ) → after (refused k p) ≡ j) (text : Bytes) (l : List ℕ) where
   left-refused : (k p : ℕ) (w : List ℕ) → TakenBy after (refused k p) (refusedTaken j k p) l l w
-  unfolding takenOf answered countRead linksRead recordsRead nodesOf
+  unfolding takenOf outcome countRead linksRead recordsRead nodesOf
   left-refused k p w = record { taken = ap (λ (x : Job). refusedTaken x k p) (sym (still k p)); links-are = refl; nodes-are = refl }
 
   pub due-taken : (due : ℕ) (w : List ℕ) (r : Taken) → (due ≡ 0 → ⊥) → r ≡ refusedTaken j due 0 → TakenBy after (programRead due text) r l l w
@@ -123,7 +127,7 @@ module _ (after : Reading Listing → Job) (j : Job) (still : (k p : ℕ) → af
 
     module _ (k : Job) (moved : (s : Listing) → had .procs ≡ procCount (s .program) → had .nodes ≡ nodeCount (s .program) → had .edges ≡ edgeCount (s .program) → after (accepted s) ≡ k) where
       done : (x : Reading Listing) → Told x had w → had .number ≡ 0 → 8128 ≤ length w → TakenBy after x (record { job = k; number = 0; place = 0; nodes = had .nodes }) l (copiedLinks w had l) w
-      unfolding takenOf answered countRead linksRead recordsRead
+      unfolding takenOf outcome countRead linksRead recordsRead
       done (refused k p) t n b = absurd (let y : ⊥ = omega (arith, t .0, t .2) in y)
       done (accepted s) t n b =
           record {
@@ -167,18 +171,20 @@ pub ruleset all = (room-first, room-second, room-work, room-all, fresh-yes, fres
 
 -- ---- reading a program over lent memory
 
-pub left-is : (after : Reading Listing → Job) (a : Reading Listing) (n n′ : List Node) (l l′ w v w′ : List ℕ) (r : Taken) → TakenBy after a r l l′ v → n′ ≡ sets n 0 (nodesOf v (r .nodes)) → w′ ≡ replicate (length v) 0
-    → length v ≡ length w → LeftBy after a n l w (record { number = r .number; place = r .place }) (r .job) n′ l′ w′
+pub left-is : (after : Reading Listing → Job) (a : Reading Listing) (n n′ : List Node) (l l′ w v w′ : List ℕ) (r : Taken) (x : ℕ) → Plain (readAnswer a) → TakenBy after a r l l′ v → n′ ≡ sets n 0 (nodesOf v (r .nodes))
+    → w′ ≡ replicate (length v) 0 → length v ≡ length w → x ≡ packing (r .number) (r .place) → LeftBy after a n l w x (r .job) n′ l′ w′
 unfolding takenOf
-left-is after a n n′ l l′ w v w′ r b en ew e =
+left-is after a n n′ l l′ w v w′ r x plain b en ew e ex =
     record {
-      answer-is = ap (λ (x : Taken). record { number = x .number; place = x .place }) (b .taken);
-      job-is = ap (λ (x : Taken). x .job) (b .taken);
-      nodes-are = en ∙ ap (λ (x : Taken). sets n 0 (nodesOf v (x .nodes))) (b .taken) ∙ ap (sets n 0) (b .nodes-are);
+      answer-is = ex ∙ packs (readAnswer a) (record { number = r .number; place = r .place }) plain (record { number-is = ap (λ (t : Taken). t .number) (b .taken); place-is = ap (λ (t : Taken). t .place) (b .taken) });
+      job-is = ap (λ (t : Taken). t .job) (b .taken);
+      nodes-are = en ∙ ap (λ (t : Taken). sets n 0 (nodesOf v (t .nodes))) (b .taken) ∙ ap (sets n 0) (b .nodes-are);
       links-are = b .links-are;
       scratch-is = ew ∙ ap (λ (k : ℕ). replicate k 0) e;
     }
 
-pub read-old-is : (j : Job) (text : Bytes) (n n′ : List Node) (l l′ w v w′ : List ℕ) (r : Taken) → OldTaken j (length n) text r l l′ (length w) v → n′ ≡ sets n 0 (nodesOf v (r .nodes)) → w′ ≡ replicate (length v) 0
-    → length v ≡ length w → ReadOld j text n l w (record { number = r .number; place = r .place }) (r .job) n′ l′ w′
-read-old-is j text n n′ l l′ w v w′ r t en ew e = record { left = left-is (oldJob j) _ n n′ l l′ w v w′ r (t .by) en ew e }
+-- `ry_job_read_old`
+pub read-old-is : (j : Job) (text : Bytes) (n n′ : List Node) (l l′ w v w′ : List ℕ) (r : Taken) (x : ℕ) → OldTaken j (length n) text r l l′ (length w) v → n′ ≡ sets n 0 (nodesOf v (r .nodes)) → w′ ≡ replicate (length v) 0
+    → length v ≡ length w → x ≡ packing (r .number) (r .place) → ReadOld j text n l w x (r .job) n′ l′ w′
+read-old-is j text n n′ l l′ w v w′ r x t en ew e ex =
+    record { left = left-is (oldJob j) _ n n′ l l′ w v w′ r x (old-plain j (length n) (length l) (length w) text) (t .by) en ew e ex }

@@ -22,12 +22,16 @@ use Rattle.records.specs.declared.Node.{Node}
 use Rattle.records.specs.Jobs.{sameJob}
 use Rattle.records.specs.Nodes.{flat, nodesOf}
 use Rattle.records.specs.NodeLaws.{flat-length}
-use Rattle.held.specs.Held.{Lent, numbers, lent, versionLeft, countLeft, jobOld, heldOld}
-use Rattle.held.specs.HeldLaws.{front-left}
+use Rattle.lent_job.specs.Held.{Lent, numbers, lent, versionLeft, jobOld, heldOld}
+use Rattle.held.specs.Left.{countLeft}
+use Rattle.lent_job.specs.HeldLaws.{front-left}
 use Rattle.job.specs.declared.Taken.{Taken}
-use Rattle.job.specs.ReadOld.{roomy, programRead, refusedTaken, withOld, TakenBy}
-use Rattle.job.specs.ReadOldLaws.{none-due, roomy-parts}
-use Rattle.job.specs.ReadNew.{oldPart, oldHeldDue, newDue, newJob, withNew, NewTaken, ReadNew}
+use Rattle.lent_job.specs.ReadOld.{roomy, programRead}
+use Rattle.answer.specs.Outcomes.{packing}
+use Rattle.lent_job.specs.Answers.{new-plain}
+use Rattle.job.specs.Taken.{refusedTaken, withOld, TakenBy, oldPart, NewTaken}
+use Rattle.lent_job.specs.ReadLaws.{none-due, roomy-parts}
+use Rattle.lent_job.specs.ReadNew.{oldHeldDue, newDue, newJob, withNew, ReadNew}
 use Rattle.job.proofs.Laws.{due-chosen, due-taken, text-refused, text-taken, left-is}
 
 -- ---- `with_new`
@@ -155,10 +159,14 @@ module _ (j : Job) (old : Bytes) (ns : List Node) (ol w : List ℕ) (a b : ℕ) 
           (front-left old ns ol (oldPart (sets w 0 (flat (take 512 ns)))) (λ k. front-flat ns w (omega (arith, roomy-parts 512 6080 a b (length w) e .2)) k))
       go false e = refl
 
-pub read-new-is : (j : Job) (old : Bytes) (ns : List Node) (ol : List ℕ) (text : Bytes) (n n′ : List Node) (l l′ w w₁ v w′ : List ℕ) (r : Taken) → w₁ ≡ sets w 0 (flat (take 512 ns)) → length w₁ ≡ length w
+-- `ry_job_read_new`
+pub read-new-is : (j : Job) (old : Bytes) (ns : List Node) (ol : List ℕ) (text : Bytes) (n n′ : List Node) (l l′ w w₁ v w′ : List ℕ) (r : Taken) (x : ℕ) → w₁ ≡ sets w 0 (flat (take 512 ns)) → length w₁ ≡ length w
     → NewTaken j (numbers (length ns) old (oldPart w₁) ol) (length n) text r l l′ (length w₁) v → n′ ≡ sets n 0 (nodesOf v (r .nodes)) → w′ ≡ replicate (length v) 0 → length v ≡ length w₁
-    → ReadNew j (lent old ns ol) text n l w (record { number = r .number; place = r .place }) (r .job) n′ l′ w′
-read-new-is j old ns ol text n n′ l l′ w w₁ v w′ r e₁ q t en ew e =
+    → x ≡ packing (r .number) (r .place) → ReadNew j (lent old ns ol) text n l w x (r .job) n′ l′ w′
+read-new-is j old ns ol text n n′ l l′ w w₁ v w′ r x e₁ q t en ew e ex =
     let d : newDue j (numbers (length ns) old (oldPart w₁) ol) (length n) (length l) (length w₁) ≡ newDue j (lent old ns ol) (length n) (length l) (length w)
     = ap₂ (λ (x : List ℕ) (k : ℕ). newDue j (numbers (length ns) old (oldPart x) ol) (length n) (length l) k) e₁ q ∙ same-due j old ns ol w (length n) (length l) in
-    record { left = left-is (newJob j) _ n n′ l l′ w v w′ r (subst (λ (k : ℕ). TakenBy (newJob j) (programRead k text) r l l′ v) d (t .by)) en ew (e ∙ q) }
+    record {
+      left = left-is (newJob j) _ n n′ l l′ w v w′ r x (new-plain j (lent old ns ol) (length n) (length l) (length w) text)
+          (subst (λ (k : ℕ). TakenBy (newJob j) (programRead k text) r l l′ v) d (t .by)) en ew (e ∙ q) ex;
+    }

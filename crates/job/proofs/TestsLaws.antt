@@ -14,7 +14,8 @@ use Rattle.rules.specs.Text.{Bytes, Answer as Reading, refused, accepted}
 use Rattle.rules.specs.Graph.{edgeCount}
 use Rattle.rules.specs.ProgramFile.{Listing}
 use Rattle.rules.specs.SuiteFile.{TestListing, readTests}
-use Rattle.rules.specs.Job.{ofStage, read-tests, stageAfter}
+use Rattle.rules.specs.Job.{ofStage, outcome, read-tests, stageAfter}
+use Rattle.answer.specs.Outcomes.{packing, packs}
 use Rattle.reader.specs.declared.Count.{Count}
 use Rattle.suite.specs.declared.Read.{Read}
 use Rattle.lent_tests.specs.Lent.{Leaves, ReadLent}
@@ -23,13 +24,16 @@ use Rattle.records.specs.declared.Node.{Node}
 use Rattle.records.specs.Jobs.{sameJob, job-same}
 use Rattle.records.specs.Nodes.{flat}
 use Rattle.records.specs.NodeLaws.{flat-length}
-use Rattle.held.specs.Held.{Lent, Versions, numbers, lent, versionLeft, countLeft, jobNew, heldNew}
-use Rattle.held.specs.HeldLaws.{front-left, version-sound}
+use Rattle.lent_job.specs.Held.{Lent, Versions, numbers, lent, versionLeft, jobNew, heldNew}
+use Rattle.held.specs.Left.{countLeft}
+use Rattle.lent_job.specs.HeldLaws.{front-left, version-sound}
 use Rattle.job.specs.declared.Moved.{Moved}
-use Rattle.job.specs.ReadOld.{answered, roomy, withOld, pastDue}
-use Rattle.job.specs.ReadOldLaws.{none-due, roomy-parts}
-use Rattle.job.specs.ReadNew.{oldPart, newPart, withNew}
-use Rattle.job.specs.ReadTests.{bothDue, testsDue, testsBy, withTests, testsJob, namesLeft, rowsLeft, movedBy, MovedBy, TestsTaken, ReadTests}
+use Rattle.lent_job.specs.ReadOld.{pastDue, roomy}
+use Rattle.job.specs.Taken.{withOld, oldPart, newPart, movedBy, MovedBy, TestsTaken}
+use Rattle.lent_job.specs.Answers.{tests-plain}
+use Rattle.lent_job.specs.ReadLaws.{none-due, roomy-parts}
+use Rattle.lent_job.specs.ReadNew.{withNew}
+use Rattle.lent_job.specs.ReadTests.{bothDue, testsDue, suiteRead, withTests, testsJob, namesLeft, rowsLeft, ReadTests}
 use Rattle.job.proofs.Laws.{due-chosen}
 use Rattle.job.proofs.NewLaws.{number-none, front-flat}
 
@@ -164,19 +168,19 @@ module _ (j : Job) (c : Read) (number : ℕ) (en : number ≡ c .number) where
 
 module _ (j : Job) (t w : List ℕ) where
   stopped : (k p : ℕ) → MovedBy j (refused k p) (record { job = j; number = k; place = p }) t t w w
-  unfolding testsJob answered namesLeft rowsLeft
+  unfolding testsJob outcome namesLeft rowsLeft
   stopped k p = record { moved = refl; tests-are = refl; rows-are = refl }
 
   read-by : (a : Reading TestListing) (c : Read) (t′ w′ : List ℕ) → Leaves a c t t′ w w′ → MovedBy j a (movedBy j c) t t′ w w′
-  unfolding testsJob answered namesLeft rowsLeft movedBy choose
+  unfolding testsJob outcome namesLeft rowsLeft movedBy choose
   read-by (refused k p) c t′ w′ h =
       record { moved = simp (h .0, h .1, ne-eqb k 0 (λ z. let y : ⊥ = omega (arith, z, h .3) in y)); tests-are = h .4; rows-are = h .5 }
   read-by (accepted l) c t′ w′ h = record { moved = simp (h .0, h .2); tests-are = h .3; rows-are = h .4 }
 
 module _ (j : Job) (v v′ : Lent) (text : Bytes) (t w : List ℕ) (work due : ℕ) (ed : due ≡ testsDue j v v′ (length t) (length w) work) where
-  by-due : (r : Moved) (t′ w′ : List ℕ) (a : Reading TestListing) → a ≡ testsBy due (j .«old_edges») text → MovedBy j a r t t′ w w′ → TestsTaken j v v′ text r t t′ w w′ work
+  by-due : (r : Moved) (t′ w′ : List ℕ) (a : Reading TestListing) → a ≡ suiteRead due (j .«old_edges») text → MovedBy j a r t t′ w w′ → TestsTaken j v v′ text r t t′ w w′ work
   by-due r t′ w′ a e m =
-      record { by = subst (λ (x : Reading TestListing). MovedBy j x r t t′ w w′) (e ∙ ap (λ (k : ℕ). testsBy k (j .«old_edges») text) ed) m }
+      record { by = subst (λ (x : Reading TestListing). MovedBy j x r t t′ w w′) (e ∙ ap (λ (k : ℕ). suiteRead k (j .«old_edges») text) ed) m }
 
   pub tests-refused : (due ≡ 0 → ⊥) → TestsTaken j v v′ text (record { job = j; number = due; place = 0 }) t t w w work
   unfolding pastDue choose
@@ -224,18 +228,21 @@ module _ (j : Job) (old : Bytes) (ns : List Node) (ol : List ℕ) (new : Bytes) 
           (front-left old ns ol (oldPart both) (first-flat h)) (front-left new ms nl (newPart both) (second-flat h))
       go false e = refl
 
-pub read-tests-is : (j : Job) (old : Bytes) (ns : List Node) (ol : List ℕ) (new : Bytes) (ms : List Node) (nl : List ℕ) (text : Bytes) (t t′ w w′ s s₁ s′ : List ℕ) (r : Moved)
+-- `ry_job_read_tests`
+pub read-tests-is : (j : Job) (old : Bytes) (ns : List Node) (ol : List ℕ) (new : Bytes) (ms : List Node) (nl : List ℕ) (text : Bytes) (t t′ w w′ s s₁ s′ : List ℕ) (r : Moved) (x : ℕ)
     → s₁ ≡ sets (sets s 0 (flat (take 512 ns))) 2048 (flat (take 512 ms)) → length s₁ ≡ length s
     → TestsTaken j (numbers (length ns) old (oldPart s₁) ol) (numbers (length ms) new (newPart s₁) nl) text r t t′ w w′ (length s₁) → s′ ≡ replicate (length s₁) 0
-    → ReadTests j (lent old ns ol) (lent new ms nl) text t w s (record { number = r .number; place = r .place }) (r .job) t′ w′ s′
-read-tests-is j old ns ol new ms nl text t t′ w w′ s s₁ s′ r e₁ q h es =
+    → x ≡ packing (r .number) (r .place) → ReadTests j (lent old ns ol) (lent new ms nl) text t w s x (r .job) t′ w′ s′
+read-tests-is j old ns ol new ms nl text t t′ w w′ s s₁ s′ r x e₁ q h es ex =
     let d : testsDue j (numbers (length ns) old (oldPart s₁) ol) (numbers (length ms) new (newPart s₁) nl) (length t) (length w) (length s₁) ≡ testsDue j (lent old ns ol) (lent new ms nl) (length t) (length w) (length s)
     = ap₂ (λ (x : List ℕ) (k : ℕ). testsDue j (numbers (length ns) old (oldPart x) ol) (numbers (length ms) new (newPart x) nl) (length t) (length w) k) e₁ q ∙ same-due j old ns ol new ms nl s (length t) (length w) in
-    let b : MovedBy j (testsBy (testsDue j (lent old ns ol) (lent new ms nl) (length t) (length w) (length s)) (j .«old_edges») text) r t t′ w w′
-    = subst (λ (k : ℕ). MovedBy j (testsBy k (j .«old_edges») text) r t t′ w w′) d (h .by) in
+    let b : MovedBy j (suiteRead (testsDue j (lent old ns ol) (lent new ms nl) (length t) (length w) (length s)) (j .«old_edges») text) r t t′ w w′
+    = subst (λ (k : ℕ). MovedBy j (suiteRead k (j .«old_edges») text) r t t′ w w′) d (h .by) in
     record {
       left = record {
-        answer-is = ap (λ (x : Moved). record { number = x .number; place = x .place }) (b .moved);
+        answer-is = ex
+            ∙ packs _ (record { number = r .number; place = r .place }) (tests-plain j (lent old ns ol) (lent new ms nl) (length t) (length w) (length s) text)
+            (record { number-is = ap (λ (x : Moved). x .number) (b .moved); place-is = ap (λ (x : Moved). x .place) (b .moved) });
         job-is = ap (λ (x : Moved). x .job) (b .moved);
         tests-are = b .tests-are;
         rows-are = b .rows-are;

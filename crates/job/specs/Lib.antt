@@ -1,6 +1,1 @@
-pub mod ReadOld
-pub mod ReadOldLaws
-pub mod ReadNew
-pub mod ReadTests
-pub mod Stages
-pub mod Progress
+pub mod Taken

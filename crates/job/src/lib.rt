@@ -1,17 +1,16 @@
-// The reading calls of a job, at the stages 0 to 2, over lent memory. The work of each is done on values and tables of numbers; the call itself
-// takes the job and the nodes out of what is lent and puts them back.
-use answer::Answer;
+// Reading at the stages 0 to 2 of a job, on values and tables of numbers. The exported calls take the job and the nodes out of what is lent
+// and put them back.
 use reader::Count;
 use records::Job;
-use records::Node;
 use suite::Read;
 use text::run;
 ghost use mathlib.Core.Path.{_≡_};
 ghost use lib.ListN.{length};
-ghost use Rattle.held.specs.Held.{lent, numbers};
-ghost use Rattle.job.specs.ReadOld.{OldTaken, ReadOld, freshDue, oldDue, refusedTaken, roomy, withOld};
-ghost use Rattle.job.specs.ReadNew.{NewTaken, ReadNew, newDue, newPart, oldPart, withNew};
-ghost use Rattle.job.specs.ReadTests.{ReadTests, TestsTaken, bothDue, movedBy, testsDue, withTests};
+ghost use Rattle.lent_job.specs.Held.{numbers};
+ghost use Rattle.job.specs.Taken.{OldTaken, refusedTaken, withOld, NewTaken, newPart, oldPart, TestsTaken, movedBy};
+ghost use Rattle.lent_job.specs.ReadOld.{freshDue, oldDue, roomy};
+ghost use Rattle.lent_job.specs.ReadNew.{newDue, withNew};
+ghost use Rattle.lent_job.specs.ReadTests.{bothDue, testsDue, withTests};
 
 // What reading a program leaves on values: the job, the answer, and how many nodes stand in the scratch.
 pub struct Taken {
@@ -102,7 +101,7 @@ fn with_old(had: Count) -> Job
 
 // Reads the old program, for `room` records of nodes: its links go to `lent`, and the numbers of its nodes stay in the scratch. What else the
 // scratch holds afterwards is left open.
-fn take_old(job: Job, room: usize, old: &[u8], lent: &mut [usize], scratch: &mut [usize]) -> Taken
+pub fn take_old(job: Job, room: usize, old: &[u8], lent: &mut [usize], scratch: &mut [usize]) -> Taken
     ensures { λ r. ⌜ OldTaken job room (now (old .entry)) r (now (lent .entry)) (now (lent .exit)) (length (now (scratch .entry))) (now (scratch .exit)) ⌝ }
 {
     let due = old_due(job, room, lent.len(), scratch.len());
@@ -120,25 +119,6 @@ fn take_old(job: Job, room: usize, old: &[u8], lent: &mut [usize], scratch: &mut
         number: 0,
         place: 0,
         nodes: had.nodes,
-    }
-}
-
-// Reads the old program. After a refusal the job, the nodes and the links are as they were. The scratch is zero afterwards.
-pub fn read_old(
-    job: &mut Job,
-    old: &[u8],
-    nodes: &mut [Node],
-    links: &mut [usize],
-    scratch: &mut [usize],
-) -> Answer
-    ensures { λ r. ⌜ ReadOld (now (job .entry)) (now (old .entry)) (now (nodes .entry)) (now (links .entry)) (now (scratch .entry)) r (now (job .exit)) (now (nodes .exit)) (now (links .exit)) (now (scratch .exit)) ⌝ }
-{
-    let r = take_old(*job, nodes.len(), old, links, scratch);
-    records::store(scratch, r.nodes, nodes);
-    *job = r.job;
-    Answer {
-        number: r.number,
-        place: r.place,
     }
 }
 
@@ -193,7 +173,7 @@ fn new_due(
 
 // Reads the new program, for `nodes` records: its links go to `lent`, and the numbers of its nodes stay in the scratch, which has the numbers of
 // the old nodes at its front before. What else the scratch holds afterwards is left open.
-fn take_new(
+pub fn take_new(
     job: Job,
     room: usize,
     old: &[u8],
@@ -220,39 +200,6 @@ fn take_new(
         number: 0,
         place: 0,
         nodes: had.nodes,
-    }
-}
-
-// Reads the new program, with the old version as it was read. After a refusal the job, the nodes and the links are as they were. The scratch is
-// zero afterwards.
-pub fn read_new(
-    job: &mut Job,
-    old: &[u8],
-    oldnodes: &[Node],
-    oldlinks: &[usize],
-    new: &[u8],
-    nodes: &mut [Node],
-    links: &mut [usize],
-    scratch: &mut [usize],
-) -> Answer
-    ensures { λ r. ⌜ ReadNew (now (job .entry)) (lent (now (old .entry)) (now (oldnodes .entry)) (now (oldlinks .entry))) (now (new .entry)) (now (nodes .entry)) (now (links .entry)) (now (scratch .entry)) r (now (job .exit)) (now (nodes .exit)) (now (links .exit)) (now (scratch .exit)) ⌝ }
-{
-    records::load(oldnodes, 512, scratch, 0);
-    let r = take_new(
-        *job,
-        oldnodes.len(),
-        old,
-        oldlinks,
-        new,
-        nodes.len(),
-        links,
-        scratch,
-    );
-    records::store(scratch, r.nodes, nodes);
-    *job = r.job;
-    Answer {
-        number: r.number,
-        place: r.place,
     }
 }
 
@@ -356,7 +303,7 @@ fn moved_by(job: Job, had: Read) -> Moved
 }
 
 // Reads the tests into `tests` and `rows`. The scratch has the numbers of both versions' nodes.
-fn take_tests(
+pub fn take_tests(
     job: Job,
     room: usize,
     old: &[u8],
@@ -394,43 +341,4 @@ fn take_tests(
     let mut words = [0u64; 3200];
     let had = lent_tests::read_lent_tests(text, job.old_edges, tests, rows, &mut work, &mut words);
     moved_by(job, had)
-}
-
-// Reads the tests, with both versions as they were read. After a refusal the job, `tests` and `rows` are as they were. The scratch is zero
-// afterwards.
-pub fn read_tests(
-    job: &mut Job,
-    old: &[u8],
-    oldnodes: &[Node],
-    oldlinks: &[usize],
-    new: &[u8],
-    newnodes: &[Node],
-    newlinks: &[usize],
-    text: &[u8],
-    tests: &mut [usize],
-    rows: &mut [u64],
-    scratch: &mut [usize],
-) -> Answer
-    ensures { λ r. ⌜ ReadTests (now (job .entry)) (lent (now (old .entry)) (now (oldnodes .entry)) (now (oldlinks .entry))) (lent (now (new .entry)) (now (newnodes .entry)) (now (newlinks .entry))) (now (text .entry)) (now (tests .entry)) (now (rows .entry)) (now (scratch .entry)) r (now (job .exit)) (now (tests .exit)) (now (rows .exit)) (now (scratch .exit)) ⌝ }
-{
-    records::load_both(oldnodes, newnodes, scratch);
-    let r = take_tests(
-        *job,
-        oldnodes.len(),
-        old,
-        oldlinks,
-        newnodes.len(),
-        new,
-        newlinks,
-        text,
-        tests,
-        rows,
-        scratch,
-    );
-    text::clear(scratch);
-    *job = r.job;
-    Answer {
-        number: r.number,
-        place: r.place,
-    }
 }

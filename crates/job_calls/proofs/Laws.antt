@@ -15,29 +15,32 @@ use Rattle.rules.specs.Text.{Bytes, Answer as Reading, refused, accepted}
 use Rattle.rules.specs.Graph.{nodeCount, edgeCount}
 use Rattle.rules.specs.ProgramFile.{Listing}
 use Rattle.rules.specs.SuiteFile.{TestListing, testCount}
-use Rattle.rules.specs.Job.{Call, Given, Outcome, Version, bySide, check-sheet, isNodeOfVersion, labelAnswer, labelPart, labelShown, numberOf, ofStage, outcome, placeOf, read-tests, refusal, sheetBytes, show-label, stageAfter, success, write-record, write-sheet, writing, checking, recording}
+use Rattle.rules.specs.Job.{Outcome, Request as Asked, Span, Version, bySide, hasNode, labelPart, labelShown, labelSpan, make-request, nowhere, ofStage, outcome, packedSpan, read-tests, refusal, serving, spanShown, stageAfter}
 use Rattle.rules.specs.Proofs.ProgramLaws.{Sound}
 use Rattle.answer.specs.declared.Answer.{Answer}
-use Rattle.answer.specs.Outcomes.{Answered, Told, answered-as, refusal-told, told-as}
+use Rattle.answer.specs.Outcomes.{Told, packing, packing-fits, packs, refusal-told, told-as}
 use Rattle.reader.specs.declared.Count.{Count}
 use Rattle.suite.specs.declared.Read.{Read}
 use Rattle.versions.specs.Memory.{InMemory, memory}
 use Rattle.intake.specs.declared.Texts.{Texts}
 use Rattle.intake.specs.Ready.{Few, Ready, refusedTexts}
 use Rattle.intake.proofs.Laws.{few-none}
-use Rattle.checker.specs.Checking.{Checks}
-use Rattle.work.specs.Work.{Done, RecordDone, SheetDone}
+use Rattle.work.specs.Work.{Done}
+use Rattle.requests.specs.Requests.{Served}
 use Rattle.records.specs.declared.Job.{Job}
 use Rattle.records.specs.declared.Node.{Node}
 use Rattle.records.specs.Jobs.{sameJob}
 use Rattle.records.specs.Nodes.{flat}
 use Rattle.records.specs.NodeLaws.{flat-length}
-use Rattle.held.specs.Held.{AllRead, Lent, countLeft, heldTests, jobAt, jobTests, lent, numbers, readLeft, suiteLeft, versionLeft}
-use Rattle.held.specs.HeldLaws.{count-small, front-left, held-tests-parts, suite-accepted, suite-few, suite-holds, version-memory, version-sound}
+use Rattle.lent_job.specs.Held.{AllRead, Lent, heldTests, jobAt, jobTests, lent, numbers, suiteLeft, versionLeft}
+use Rattle.held.specs.Left.{count-small, countLeft, readLeft}
+use Rattle.lent_job.specs.HeldLaws.{front-left, held-tests-parts, suite-accepted, suite-few, suite-holds, version-memory, version-sound}
 use Rattle.records.specs.Shown.{partShown}
 use Rattle.job_calls.specs.declared.Label.{Label}
-use Rattle.job_calls.specs.Calls.{Called, CalledOn, Labelled, LentJob, Shown, Wrote, WroteOn, checkCall, countsBy, dueTexts, givenBy, goesBy, labelBySide, labelCall, labelOfNode, labelPartCall, lentJob, loadedJob, recordCall, noLabel, sheetCall, shownBy, textsDue, unloaded, versionOf}
-use Rattle.job_calls.specs.DueLaws.{due-cases, holding}
+use Rattle.lent_job.specs.Calls.{Called, Found, Kept, LentJob, Shown, givenBy, goesBy, holding, labelPartCall, labelSpanCall, lentCall, lentJob, requestScratch, shownBy, spanBy, versionOf}
+use Rattle.job_calls.specs.Loaded.{CalledOn, SpanIs, countsBy, dueTexts, labelBySide, labelOfNode, loadedJob, noLabel, textsDue, unloaded}
+use Rattle.lent_job.specs.DueLaws.{due-cases}
+use Rattle.lent_job.specs.Answers.{labels-few, lent-plain}
 
 -- ---- `suite_due`
 
@@ -74,7 +77,7 @@ unfolding choose countsBy countLeft dueTexts
 due-last s s′ l true = refl
 due-last s s′ l false = refl
 
-module _ (j : Job) (asked had olds : ℕ) (ot on ol : List ℕ) (news : ℕ) (nt nn nl tt tests rows : List ℕ) where
+module _ (j : Job) (had olds : ℕ) (ot on ol : List ℕ) (news : ℕ) (nt nn nl tt tests rows : List ℕ) where
   abbrev old-lent : Lent
   old-lent = numbers olds ot on ol
 
@@ -84,19 +87,19 @@ module _ (j : Job) (asked had olds : ℕ) (ot on ol : List ℕ) (news : ℕ) (nt
   abbrev lent-job : LentJob
   lent-job = lentJob j old-lent new-lent tt tests rows had
 
-  pub due-stage : (r : Texts) → (j .stage ≡ 3 → ⊥) → r ≡ refusedTexts 13 0 → r ≡ dueTexts (goesBy write-sheet asked lent-job)
+  pub due-stage : (r : Texts) → (j .stage ≡ 3 → ⊥) → r ≡ refusedTexts 13 0 → r ≡ dueTexts (goesBy lent-job)
   unfolding goesBy ofStage choose dueTexts
-  due-stage r h q = q ∙ simp (ne-eqb _ _ h)
+  due-stage r h e = e ∙ simp (ne-eqb _ _ h)
 
   module _ (st : j .stage ≡ 3) where
-    pub due-short : (r : Texts) → had < asked → r ≡ refusedTexts 14 0 → r ≡ dueTexts (goesBy write-sheet asked lent-job)
+    pub due-short : (r : Texts) → had < requestScratch → r ≡ refusedTexts 14 0 → r ≡ dueTexts (goesBy lent-job)
     unfolding goesBy ofStage choose dueTexts
-    due-short r h q = q ∙ simp (eq-eqb _ _ st, lt-leb asked had h)
+    due-short r h e = e ∙ simp (eq-eqb _ _ st, lt-leb requestScratch had h)
 
-    module _ (room : asked ≤ had) where
-      goes-held : (x : Option AllRead) → heldTests j old-lent new-lent tt tests rows ≡ x → goesBy write-sheet asked lent-job ≡ after x (refused 14 0) (λ h. accepted h)
+    module _ (room : requestScratch ≤ had) where
+      goes-held : (x : Option AllRead) → heldTests j old-lent new-lent tt tests rows ≡ x → goesBy lent-job ≡ after x (refused 14 0) (λ h. accepted h)
       unfolding goesBy ofStage choose
-      goes-held x e = simp (eq-eqb _ _ st, le-leb asked had room, e)
+      goes-held x e = simp (eq-eqb _ _ st, le-leb requestScratch had room, e)
 
       -- The first table that is not left.
       none-old : (x : Option Listing) (c : Count) → c ≡ countLeft x → (c .number ≡ 0 → ⊥) → x ≡ none
@@ -109,18 +112,18 @@ module _ (j : Job) (asked had olds : ℕ) (ot on ol : List ℕ) (news : ℕ) (nt
       some-old none c e z = absurd (let v : ⊥ = omega (arith, z, ap (λ (y : Count). y .number) e) in v)
       some-old (some s) c e z = (s, refl)
 
-      held-none : (r : Texts) → heldTests j old-lent new-lent tt tests rows ≡ none → r ≡ refusedTexts 14 0 → r ≡ dueTexts (goesBy write-sheet asked lent-job)
+      held-none : (r : Texts) → heldTests j old-lent new-lent tt tests rows ≡ none → r ≡ refusedTexts 14 0 → r ≡ dueTexts (goesBy lent-job)
       unfolding dueTexts
-      held-none r e q = q ∙ sym (ap dueTexts (goes-held none e))
+      held-none r e d = d ∙ sym (ap dueTexts (goes-held none e))
 
-      pub due-old : (r : Texts) (c : Count) → c ≡ countLeft (versionLeft old-lent) → (c .number ≡ 0 → ⊥) → r ≡ refusedTexts 14 0 → r ≡ dueTexts (goesBy write-sheet asked lent-job)
+      pub due-old : (r : Texts) (c : Count) → c ≡ countLeft (versionLeft old-lent) → (c .number ≡ 0 → ⊥) → r ≡ refusedTexts 14 0 → r ≡ dueTexts (goesBy lent-job)
       unfolding heldTests
-      due-old r c e z q = held-none r (simp (none-old (versionLeft old-lent) c e z)) q
+      due-old r c e z d = held-none r (simp (none-old (versionLeft old-lent) c e z)) d
 
       module _ (o : Count) (eo : o ≡ countLeft (versionLeft old-lent)) (zo : o .number ≡ 0) where
-        pub due-new : (r : Texts) (c : Count) → c ≡ countLeft (versionLeft new-lent) → (c .number ≡ 0 → ⊥) → r ≡ refusedTexts 14 0 → r ≡ dueTexts (goesBy write-sheet asked lent-job)
+        pub due-new : (r : Texts) (c : Count) → c ≡ countLeft (versionLeft new-lent) → (c .number ≡ 0 → ⊥) → r ≡ refusedTexts 14 0 → r ≡ dueTexts (goesBy lent-job)
         unfolding heldTests
-        due-new r c e z q = let s = some-old (versionLeft old-lent) o eo zo in held-none r (simp (s .1, none-old (versionLeft new-lent) c e z)) q
+        due-new r c e z d = let s = some-old (versionLeft old-lent) o eo zo in held-none r (simp (s .1, none-old (versionLeft new-lent) c e z)) d
 
         pub due-edges : o .edges ≤ 1024
         due-edges = subst (λ (c : Count). c .edges ≤ 1024) (sym eo) (count-small old-lent .few-edges)
@@ -133,14 +136,14 @@ module _ (j : Job) (asked had olds : ℕ) (ot on ol : List ℕ) (news : ℕ) (nt
             due-by none = refl
             due-by (some l) = due-last s s′ l (sameJob j (jobTests s s′ l))
 
-            due-is : (r : Texts) → r ≡ textsDue j o p (suiteLeft (o .edges) tt tests rows) → r ≡ dueTexts (goesBy write-sheet asked lent-job)
+            due-is : (r : Texts) → r ≡ textsDue j o p (suiteLeft (o .edges) tt tests rows) → r ≡ dueTexts (goesBy lent-job)
             unfolding heldTests countLeft
             due-is r e =
                 e ∙ ap₂ (λ (a b : Count). textsDue j a b (suiteLeft (a .edges) tt tests rows)) (eo ∙ ap countLeft es) (ep ∙ ap countLeft es′)
                 ∙ due-by (suiteLeft (edgeCount (s .program)) tt tests rows)
                 ∙ sym (ap dueTexts (goes-held (after (suiteLeft (edgeCount (s .program)) tt tests rows) none (λ l. choose (sameJob j (jobTests s s′ l)) (some (record { old = s; new = s′; tests = l })) none)) (simp (es, es′))))
 
-          pub due-done : (r : Texts) → r ≡ textsDue j o p (suiteLeft (o .edges) tt tests rows) → r ≡ dueTexts (goesBy write-sheet asked lent-job)
+          pub due-done : (r : Texts) → r ≡ textsDue j o p (suiteLeft (o .edges) tt tests rows) → r ≡ dueTexts (goesBy lent-job)
           due-done r e =
               let s = some-old (versionLeft old-lent) o eo zo in
               let s′ = some-old (versionLeft new-lent) p ep zp in
@@ -152,8 +155,8 @@ pub ruleset dues = (suite-stop, suite-goes, suite-other, due-stage, due-short, d
 
 -- The memories of what is held are ready, and its counts are within their limits.
 module _ (k : LentJob) (h : AllRead) (held : holding k ≡ some h) where
-  parts : (versionLeft (k .old) ≡ some (h .old)) × (versionLeft (k .new) ≡ some (h .new)) × (suiteLeft (edgeCount (h .old .program)) (k .text) (k .tests) (k .rows) ≡ some (h .tests))
-  parts = let p = held-tests-parts (k .job) (k .old) (k .new) (k .text) (k .tests) (k .rows) h held in (p .0, p .1, p .2)
+  parts : (versionLeft (k .old) ≡ some (h .old)) × (versionLeft (k .new) ≡ some (h .new)) × (suiteLeft (edgeCount (h .old .program)) (k .testsText) (k .tests) (k .rows) ≡ some (h .tests))
+  parts = let p = held-tests-parts (k .job) (k .old) (k .new) (k .testsText) (k .tests) (k .rows) h held in (p .0, p .1, p .2)
 
   old-few : Sound (h .old .program)
   old-few = version-sound (k .old) (h .old) (parts .0)
@@ -169,14 +172,14 @@ module _ (k : LentJob) (h : AllRead) (held : holding k ≡ some h) where
         few-old-edges = old-few .fewEdges;
         few-new-nodes = new-few .fewNodes;
         few-new-edges = new-few .fewEdges;
-        few-tests = suite-few (edgeCount (h .old .program)) (k .text) (k .tests) (k .rows) (h .tests) (parts .2);
+        few-tests = suite-few (edgeCount (h .old .program)) (k .testsText) (k .tests) (k .rows) (h .tests) (parts .2);
       }
 
   pub held-ready : 2048 ≤ length (k .old .nodes) → 2048 ≤ length (k .new .nodes)
-      → Ready (memory (k .old .text) (k .old .nodes) (k .old .links)) (memory (k .new .text) (k .new .nodes) (k .new .links)) (k .text) (k .tests) (k .rows) (dueTexts (accepted h)) (givenBy h)
+      → Ready (memory (k .old .text) (k .old .nodes) (k .old .links)) (memory (k .new .text) (k .new .nodes) (k .new .links)) (k .testsText) (k .tests) (k .rows) (dueTexts (accepted h)) (givenBy h)
   unfolding dueTexts
   held-ready a b =
-      let l = suite-accepted (edgeCount (h .old .program)) (k .text) (k .tests) (k .rows) (h .tests) (parts .2) in
+      let l = suite-accepted (edgeCount (h .old .program)) (k .testsText) (k .tests) (k .rows) (h .tests) (parts .2) in
       record {
         o = h .old;
         p = h .new;
@@ -184,7 +187,7 @@ module _ (k : LentJob) (h : AllRead) (held : holding k ≡ some h) where
         old-in = version-memory (k .old) (h .old) (parts .0) a;
         new-in = version-memory (k .new) (h .new) (parts .1) b;
         tests-read = l;
-        tests-in = suite-holds (edgeCount (h .old .program)) (k .text) (k .tests) (k .rows) (h .tests) (parts .2) (old-few .fewEdges);
+        tests-in = suite-holds (edgeCount (h .old .program)) (k .testsText) (k .tests) (k .rows) (h .tests) (parts .2) (old-few .fewEdges);
         given-is = refl;
         old-nodes-n = refl;
         old-edges-n = refl;
@@ -200,38 +203,38 @@ accepted-number : (h : AllRead) → dueTexts (accepted h) .number ≡ 0
 unfolding dueTexts
 accepted-number h = refl
 
-module _ (asked : ℕ) (k : LentJob) (had : Texts) (eh : had ≡ dueTexts (goesBy write-sheet asked k)) where
+module _ (k : LentJob) (had : Texts) (eh : had ≡ dueTexts (goesBy k)) where
   pub due-few : Few had
   due-few =
-      due-cases asked k (λ q b c e. subst Few (sym (eh ∙ ap dueTexts e ∙ refused-texts q 0)) (few-none q 0)) (λ h e room held. subst Few (sym (eh ∙ ap dueTexts e)) (held-few k h held))
+      due-cases k (λ n b c e. subst Few (sym (eh ∙ ap dueTexts e ∙ refused-texts n 0)) (few-none n 0)) (λ h e room held. subst Few (sym (eh ∙ ap dueTexts e)) (held-few k h held))
 
-  due-room : had .number ≡ 0 → asked ≤ k .scratch
+  due-room : had .number ≡ 0 → requestScratch ≤ k .scratch
   due-room z =
-      due-cases asked k
-      (λ q c d e. absurd (let v : ⊥ = omega (arith, z, c, ap (λ (t : Texts). t .number) (eh ∙ ap dueTexts e ∙ refused-texts q 0)) in v))
+      due-cases k
+      (λ n c d e. absurd (let v : ⊥ = omega (arith, z, c, ap (λ (t : Texts). t .number) (eh ∙ ap dueTexts e ∙ refused-texts n 0)) in v))
       (λ h e room held. room)
 
-  pub due-asks : had .number ≡ 0 → (had .«old_nodes» ≤ 512) × (had .«new_nodes» ≤ 512) × (had .«old_edges» ≤ 1024) × (had .tests ≤ 200) × (asked ≤ k .scratch)
+  pub due-asks : had .number ≡ 0 → (had .«old_nodes» ≤ 512) × (had .«new_nodes» ≤ 512) × (had .«old_edges» ≤ 1024) × (had .tests ≤ 200) × (requestScratch ≤ k .scratch)
   due-asks z = (due-few .few-old-nodes, due-few .few-new-nodes, due-few .few-old-edges, due-few .few-tests, due-room z)
 
   -- A refusal is the answer, whatever follows.
-  due-stops : (f : AllRead → Outcome) → (had .number ≡ 0 → ⊥) → outcome (goesBy write-sheet asked k) f ≡ refusal (had .number) (had .place)
+  due-stops : (f : AllRead → Outcome) → (had .number ≡ 0 → ⊥) → outcome (goesBy k) f ≡ refusal (had .number) (had .place)
   unfolding outcome
   due-stops f z =
-      due-cases asked k
-      (λ q b c e. ap (λ (x : Reading AllRead). outcome x f) e ∙ sym (ap (λ (t : Texts). refusal (t .number) (t .place)) (eh ∙ ap dueTexts e ∙ refused-texts q 0)))
+      due-cases k
+      (λ n b c e. ap (λ (x : Reading AllRead). outcome x f) e ∙ sym (ap (λ (t : Texts). refusal (t .number) (t .place)) (eh ∙ ap dueTexts e ∙ refused-texts n 0)))
       (λ h e room held. absurd (z (ap (λ (t : Texts). t .number) (eh ∙ ap dueTexts e) ∙ accepted-number h)))
 
   -- Else what follows is the answer.
   due-goes : (f : AllRead → Outcome) (P : Outcome → Type 0) → had .number ≡ 0 → 2048 ≤ length (k .old .nodes) → 2048 ≤ length (k .new .nodes)
-      → ((h : AllRead) → asked ≤ k .scratch → Ready (memory (k .old .text) (k .old .nodes) (k .old .links)) (memory (k .new .text) (k .new .nodes) (k .new .links)) (k .text) (k .tests) (k .rows) had (givenBy h) → P (f h))
-      → P (outcome (goesBy write-sheet asked k) f)
+      → ((h : AllRead) → requestScratch ≤ k .scratch → Ready (memory (k .old .text) (k .old .nodes) (k .old .links)) (memory (k .new .text) (k .new .nodes) (k .new .links)) (k .testsText) (k .tests) (k .rows) had (givenBy h) → P (f h))
+      → P (outcome (goesBy k) f)
   unfolding outcome
   due-goes f P z a b go =
-      due-cases asked k
-      (λ q c d e. absurd (let v : ⊥ = omega (arith, z, c, ap (λ (t : Texts). t .number) (eh ∙ ap dueTexts e ∙ refused-texts q 0)) in v))
+      due-cases k
+      (λ n c d e. absurd (let v : ⊥ = omega (arith, z, c, ap (λ (t : Texts). t .number) (eh ∙ ap dueTexts e ∙ refused-texts n 0)) in v))
       (λ h e room held.
-      let r = subst (λ (t : Texts). Ready (memory (k .old .text) (k .old .nodes) (k .old .links)) (memory (k .new .text) (k .new .nodes) (k .new .links)) (k .text) (k .tests) (k .rows) t (givenBy h)) (sym (eh ∙ ap dueTexts e)) (held-ready k h held a b) in
+      let r = subst (λ (t : Texts). Ready (memory (k .old .text) (k .old .nodes) (k .old .links)) (memory (k .new .text) (k .new .nodes) (k .new .links)) (k .testsText) (k .tests) (k .rows) t (givenBy h)) (sym (eh ∙ ap dueTexts e)) (held-ready k h held a b) in
       subst P (sym (ap (λ (x : Reading AllRead). outcome x f) e)) (go h room r))
 
 -- A slice of the same length is as wide.
@@ -261,60 +264,31 @@ module _ (j : Job) (olds : ℕ) (ot on ol : List ℕ) (news : ℕ) (nt nn nl tt 
   wide-new : 2048 ≤ length nn
   wide-new = subst (λ (l : List ℕ). 2048 ≤ length l) (sym en) (unloaded-length 2048 w)
 
-  -- ---- `sheet_in`
+  -- ---- `call_in`
 
-  module _ (had : Texts) (eh : had ≡ dueTexts (goesBy write-sheet 16912 the-job)) where
-    told-stop : (f : AllRead → Outcome) (out : Bytes) → (had .number ≡ 0 → ⊥) → Told (outcome (goesBy write-sheet 16912 the-job) f) (record { number = had .number; place = had .place }) out out
-    told-stop f out z = told-as (due-stops 16912 the-job had eh f z) (refusal-told (had .number) (had .place) out)
+  module _ (q : Asked) (had : Texts) (eh : had ≡ dueTexts (goesBy the-job)) (input : Bytes) where
+    abbrev call-loaded : ℕ → Outcome
+    call-loaded room = lentCall q (loadedJob j olds ot ol news nt nl tt tests rows w) input room
 
-    pub sheet-stop : (out : Bytes) → (had .number ≡ 0 → ⊥) → Told (sheetCall (loadedJob j olds ot ol news nt nl tt tests rows w) (length out)) (record { number = had .number; place = had .place }) out out
-    unfolding sheetCall
-    sheet-stop out z = subst (λ (k : LentJob). Told (sheetCall k (length out)) (record { number = had .number; place = had .place }) out out) is-loaded (told-stop _ out z)
+    pub call-stop : (out : Bytes) → (had .number ≡ 0 → ⊥) → Told (call-loaded (length out)) (record { number = had .number; place = had .place }) out out
+    unfolding lentCall
+    call-stop out z =
+        subst (λ (k : LentJob). Told (lentCall q k input (length out)) (record { number = had .number; place = had .place }) out out) is-loaded
+        (told-as (due-stops the-job had eh _ z) (refusal-told (had .number) (had .place) out))
 
-    pub sheet-goes : (w₁ w′ out out′ : List ℕ) (r : Answer) → had .number ≡ 0 → length w₁ ≡ length w → Done w₁ w′ out out′ (SheetDone (memory ot on ol) (memory nt nn nl) tt tests rows had w₁ out r out′)
-        → Told (sheetCall (loadedJob j olds ot ol news nt nl tt tests rows w) (length out)) r out out′
-    unfolding sheetCall SheetDone
-    sheet-goes w₁ w′ out out′ r z q d =
-        subst (λ (k : LentJob). Told (sheetCall k (length out)) r out out′) is-loaded
-        (due-goes 16912 the-job had eh _ (λ x. Told x r out out′) z wide-old wide-new (λ h room y. d .claim (givenBy h) y (omega arith)))
-
-    -- ---- `record_in`
-
-    pub record-stop : (i : ℕ) (out : Bytes) → (had .number ≡ 0 → ⊥) → Told (recordCall (loadedJob j olds ot ol news nt nl tt tests rows w) i (length out)) (record { number = had .number; place = had .place }) out out
-    unfolding recordCall goesBy ofStage
-    record-stop i out z = subst (λ (k : LentJob). Told (recordCall k i (length out)) (record { number = had .number; place = had .place }) out out) is-loaded (told-stop _ out z)
-
-    pub record-goes : (i : ℕ) (w₁ w′ out out′ : List ℕ) (r : Answer) → had .number ≡ 0 → length w₁ ≡ length w → Done w₁ w′ out out′ (RecordDone (memory ot on ol) (memory nt nn nl) tt tests rows had i w₁ out r out′)
-        → Told (recordCall (loadedJob j olds ot ol news nt nl tt tests rows w) i (length out)) r out out′
-    unfolding recordCall RecordDone goesBy ofStage
-    record-goes i w₁ w′ out out′ r z q d =
-        subst (λ (k : LentJob). Told (recordCall k i (length out)) r out out′) is-loaded
-        (due-goes 16912 the-job had eh _ (λ x. Told x r out out′) z wide-old wide-new (λ h room y. d .claim (givenBy h) y (omega arith)))
-
-    -- ---- `check_in`
-
-    pub check-stop : (sheet : Bytes) → (had .number ≡ 0 → ⊥) → Answered (checkCall (loadedJob j olds ot ol news nt nl tt tests rows w) sheet) (record { number = had .number; place = had .place })
-    unfolding checkCall goesBy ofStage
-    check-stop sheet z =
-        subst (λ (k : LentJob). Answered (checkCall k sheet) (record { number = had .number; place = had .place })) is-loaded (told-stop _ [] z .answered)
-
-    pub check-goes : (sheet : Bytes) (r : Answer) → had .number ≡ 0
-        → Checks (memory ot on ol) (memory nt nn nl) (had .«old_nodes») (had .«new_nodes») (had .«old_edges») tt tests rows (had .tests) sheet r
-        → Answered (checkCall (loadedJob j olds ot ol news nt nl tt tests rows w) sheet) r
-    unfolding checkCall Checks goesBy ofStage
-    check-goes sheet r z d =
-        subst (λ (k : LentJob). Answered (checkCall k sheet) r) is-loaded
-        (due-goes 16912 the-job had eh _ (λ x. Answered x r) z wide-old wide-new
-        (λ h room y. subst (λ (g : Given). Answered (checking g sheet) r) (sym (y .given-is))
-        (d (y .o) (y .p) (y .l) (y .old-in) (y .new-in) (y .tests-read) (y .tests-in) (y .old-nodes-n) (y .new-nodes-n) (y .old-edges-n))))
+    pub call-goes : (w₁ w′ out out′ : List ℕ) (r : Answer) → had .number ≡ 0 → Done w₁ w′ out out′ (Served q (memory ot on ol) (memory nt nn nl) tt tests rows had input out r out′) → Told (call-loaded (length out)) r out out′
+    unfolding lentCall Served
+    call-goes w₁ w′ out out′ r z d =
+        subst (λ (k : LentJob). Told (lentCall q k input (length out)) r out out′) is-loaded
+        (due-goes the-job had eh _ (λ x. Told x r out out′) z wide-old wide-new (λ h room y. d .claim (givenBy h) y))
 
 -- ---- `label_at`, `label_of`
 
-pub label-none : (count n : ℕ) (nodes : List ℕ) → count ≤ n → record { number = 6; place = 0; start = 0; len = 0 } ≡ labelOfNode count nodes n
+pub label-none : (count n : ℕ) (nodes : List ℕ) → count ≤ n → record { start = 0; len = 0 } ≡ labelOfNode count nodes n
 unfolding labelOfNode choose
 label-none count n nodes h = simp (le-ltb n count h)
 
-pub label-found : (count n : ℕ) (nodes : List ℕ) (a b : ℕ) → n < count → a ≡ getD nodes (4 * n + 1) 0 → b ≡ getD nodes (4 * n + 2) 0 → record { number = 0; place = 0; start = a; len = b } ≡ labelOfNode count nodes n
+pub label-found : (count n : ℕ) (nodes : List ℕ) (a b : ℕ) → n < count → a ≡ getD nodes (4 * n + 1) 0 → b ≡ getD nodes (4 * n + 2) 0 → record { start = a; len = b } ≡ labelOfNode count nodes n
 unfolding labelOfNode choose
 label-found count n nodes a b h ea eb = rw (ea, eb) (simp (lt-ltb n count h))
 
@@ -327,122 +301,127 @@ module _ (side olds : ℕ) (on : List ℕ) (news : ℕ) (nn : List ℕ) (n : ℕ
   unfolding labelBySide choose
   side-new r z e q = q ∙ simp (ne-eqb _ _ z, eq-eqb _ _ e)
 
-  pub side-none : (side ≡ 0 → ⊥) → (side ≡ 1 → ⊥) → record { number = 6; place = 0; start = 0; len = 0 } ≡ labelBySide side olds on news nn n
+  pub side-none : (side ≡ 0 → ⊥) → (side ≡ 1 → ⊥) → record { start = 0; len = 0 } ≡ labelBySide side olds on news nn n
   unfolding labelBySide choose
   side-none z e = simp (ne-eqb _ _ z, ne-eqb _ _ e)
 
 -- ---- `label_in`
 
+abbrev spanOf : Label → Span
+spanOf r = record { start = r .start; len = r .len }
+
 -- The label of a node of a version in memory.
 module _ (t nodes links : List ℕ) (s : Listing) (h : InMemory (memory t nodes links) s) (n : ℕ) where
-  abbrev version : Version
-  version = record { text = t; listing = s }
-
   abbrev found : Label
-  found = record { number = 0; place = 0; start = getD nodes (4 * n + 1) 0; len = getD nodes (4 * n + 2) 0 }
+  found = record { start = getD nodes (4 * n + 1) 0; len = getD nodes (4 * n + 2) 0 }
 
-  abbrev Fits : Bool → Type 0
-  Fits u =
-      (choose u found noLabel .number ≡ numberOf (choose u success (refusal 6 0))) × (choose u found noLabel .place ≡ placeOf (choose u success (refusal 6 0)))
-      × (take (choose u found noLabel .len) (drop (choose u found noLabel .start) t) ≡ choose u (labelPart version n) [])
-
-  label-fits : (u : Bool) → ltb n (nodeCount (s .program)) ≡ u → Fits u
-  unfolding choose labelPart
-  label-fits true e =
+  span-fits : (u : Bool) → ltb n (nodeCount (s .program)) ≡ u → spanOf (choose u found noLabel) ≡ choose u (labelSpan (record { text = t; listing = s }) n) nowhere
+  unfolding choose
+  span-fits true e =
       let b : n < nodeCount (s .program) = ltb-true _ _ e in
-      (refl, refl, ap₂ (λ (x y : ℕ). take x (drop y t)) (h .nodes n b 2 (omega arith)) (h .nodes n b 1 (omega arith)))
-  label-fits false e = (refl, refl, refl)
+      ap₂ (λ (x y : ℕ). record { start = y; len = x }) (h .nodes n b 2 (omega arith)) (h .nodes n b 1 (omega arith))
+  span-fits false e = refl
 
-  pub version-label : (labelOfNode (nodeCount (s .program)) nodes n .number ≡ numberOf (choose (isNodeOfVersion version n) success (refusal 6 0)))
-      × (labelOfNode (nodeCount (s .program)) nodes n .place ≡ placeOf (choose (isNodeOfVersion version n) success (refusal 6 0)))
-      × (take (labelOfNode (nodeCount (s .program)) nodes n .len) (drop (labelOfNode (nodeCount (s .program)) nodes n .start) t) ≡ choose (isNodeOfVersion version n) (labelPart version n) [])
-  unfolding labelOfNode isNodeOfVersion
-  version-label = label-fits (ltb n (nodeCount (s .program))) refl
+  version-span : spanOf (labelOfNode (nodeCount (s .program)) nodes n) ≡ choose (hasNode (s .program) n) (labelSpan (record { text = t; listing = s }) n) nowhere
+  unfolding labelOfNode hasNode
+  version-span = span-fits (ltb n (nodeCount (s .program))) refl
 
 module _ (t nodes links t′ nodes′ links′ : List ℕ) (s s′ : Listing) (h : InMemory (memory t nodes links) s) (h′ : InMemory (memory t′ nodes′ links′) s′) (n : ℕ) where
-  abbrev label-by : ℕ → Label
-  label-by side = labelBySide side (nodeCount (s .program)) nodes (nodeCount (s′ .program)) nodes′ n
-
-  abbrev shows-as : ℕ → Type 0
-  shows-as side =
-      (label-by side .number ≡ numberOf (labelAnswer (record { text = t; listing = s }) (record { text = t′; listing = s′ }) side n))
-      × (label-by side .place ≡ placeOf (labelAnswer (record { text = t; listing = s }) (record { text = t′; listing = s′ }) side n))
-      × (partShown t t′ side (label-by side .start) (label-by side .len) ≡ labelShown (record { text = t; listing = s }) (record { text = t′; listing = s′ }) side n)
-
-  shown-side : (side : ℕ) → shows-as side
-  unfolding labelBySide labelAnswer labelShown bySide partShown choose
-  shown-side zero = version-label t nodes links s h n
-  shown-side (suc zero) = version-label t′ nodes′ links′ s′ h′ n
-  shown-side (suc (suc m)) =
+  span-side : (side : ℕ) → spanOf (labelBySide side (nodeCount (s .program)) nodes (nodeCount (s′ .program)) nodes′ n) ≡ spanShown (record { text = t; listing = s }) (record { text = t′; listing = s′ }) side n
+  unfolding labelBySide spanShown bySide choose
+  span-side zero = version-span t nodes links s h n
+  span-side (suc zero) = version-span t′ nodes′ links′ s′ h′ n
+  span-side (suc (suc m)) =
       let a : eqb (suc (suc m)) 0 ≡ false = ne-eqb (suc (suc m)) 0 (λ e. let z : ⊥ = omega arith in z) in
       let b : eqb (suc (suc m)) 1 ≡ false = ne-eqb (suc (suc m)) 1 (λ e. let z : ⊥ = omega arith in z) in
-      (simp (a, b), simp (a, b), simp (a, b))
+      simp (a, b)
 
-module _ (j : Job) (olds : ℕ) (ot on ol : List ℕ) (news : ℕ) (nt nn nl tt tests rows w : List ℕ) (eo : on ≡ unloaded 0 w) (en : nn ≡ unloaded 2048 w) (had : Texts)
-    (eh : had ≡ dueTexts (goesBy write-sheet 8128 (the-job j olds ot on ol news nt nn nl tt tests rows w eo en))) (side n : ℕ) where
+module _ (j : Job) (olds : ℕ) (ot on ol : List ℕ) (news : ℕ) (nt nn nl tt tests rows w : List ℕ) (eo : on ≡ unloaded 0 w) (en : nn ≡ unloaded 2048 w) (side n : ℕ) (had : Texts)
+    (eh : had ≡ dueTexts (goesBy (the-job j olds ot on ol news nt nn nl tt tests rows w eo en))) where
   abbrev label-job : LentJob
   label-job = the-job j olds ot on ol news nt nn nl tt tests rows w eo en
 
-  part-none : partShown ot nt side 0 0 ≡ []
-  unfolding partShown choose
-  part-none = same-or side 0 (λ e. simp (eq-eqb _ _ e)) (λ z. same-or side 1 (λ e. simp (ne-eqb _ _ z, eq-eqb _ _ e)) (λ e. simp (ne-eqb _ _ z, ne-eqb _ _ e)))
+  -- The same, of the job with its scratch loaded.
+  span-loaded : (r : Label) → spanOf r ≡ spanBy (goesBy label-job) label-job side n → SpanIs (labelSpanCall (loadedJob j olds ot ol news nt nl tt tests rows w) side n) r
+  unfolding labelSpanCall
+  span-loaded r e =
+      let z = e ∙ ap (λ (k : LentJob). spanBy (goesBy k) k side n) (is-loaded j olds ot on ol news nt nn nl tt tests rows w eo en) in
+      record { start-is = ap (λ (x : Span). x .start) z; len-is = ap (λ (x : Span). x .len) z }
 
-  label-refused : (q : ℕ) → goesBy write-sheet 8128 label-job ≡ refused q 0 → Labelled label-job side n (record { number = q; place = 0; start = 0; len = 0 })
-  unfolding labelCall labelPartCall goesBy ofStage outcome shownBy
-  label-refused q e =
-      record {
-        answered = answered-as (ap (λ (x : Reading AllRead). outcome x (λ h. labelAnswer (versionOf (label-job .old) (h .old)) (versionOf (label-job .new) (h .new)) side n)) e) (refusal-told q 0 [] .answered);
-        part-is = part-none ∙ sym (ap (λ (x : Reading AllRead). shownBy x label-job side n) e);
-      }
-
-  pub label-stop : (had .number ≡ 0 → ⊥) → Labelled (loadedJob j olds ot ol news nt nl tt tests rows w) side n (record { number = had .number; place = had .place; start = 0; len = 0 })
+  pub label-stop : (had .number ≡ 0 → ⊥) → SpanIs (labelSpanCall (loadedJob j olds ot ol news nt nl tt tests rows w) side n) (record { start = 0; len = 0 })
+  unfolding spanBy
   label-stop z =
-      subst (λ (k : LentJob). Labelled k side n (record { number = had .number; place = had .place; start = 0; len = 0 })) (is-loaded j olds ot on ol news nt nn nl tt tests rows w eo en)
-      (due-cases 8128 label-job
-      (λ q b c e. subst (λ (t : Texts). Labelled label-job side n (record { number = t .number; place = t .place; start = 0; len = 0 })) (sym (eh ∙ ap dueTexts e ∙ refused-texts q 0)) (label-refused q e))
+      span-loaded _ (due-cases label-job
+      (λ m b c e. sym (ap (λ (x : Reading AllRead). spanBy x label-job side n) e))
       (λ h e room held. absurd (z (ap (λ (t : Texts). t .number) (eh ∙ ap dueTexts e) ∙ accepted-number h))))
-
-  label-accepted : (h : AllRead) → goesBy write-sheet 8128 label-job ≡ accepted h → holding label-job ≡ some h
-      → Labelled label-job side n (labelBySide side (nodeCount (h .old .program)) on (nodeCount (h .new .program)) nn n)
-  unfolding labelCall labelPartCall goesBy ofStage outcome shownBy
-  label-accepted h e held =
-      let p = parts label-job h held in
-      let y = shown-side ot on ol nt nn nl (h .old) (h .new) (version-memory (label-job .old) (h .old) (p .0) (wide-old j olds ot on ol news nt nn nl tt tests rows w eo en))
-      (version-memory (label-job .new) (h .new) (p .1) (wide-new j olds ot on ol news nt nn nl tt tests rows w eo en)) n side in
-      record {
-        answered = answered-as (ap (λ (x : Reading AllRead). outcome x (λ g. labelAnswer (versionOf (label-job .old) (g .old)) (versionOf (label-job .new) (g .new)) side n)) e) (record { number-is = y .0; place-is = y .1 });
-        part-is = y .2 ∙ sym (ap (λ (x : Reading AllRead). shownBy x label-job side n) e);
-      }
 
   counts-of : (h : AllRead) → (dueTexts (accepted h) .«old_nodes» ≡ nodeCount (h .old .program)) × (dueTexts (accepted h) .«new_nodes» ≡ nodeCount (h .new .program))
   unfolding dueTexts
   counts-of h = (refl, refl)
 
-  pub label-goes : (r : Label) → had .number ≡ 0 → r ≡ labelBySide side (had .«old_nodes») on (had .«new_nodes») nn n → Labelled (loadedJob j olds ot ol news nt nl tt tests rows w) side n r
+  pub label-goes : (r : Label) → had .number ≡ 0 → r ≡ labelBySide side (had .«old_nodes») on (had .«new_nodes») nn n → SpanIs (labelSpanCall (loadedJob j olds ot ol news nt nl tt tests rows w) side n) r
+  unfolding spanBy
   label-goes r z er =
-      subst (λ (k : LentJob). Labelled k side n r) (is-loaded j olds ot on ol news nt nn nl tt tests rows w eo en)
-      (due-cases 8128 label-job
-      (λ q c d e. absurd (let v : ⊥ = omega (arith, z, c, ap (λ (t : Texts). t .number) (eh ∙ ap dueTexts e ∙ refused-texts q 0)) in v))
+      span-loaded r (due-cases label-job
+      (λ m c d e. absurd (let v : ⊥ = omega (arith, z, c, ap (λ (t : Texts). t .number) (eh ∙ ap dueTexts e ∙ refused-texts m 0)) in v))
       (λ h e room held.
+      let p = parts label-job h held in
       let a : had .«old_nodes» ≡ nodeCount (h .old .program) = ap (λ (t : Texts). t .«old_nodes») (eh ∙ ap dueTexts e) ∙ counts-of h .0 in
       let b : had .«new_nodes» ≡ nodeCount (h .new .program) = ap (λ (t : Texts). t .«new_nodes») (eh ∙ ap dueTexts e) ∙ counts-of h .1 in
-      subst (λ (x : Label). Labelled label-job side n x) (sym (er ∙ ap₂ (λ (x y : ℕ). labelBySide side x on y nn n) a b)) (label-accepted h e held)))
+      ap spanOf (er ∙ ap₂ (λ (x y : ℕ). labelBySide side x on y nn n) a b)
+      ∙ span-side ot on ol nt nn nl (h .old) (h .new) (version-memory (label-job .old) (h .old) (p .0) (wide-old j olds ot on ol news nt nn nl tt tests rows w eo en))
+      (version-memory (label-job .new) (h .new) (p .1) (wide-new j olds ot on ol news nt nn nl tt tests rows w eo en)) n side
+      ∙ sym (ap (λ (x : Reading AllRead). spanBy x label-job side n) e)))
+
+-- ---- `shown_on`: the part that stands there
+
+module _ (k : LentJob) (side n : ℕ) where
+  part-nowhere : partShown (k .old .text) (k .new .text) side 0 0 ≡ []
+  unfolding partShown choose
+  part-nowhere = same-or side 0 (λ e. simp (eq-eqb _ _ e)) (λ z. same-or side 1 (λ e. simp (ne-eqb _ _ z, eq-eqb _ _ e)) (λ e. simp (ne-eqb _ _ z, ne-eqb _ _ e)))
+
+  abbrev partAt : Span → Bytes
+  partAt s = partShown (k .old .text) (k .new .text) side (s .start) (s .len)
+
+  chosen : (v : Version) (u : Bool) → take (choose u (labelSpan v n) nowhere .len) (drop (choose u (labelSpan v n) nowhere .start) (v .text)) ≡ choose u (labelPart v n) []
+  unfolding choose labelPart
+  chosen v true = refl
+  chosen v false = refl
+
+  part-old : side ≡ 0 → (s : Span) → partAt s ≡ take (s .len) (drop (s .start) (k .old .text))
+  unfolding partShown choose
+  part-old e s = simp (eq-eqb side 0 e)
+
+  part-new : side ≡ 1 → (s : Span) → partAt s ≡ take (s .len) (drop (s .start) (k .new .text))
+  unfolding partShown choose
+  part-new e s = simp (ne-eqb side 0 (λ z. let y : ⊥ = omega arith in y), eq-eqb side 1 e)
+
+  part-shown : (o p : Listing) (m : ℕ) → side ≡ m → partAt (spanShown (versionOf (k .old) o) (versionOf (k .new) p) m n) ≡ labelShown (versionOf (k .old) o) (versionOf (k .new) p) m n
+  unfolding spanShown labelShown bySide
+  part-shown o p zero e = part-old e (choose (hasNode (o .program) n) (labelSpan (versionOf (k .old) o) n) nowhere) ∙ chosen (versionOf (k .old) o) (hasNode (o .program) n)
+  part-shown o p (suc zero) e = part-new e (choose (hasNode (p .program) n) (labelSpan (versionOf (k .new) p) n) nowhere) ∙ chosen (versionOf (k .new) p) (hasNode (p .program) n)
+  part-shown o p (suc (suc m)) e = part-nowhere
+
+  part-by : (x : Reading AllRead) → partAt (spanBy x k side n) ≡ shownBy x k side n
+  unfolding spanBy shownBy
+  part-by (refused q p) = part-nowhere
+  part-by (accepted h) = part-shown (h .old) (h .new) side refl
+
+  pub part-found : (r : Label) (part : Bytes) → SpanIs (labelSpanCall k side n) r → part ≡ partShown (k .old .text) (k .new .text) side (r .start) (r .len) → part ≡ labelPartCall k side n
+  unfolding labelSpanCall labelPartCall
+  part-found r part e ep = ep ∙ ap₂ (λ (a b : ℕ). partShown (k .old .text) (k .new .text) side a b) (e .start-is) (e .len-is) ∙ part-by (goesBy k)
 
 -- ---- the outer functions: the scratch is zero
 
 pub on-zero : (n m : ℕ) (w₂ : List ℕ) → m ≡ n → w₂ ≡ replicate m 0 → w₂ ≡ replicate n 0
 on-zero n m w₂ e q = q ∙ ap (λ (k : ℕ). replicate k 0) e
 
-pub on-called : (x : Outcome) (a : Answer) (w w₁ w₂ : List ℕ) → Answered x a → length w₁ ≡ length w → w₂ ≡ replicate (length w₁) 0 → CalledOn x a w w₂
-on-called x a w w₁ w₂ t e q = record { answered = t; scratch-is = on-zero (length w) (length w₁) w₂ e q }
+pub on-called : (q p : Asked) (k : LentJob) (input : Bytes) (a : Answer) (w : List ℕ) (m : ℕ) (w₂ out out′ : List ℕ) → q ≡ p → Told (lentCall q k input (length out)) a out out′ → m ≡ length w → w₂ ≡ replicate m 0
+    → CalledOn (lentCall p k input (length out)) a w w₂ out out′
+on-called q p k input a w m w₂ out out′ eq t e z =
+    record { told = subst (λ (x : Asked). Told (lentCall x k input (length out)) a out out′) eq t; scratch-is = on-zero (length w) m w₂ e z }
 
-pub on-shown : (k : LentJob) (side n : ℕ) (a : Label) (r : List ℕ) → Labelled k side n a → r ≡ partShown (k .old .text) (k .new .text) side (a .start) (a .len) → r ≡ labelPartCall k side n
-on-shown k side n a r t e = e ∙ t .part-is
-
-pub ruleset labels = (label-none, label-found, side-old, side-new, side-none, label-stop, label-goes, on-shown, on-called)
-
-pub on-wrote : (x : Outcome) (a : Answer) (w w₁ w₂ out out′ : List ℕ) → Told x a out out′ → length w₁ ≡ length w → w₂ ≡ replicate (length w₁) 0 → WroteOn x a w w₂ out out′
-on-wrote x a w w₁ w₂ out out′ t e q = record { told = t; scratch-is = on-zero (length w) (length w₁) w₂ e q }
+pub ruleset labels = (label-none, label-found, side-old, side-new, side-none, label-stop, label-goes)
 
 -- ---- the calls: what is lent is what the scratch was loaded with
 
@@ -500,73 +479,59 @@ module _ (j : Job) (ot : Bytes) (on : List Node) (ol nt : List ℕ) (nn : List N
       ap₂ (λ (x y : Option Listing). after x none (λ o. after y none (λ p. after (suiteLeft (edgeCount (o .program)) tt tests rows) none (λ l. choose (sameJob j (jobTests o p l)) (some (record { old = o; new = p; tests = l })) none))))
       (old-held on nn w w₁ loaded h ot ol) (new-held on nn w w₁ loaded h nt nl)
 
-  goes-same : (c : Call) (asked : ℕ) → 4096 ≤ asked → goesBy c asked job-loaded ≡ goesBy c asked job-lent
+  goes-same : goesBy job-loaded ≡ goesBy job-lent
   unfolding goesBy choose
-  goes-same c asked h =
-      below-or (length w) asked
-      (λ b. let b₁ : length w₁ < asked = omega (arith, long-same) in simp (lt-leb asked (length w) b, lt-leb asked (length w₁) b₁))
-      (λ b. ap₂ (λ (n : ℕ) (x : Option AllRead). choose (ofStage c (j .stage)) (choose (leb asked n) (after x (refused 14 0) (λ g. accepted g)) (refused 14 0)) (refused 13 0)) long-same (held-same (omega arith)))
+  goes-same =
+      below-or (length w) requestScratch
+      (λ b. let b₁ : length w₁ < requestScratch = omega (arith, long-same) in simp (lt-leb requestScratch (length w) b, lt-leb requestScratch (length w₁) b₁))
+      (λ b. ap₂ (λ (n : ℕ) (x : Option AllRead). choose (ofStage make-request (j .stage)) (choose (leb requestScratch n) (after x (refused 14 0) (λ g. accepted g)) (refused 14 0)) (refused 13 0)) long-same (held-same (omega (arith, b))))
 
-  sheet-same : (room : ℕ) → sheetCall job-loaded room ≡ sheetCall job-lent room
-  unfolding sheetCall
-  sheet-same room = ap (λ (x : Reading AllRead). outcome x (λ h. writing (givenBy h) room (sheetBytes (givenBy h)))) (goes-same write-sheet 16912 (omega arith))
+  kept : (w₂ : List ℕ) → w₂ ≡ replicate (length w₁) 0 → Kept j j w w₂
+  kept w₂ e = record { job-is = refl; scratch-is = e ∙ ap (λ (k : ℕ). replicate k 0) long-same }
 
-  wrote-is : (x y : Outcome) (r : Answer) (w₂ out out′ : List ℕ) → x ≡ y → WroteOn x r w₁ w₂ out out′ → Wrote y r j j w w₂ out out′
-  wrote-is x y r w₂ out out′ e h =
-      subst (λ (z : Outcome). Wrote z r j j w w₂ out out′) e
-      (record {
-        told = h .told;
-        job-is = refl;
-        scratch-is = h .scratch-is ∙ ap (λ (n : ℕ). replicate n 0) long-same;
-      })
+  call-same : (q : Asked) (input : Bytes) (room : ℕ) → lentCall q job-loaded input room ≡ lentCall q job-lent input room
+  unfolding lentCall
+  call-same q input room = ap (λ (x : Reading AllRead). outcome x (λ h. serving q (givenBy h) input room)) goes-same
 
-  -- `write_sheet`
-  pub sheet-is : (r : Answer) (w₂ out out′ : List ℕ) → WroteOn (sheetCall job-loaded (length out)) r w₁ w₂ out out′ → Wrote (sheetCall job-lent (length out)) r j j w w₂ out out′
-  sheet-is r w₂ out out′ h = wrote-is _ _ r w₂ out out′ (sheet-same (length out)) h
+  -- `ry_job_call`
+  pub call-is : (q : Asked) (input : Bytes) (a : Answer) (r : ℕ) (w₂ out out′ : List ℕ) → CalledOn (lentCall q job-loaded input (length out)) a w₁ w₂ out out′ → r ≡ packing (a .number) (a .place)
+      → Called (lentCall q job-lent input (length out)) r j j w w₂ out out′
+  call-is q input a r w₂ out out′ h er =
+      let e = call-same q input (length out) in
+      let t : Told (lentCall q job-lent input (length out)) a out out′ = subst (λ (x : Outcome). Told x a out out′) e (h .told) in
+      record { answer-is = er ∙ packs _ a (lent-plain q job-lent input (length out)) (t .answered); output-is = t .output-is; kept = kept w₂ (h .scratch-is) }
 
-  record-same : (i room : ℕ) → recordCall job-loaded i room ≡ recordCall job-lent i room
-  unfolding recordCall
-  record-same i room =
-      ap (λ (x : Reading AllRead). outcome x (λ h. recording (givenBy h) i room)) (goes-same write-record 16912 (omega arith))
+  span-same : (side n : ℕ) → labelSpanCall job-loaded side n ≡ labelSpanCall job-lent side n
+  unfolding labelSpanCall spanBy
+  span-same side n = go (goesBy job-loaded) ∙ ap (λ (x : Reading AllRead). spanBy x job-lent side n) goes-same
+    where
+      go : (x : Reading AllRead) → spanBy x job-loaded side n ≡ spanBy x job-lent side n
+      go (refused q p) = refl
+      go (accepted h) = refl
 
-  -- `write_record`
-  pub record-is : (i : ℕ) (r : Answer) (w₂ out out′ : List ℕ) → WroteOn (recordCall job-loaded i (length out)) r w₁ w₂ out out′ → Wrote (recordCall job-lent i (length out)) r j j w w₂ out out′
-  record-is i r w₂ out out′ h = wrote-is _ _ r w₂ out out′ (record-same i (length out)) h
-
-  called-is : (x y : Outcome) (r : Answer) (w₂ : List ℕ) → x ≡ y → CalledOn x r w₁ w₂ → Called y r j j w w₂
-  called-is x y r w₂ e h =
-      subst (λ (z : Outcome). Called z r j j w w₂) e
-      (record { answered = h .answered; job-is = refl; scratch-is = h .scratch-is ∙ ap (λ (n : ℕ). replicate n 0) long-same })
-
-  check-same : (sheet : Bytes) → checkCall job-loaded sheet ≡ checkCall job-lent sheet
-  unfolding checkCall
-  check-same sheet =
-      ap (λ (x : Reading AllRead). outcome x (λ h. checking (givenBy h) sheet)) (goes-same check-sheet 16912 (omega arith))
-
-  -- `check_sheet`
-  pub check-is : (sheet : Bytes) (r : Answer) (w₂ : List ℕ) → CalledOn (checkCall job-loaded sheet) r w₁ w₂ → Called (checkCall job-lent sheet) r j j w w₂
-  check-is sheet r w₂ h = called-is _ _ r w₂ (check-same sheet) h
-
-  label-same : (side n : ℕ) → labelCall job-loaded side n ≡ labelCall job-lent side n
-  unfolding labelCall
-  label-same side n =
-      ap (λ (x : Reading AllRead). outcome x (λ h. labelAnswer (versionOf (lent ot on ol) (h .old)) (versionOf (lent nt nn nl) (h .new)) side n)) (goes-same show-label 8128 (omega arith))
-
-  -- `label_answer`
-  pub label-is : (side n : ℕ) (r : Answer) (w₂ : List ℕ) → CalledOn (labelCall job-loaded side n) r w₁ w₂ → Called (labelCall job-lent side n) r j j w w₂
-  label-is side n r w₂ h = called-is _ _ r w₂ (label-same side n) h
-
-  shown-by : (side n : ℕ) (x : Reading AllRead) → shownBy x job-loaded side n ≡ shownBy x job-lent side n
-  unfolding shownBy
-  shown-by side n (refused q p) = refl
-  shown-by side n (accepted h) = refl
+  -- `ry_job_label`
+  pub label-is : (side n : ℕ) (a : Label) (r : ℕ) (w₂ : List ℕ) → SpanIs (labelSpanCall job-loaded side n) a → w₂ ≡ replicate (length w₁) 0 → r ≡ packing (a .start) (a .len)
+      → Found (labelSpanCall job-lent side n) r j j w w₂
+  unfolding packedSpan
+  label-is side n a r w₂ h ew er =
+      let z = labels-few job-lent side n in
+      let e = span-same side n in
+      let es : a .start ≡ labelSpanCall job-lent side n .start = h .start-is ∙ ap (λ (x : Span). x .start) e in
+      let el : a .len ≡ labelSpanCall job-lent side n .len = h .len-is ∙ ap (λ (x : Span). x .len) e in
+      record { span-is = er ∙ packing-fits (a .start) (a .len) (omega (arith, z .0, es)) (omega (arith, z .1, el)) ∙ ap₂ (λ (x y : ℕ). x * 4294967296 + y) es el; kept = kept w₂ ew }
 
   part-same : (side n : ℕ) → labelPartCall job-loaded side n ≡ labelPartCall job-lent side n
-  unfolding labelPartCall
-  part-same side n = shown-by side n (goesBy show-label 8128 job-loaded) ∙ ap (λ (x : Reading AllRead). shownBy x job-lent side n) (goes-same show-label 8128 (omega arith))
+  unfolding labelPartCall shownBy
+  part-same side n = go (goesBy job-loaded) ∙ ap (λ (x : Reading AllRead). shownBy x job-lent side n) goes-same
+    where
+      go : (x : Reading AllRead) → shownBy x job-loaded side n ≡ shownBy x job-lent side n
+      go (refused q p) = refl
+      go (accepted h) = refl
 
   -- `label_shown`
   pub shown-is : (side n : ℕ) (r w₂ : List ℕ) → r ≡ labelPartCall job-loaded side n → w₂ ≡ replicate (length w₁) 0 → Shown (labelPartCall job-lent side n) r j j w w₂
-  shown-is side n r w₂ e q = record { part-is = e ∙ part-same side n; job-is = refl; scratch-is = q ∙ ap (λ (k : ℕ). replicate k 0) long-same }
+  shown-is side n r w₂ e q = record { part-is = e ∙ part-same side n; kept = kept w₂ q }
 
-pub ruleset sheets = (unloads, due-few, sheet-stop, sheet-goes, record-stop, record-goes, on-wrote, check-stop, check-goes, on-called)
+pub ruleset calls = (unloads, due-few, call-stop, call-goes, on-called, part-found)
+
+pub ruleset all = (dues, labels, calls)

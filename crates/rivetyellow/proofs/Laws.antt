@@ -7,20 +7,21 @@ use lib.ListN.{length}
 use Rattle.rules.specs.Text.{Answer as Read, Bytes, accepted, refused}
 use Rattle.rules.specs.ProgramFile.{Listing, readListing, readProgram}
 use Rattle.rules.specs.Graph.{Program}
-use Rattle.rules.specs.Sheet.{readSheet}
-use Rattle.rules.specs.Job.{Given, Outcome, checkAnswer, judged, outcome, outputAfter, packed, readJob, readNewAnswer, readOldAnswer, readTestsAnswer, recordAnswer, refusal, sheetAnswer, success}
+use Rattle.rules.specs.Job.{Given, Outcome, Request as Asked, answering, checkAnswer, lastNumber, outcome, outputAfter, packed, readJob, readNewAnswer, readOldAnswer, readTestsAnswer, recordAnswer, refusal, serving, sheetAnswer, success}
 use Rattle.rules.specs.Promises.{Plain}
 use Rattle.rules.specs.Proofs.Answers.{plain-answers}
 use Rattle.answer.specs.declared.Answer.{Answer}
 use Rattle.answer.specs.Outcomes.{Answered, Told, answered-as, refusal-told, told-as}
 use Rattle.reader.specs.declared.Count.{Count}
 use Rattle.reader.specs.Result.{ReadInto, Told as ReaderTold, linksOf}
-use Rattle.versions.specs.Memory.{InMemory, memory}
+use Rattle.versions.specs.Memory.{memory}
 use Rattle.intake.specs.declared.Texts.{Texts}
 use Rattle.intake.specs.Ready.{JobRead, JobTold, Ready}
 use Rattle.intake.proofs.Laws.{program-of, program-refused}
-use Rattle.checker.specs.Checking.{Checks}
-use Rattle.work.specs.Work.{Done, RecordDone, SheetDone}
+use Rattle.work.specs.Work.{Done}
+use Rattle.requests.specs.declared.Request.the-variants.{Check, Record, Sheet}
+use Rattle.requests.specs.Requests.{Served, asked}
+use Rattle.requests.proofs.Laws.{asks-most}
 
 -- ---- packing
 
@@ -28,7 +29,7 @@ packs : (x : Outcome) (a : Answer) (r : ℕ) → Answered x a → r ≡ a .numbe
 unfolding packed
 packs x a r n e = e ∙ ap₂ (λ (k q : ℕ). k * 4294967296 + q) (n .number-is) (n .place-is)
 
-fits : (x : Outcome) (a : Answer) → Plain x → Answered x a → (a .number ≤ 16) × (a .place < 4294967296)
+fits : (x : Outcome) (a : Answer) → Plain x → Answered x a → (a .number ≤ lastNumber) × (a .place < 4294967296)
 fits x a p n = (omega (arith, n .number-is, p .few-numbers), omega (arith, n .place-is, p .fits-beside))
 
 -- A number and a place are those of an outcome.
@@ -77,19 +78,19 @@ new-numbered old new o r w w′ h z n =
     answered-as (outcome-goes (readProgram old) (λ q. outcome (readProgram new) (λ q. success)) (p .0) (p .1))
     (told-program new (readListing new) r w′ refl (n .told) (λ q. success) (λ p e d q. succeeded (r .number) (r .place) e d))
 
-pub old-fits : (old : Bytes) (r : Count) (w : List ℕ) → ReadInto old r w → (r .number ≤ 16) × (r .place < 4294967296)
+pub old-fits : (old : Bytes) (r : Count) (w : List ℕ) → ReadInto old r w → (r .number ≤ lastNumber) × (r .place < 4294967296)
 old-fits old r w h = fits (readOldAnswer old) _ (plain-answers old [] [] .of-old) (old-numbered old r w h)
 
 pub old-packs : (old : Bytes) (r : Count) (w : List ℕ) (x : ℕ) → ReadInto old r w → x ≡ r .number * 4294967296 + r .place → x ≡ packed (readOldAnswer old)
 old-packs old r w x h e = packs (readOldAnswer old) _ x (old-numbered old r w h) e
 
-pub new-stop-fits : (old new : Bytes) (r : Count) (w : List ℕ) → ReadInto old r w → (r .number ≡ 0 → ⊥) → (r .number ≤ 16) × (r .place < 4294967296)
+pub new-stop-fits : (old new : Bytes) (r : Count) (w : List ℕ) → ReadInto old r w → (r .number ≡ 0 → ⊥) → (r .number ≤ lastNumber) × (r .place < 4294967296)
 new-stop-fits old new r w h z = fits (readNewAnswer old new) _ (plain-answers old new [] .of-new) (new-stopped old new r w h z)
 
 pub new-stop-packs : (old new : Bytes) (r : Count) (w : List ℕ) (x : ℕ) → ReadInto old r w → (r .number ≡ 0 → ⊥) → x ≡ r .number * 4294967296 + r .place → x ≡ packed (readNewAnswer old new)
 new-stop-packs old new r w x h z e = packs (readNewAnswer old new) _ x (new-stopped old new r w h z) e
 
-pub new-fits : (old new : Bytes) (o r : Count) (w w′ : List ℕ) → ReadInto old o w → o .number ≡ 0 → ReadInto new r w′ → (r .number ≤ 16) × (r .place < 4294967296)
+pub new-fits : (old new : Bytes) (o r : Count) (w w′ : List ℕ) → ReadInto old o w → o .number ≡ 0 → ReadInto new r w′ → (r .number ≤ lastNumber) × (r .place < 4294967296)
 new-fits old new o r w w′ h z n = fits (readNewAnswer old new) _ (plain-answers old new [] .of-new) (new-numbered old new o r w w′ h z n)
 
 pub new-packs : (old new : Bytes) (o r : Count) (w w′ : List ℕ) (x : ℕ) → ReadInto old o w → o .number ≡ 0 → ReadInto new r w′ → x ≡ r .number * 4294967296 + r .place → x ≡ packed (readNewAnswer old new)
@@ -116,7 +117,7 @@ module _ (old ow new nw tt tests rows : List ℕ) (had : Texts) (j : JobRead old
   unfolding readTestsAnswer
   tests-numbered = tests-at (readJob old new tt) (j .told)
 
-  pub tests-fits : (had .number ≤ 16) × (had .place < 4294967296)
+  pub tests-fits : (had .number ≤ lastNumber) × (had .place < 4294967296)
   tests-fits = fits (readTestsAnswer old new tt) _ (plain-answers old new tt .of-tests) tests-numbered
 
   pub tests-packs : (x : ℕ) → x ≡ had .number * 4294967296 + had .place → x ≡ packed (readTestsAnswer old new tt)
@@ -133,65 +134,40 @@ module _ (old ow new nw tt tests rows : List ℕ) (had : Texts) (j : JobRead old
       let a = goes (readJob old new tt) (j .told) z in
       told-as (outcome-goes (readJob old new tt) f (a .0) (a .1)) (k (a .0) (a .2))
 
-  pub sheet-stop : (out : Bytes) → (had .number ≡ 0 → ⊥) → Told (sheetAnswer old new tt (length out)) (record { number = had .number; place = had .place }) out out
-  unfolding sheetAnswer
-  sheet-stop out z = job-stop _ out z
+  pub whole-stop : (q : Asked) (input out : Bytes) → (had .number ≡ 0 → ⊥) → Told (answering q old new tt input (length out)) (record { number = had .number; place = had .place }) out out
+  unfolding answering
+  whole-stop q input out z = job-stop _ out z
 
-  pub sheet-goes : (ol nl w w′ out out′ : List ℕ) (r : Answer) → had .number ≡ 0 → ol ≡ linksOf ow → nl ≡ linksOf nw → length w ≡ 16912
-      → Done w w′ out out′ (SheetDone (memory old ow ol) (memory new nw nl) tt tests rows had w out r out′) → Told (sheetAnswer old new tt (length out)) r out out′
-  unfolding sheetAnswer SheetDone
-  sheet-goes ol nl w w′ out out′ r z eo en l d =
+  pub whole-goes : (q : Asked) (input ol nl w w′ out out′ : List ℕ) (r : Answer) → had .number ≡ 0 → ol ≡ linksOf ow → nl ≡ linksOf nw
+      → Done w w′ out out′ (Served q (memory old ow ol) (memory new nw nl) tt tests rows had input out r out′) → Told (answering q old new tt input (length out)) r out out′
+  unfolding answering Served
+  whole-goes q input ol nl w w′ out out′ r z eo en d =
       job-go _ r out out′ z (λ g y. d .claim g
       (subst (λ (a : List ℕ). Ready (memory old ow a) (memory new nw nl) tt tests rows had g) (sym eo)
-      (subst (λ (a : List ℕ). Ready (memory old ow (linksOf ow)) (memory new nw a) tt tests rows had g) (sym en) y)) (omega arith))
+      (subst (λ (a : List ℕ). Ready (memory old ow (linksOf ow)) (memory new nw a) tt tests rows had g) (sym en) y)))
 
-  pub record-stop : (i : ℕ) (out : Bytes) → (had .number ≡ 0 → ⊥) → Told (recordAnswer old new tt i (length out)) (record { number = had .number; place = had .place }) out out
-  unfolding recordAnswer
-  record-stop i out z = job-stop _ out z
+-- ---- packed answers of requests
 
-  pub record-goes : (i : ℕ) (ol nl w w′ out out′ : List ℕ) (r : Answer) → had .number ≡ 0 → ol ≡ linksOf ow → nl ≡ linksOf nw → length w ≡ 16912
-      → Done w w′ out out′ (RecordDone (memory old ow ol) (memory new nw nl) tt tests rows had i w out r out′) → Told (recordAnswer old new tt i (length out)) r out out′
-  unfolding recordAnswer RecordDone
-  record-goes i ol nl w w′ out out′ r z eo en l d =
-      job-go _ r out out′ z (λ g y. d .claim g
-      (subst (λ (a : List ℕ). Ready (memory old ow a) (memory new nw nl) tt tests rows had g) (sym eo)
-      (subst (λ (a : List ℕ). Ready (memory old ow (linksOf ow)) (memory new nw a) tt tests rows had g) (sym en) y)) (omega arith))
+module _ (old new tt input : Bytes) (a : Answer) (out out′ : Bytes) where
+  pub whole-fits : (q : Asked) → Told (answering q old new tt input (length out)) a out out′ → (a .number ≤ lastNumber) × (a .place < 4294967296)
+  whole-fits q t = fits _ a (plain-answers old new tt .of-request q input (length out)) (t .answered)
 
-  pub check-stop : (sheet : Bytes) → (had .number ≡ 0 → ⊥) → Answered (checkAnswer old new tt sheet) (record { number = had .number; place = had .place })
-  unfolding checkAnswer
-  check-stop sheet z =
-      job-stop (λ g. outcome (readSheet (g .old) (g .new) (g .suite) sheet) (judged g)) [] z .answered
+  told-packs : (x : Outcome) (r : ℕ) → Told x a out out′ → r ≡ a .number * 4294967296 + a .place → (r ≡ packed x) × (out′ ≡ outputAfter x out)
+  told-packs x r t e = (packs x a r (t .answered) e, t .output-is)
 
-  pub check-goes : (sheet ol nl : List ℕ) (r : Answer) → had .number ≡ 0 → ol ≡ linksOf ow → nl ≡ linksOf nw
-      → Checks (memory old ow ol) (memory new nw nl) (had .«old_nodes») (had .«new_nodes») (had .«old_edges») tt tests rows (had .tests) sheet r → Answered (checkAnswer old new tt sheet) r
-  unfolding checkAnswer Checks
-  check-goes sheet ol nl r z eo en c =
-      let a = goes (readJob old new tt) (j .told) z in
-      let y = a .2 in
-      let f : Given → Outcome = λ g. outcome (readSheet (g .old) (g .new) (g .suite) sheet) (judged g) in
-      let told = c (y .o) (y .p) (y .l) (subst (λ (b : List ℕ). InMemory (memory old ow b) (y .o)) (sym eo) (y .old-in)) (subst (λ (b : List ℕ). InMemory (memory new nw b) (y .p)) (sym en) (y .new-in))
-      (y .tests-read) (y .tests-in) (y .old-nodes-n) (y .new-nodes-n) (y .old-edges-n) in
-      answered-as (outcome-goes (readJob old new tt) f (a .0) (a .1)) (subst (λ (g : Given). Answered (f g) r) (sym (y .given-is)) told)
+  pub sheet-packs : (r : ℕ) → Told (answering (asked Sheet) old new tt input (length out)) a out out′ → r ≡ a .number * 4294967296 + a .place
+      → (r ≡ packed (sheetAnswer old new tt (length out))) × (out′ ≡ outputAfter (sheetAnswer old new tt (length out)) out)
+  unfolding answering serving asked
+  sheet-packs r t e = told-packs (sheetAnswer old new tt (length out)) r t e
 
-pub check-fits : (old new tt sheet : Bytes) (a : Answer) → Answered (checkAnswer old new tt sheet) a → (a .number ≤ 16) × (a .place < 4294967296)
-check-fits old new tt sheet a t = fits (checkAnswer old new tt sheet) a (plain-answers old new tt .of-check sheet) t
+  pub record-packs : (i r : ℕ) → Told (answering (asked (Record i)) old new tt input (length out)) a out out′ → r ≡ a .number * 4294967296 + a .place
+      → (r ≡ packed (recordAnswer old new tt i (length out))) × (out′ ≡ outputAfter (recordAnswer old new tt i (length out)) out)
+  unfolding answering serving asked
+  record-packs i r t e = told-packs (recordAnswer old new tt i (length out)) r t e
 
-pub check-packs : (old new tt sheet : Bytes) (a : Answer) (r : ℕ) → Answered (checkAnswer old new tt sheet) a → r ≡ a .number * 4294967296 + a .place → r ≡ packed (checkAnswer old new tt sheet)
-check-packs old new tt sheet a r t e = packs (checkAnswer old new tt sheet) a r t e
-
--- ---- packed answers of writers
-
-pub told-fits : (x : Outcome) (a : Answer) (out out′ : Bytes) → Plain x → Told x a out out′ → (a .number ≤ 16) × (a .place < 4294967296)
-told-fits x a out out′ p t = fits x a p (t .answered)
-
-pub told-packs : (x : Outcome) (a : Answer) (out out′ : Bytes) (r : ℕ) → Told x a out out′ → r ≡ a .number * 4294967296 + a .place → (r ≡ packed x) × (out′ ≡ outputAfter x out)
-told-packs x a out out′ r t e = (packs x a r (t .answered) e, t .output-is)
-
-pub sheet-fits : (old new tt : Bytes) (a : Answer) (out out′ : Bytes) → Told (sheetAnswer old new tt (length out)) a out out′ → (a .number ≤ 16) × (a .place < 4294967296)
-sheet-fits old new tt a out out′ t = told-fits _ a out out′ (plain-answers old new tt .of-sheet (length out)) t
-
-pub record-fits : (old new tt : Bytes) (i : ℕ) (a : Answer) (out out′ : Bytes) → Told (recordAnswer old new tt i (length out)) a out out′ → (a .number ≤ 16) × (a .place < 4294967296)
-record-fits old new tt i a out out′ t = told-fits _ a out out′ (plain-answers old new tt .of-record i (length out)) t
+  pub check-packs : (r : ℕ) → Told (answering (asked Check) old new tt input (length out)) a out out′ → r ≡ a .number * 4294967296 + a .place → r ≡ packed (checkAnswer old new tt input)
+  unfolding answering serving asked
+  check-packs r t e = told-packs (checkAnswer old new tt input) r t e .0
 
 pub ruleset all =
-    (old-fits, old-packs, new-stop-fits, new-stop-packs, new-fits, new-packs, tests-fits, tests-packs, sheet-stop, sheet-goes, record-stop, record-goes, told-packs, sheet-fits, record-fits, check-stop, check-goes, check-fits, check-packs)
+    (old-fits, old-packs, new-stop-fits, new-stop-packs, new-fits, new-packs, tests-fits, tests-packs, whole-stop, whole-goes, whole-fits, sheet-packs, record-packs, check-packs, asks-most)

@@ -2,15 +2,17 @@
 // number * 4,294,967,296 + place: the number is 0 for success, and the place is then how many bytes were written. They answer for every text,
 // number and output; a refusal leaves the output as it was.
 use answer::Answer;
+use requests::Request;
 ghost use mathlib.Core.Path.{_≡_};
 ghost use Prim.Native.Nat.{_+_, _*_, _≤_, _<_};
 ghost use lib.ListN.{length};
-ghost use Rattle.rules.specs.Job.{checkAnswer, outputAfter, packed, readNewAnswer, readOldAnswer, readTestsAnswer, recordAnswer, sheetAnswer};
-ghost use Rattle.answer.specs.Outcomes.{Answered, Told};
+ghost use Rattle.rules.specs.Job.{answering, checkAnswer, lastNumber, outputAfter, packed, readNewAnswer, readOldAnswer, readTestsAnswer, recordAnswer, sheetAnswer};
+ghost use Rattle.answer.specs.Outcomes.{Told};
+ghost use Rattle.requests.specs.Requests.{asked};
 
 // Number and place in one number.
 fn pack(number: usize, place: usize) -> u64
-    requires { ⌜ (number ≤ 16) × (place < 4294967296) ⌝ }
+    requires { ⌜ (number ≤ lastNumber) × (place < 4294967296) ⌝ }
     ensures { λ r. ⌜ r ≡ number * 4294967296 + place ⌝ }
 {
     number as u64 * 4294967296 + place as u64
@@ -55,11 +57,18 @@ pub extern "C" fn ry_read_tests(old: &[u8], new: &[u8], tt: &[u8]) -> u64
     pack(had.number, had.place)
 }
 
-// ---- writing
+// ---- requests
 
-// The sheet of a whole job.
-fn sheet_job(old: &[u8], new: &[u8], tt: &[u8], out: &mut [u8]) -> Answer
-    ensures { λ r. ⌜ Told (sheetAnswer (now (old .entry)) (now (new .entry)) (now (tt .entry)) (length (now (out .entry)))) r (now (out .entry)) (now (out .exit)) ⌝ }
+// A whole job: its texts are read, and what is asked of it is done. `input` is the text that the request comes with.
+fn whole_job(
+    old: &[u8],
+    new: &[u8],
+    tt: &[u8],
+    request: Request,
+    input: &[u8],
+    out: &mut [u8],
+) -> Answer
+    ensures { λ r. ⌜ Told (answering (asked request) (now (old .entry)) (now (new .entry)) (now (tt .entry)) (now (input .entry)) (length (now (out .entry)))) r (now (out .entry)) (now (out .exit)) ⌝ }
 {
     let mut ow = [0usize; 8128];
     let mut nw = [0usize; 8128];
@@ -75,7 +84,7 @@ fn sheet_job(old: &[u8], new: &[u8], tt: &[u8], out: &mut [u8]) -> Answer
     let mut w = [0usize; 16912];
     let ol = reader::links(&ow);
     let nl = reader::links(&nw);
-    work::write_sheet(
+    requests::serve(
         old,
         &ow,
         ol,
@@ -86,6 +95,8 @@ fn sheet_job(old: &[u8], new: &[u8], tt: &[u8], out: &mut [u8]) -> Answer
         &tests,
         &rows,
         had,
+        request,
+        input,
         &mut w,
         out,
     )
@@ -97,43 +108,8 @@ pub extern "C" fn ry_sheet(old: &[u8], new: &[u8], tt: &[u8], out: &mut [u8]) ->
     ensures { λ r. ⌜ r ≡ packed (sheetAnswer (now (old .entry)) (now (new .entry)) (now (tt .entry)) (length (now (out .entry)))) ⌝ }
     ensures { λ _. ⌜ now (out .exit) ≡ outputAfter (sheetAnswer (now (old .entry)) (now (new .entry)) (now (tt .entry)) (length (now (out .entry)))) (now (out .entry)) ⌝ }
 {
-    let a = sheet_job(old, new, tt, out);
+    let a = whole_job(old, new, tt, Request::Sheet, b"", out);
     pack(a.number, a.place)
-}
-
-// The record line of a whole job.
-fn record_job(old: &[u8], new: &[u8], tt: &[u8], test: usize, out: &mut [u8]) -> Answer
-    ensures { λ r. ⌜ Told (recordAnswer (now (old .entry)) (now (new .entry)) (now (tt .entry)) test (length (now (out .entry)))) r (now (out .entry)) (now (out .exit)) ⌝ }
-{
-    let mut ow = [0usize; 8128];
-    let mut nw = [0usize; 8128];
-    let mut tests = [0usize; 400];
-    let mut rows = [0u64; 3200];
-    let had = intake::read_job(old, new, tt, &mut ow, &mut nw, &mut tests, &mut rows);
-    if had.number != 0 {
-        return Answer {
-            number: had.number,
-            place: had.place,
-        };
-    }
-    let mut w = [0usize; 16912];
-    let ol = reader::links(&ow);
-    let nl = reader::links(&nw);
-    work::write_record(
-        old,
-        &ow,
-        ol,
-        new,
-        &nw,
-        nl,
-        tt,
-        &tests,
-        &rows,
-        had,
-        test,
-        &mut w,
-        out,
-    )
 }
 
 // Writes the record line of a test, by its number.
@@ -142,53 +118,8 @@ pub extern "C" fn ry_record(old: &[u8], new: &[u8], tt: &[u8], test: usize, out:
     ensures { λ r. ⌜ r ≡ packed (recordAnswer (now (old .entry)) (now (new .entry)) (now (tt .entry)) test (length (now (out .entry)))) ⌝ }
     ensures { λ _. ⌜ now (out .exit) ≡ outputAfter (recordAnswer (now (old .entry)) (now (new .entry)) (now (tt .entry)) test (length (now (out .entry)))) (now (out .entry)) ⌝ }
 {
-    let a = record_job(old, new, tt, test, out);
+    let a = whole_job(old, new, tt, Request::Record(test), b"", out);
     pack(a.number, a.place)
-}
-
-// ---- checking
-
-// The check of a sheet over a whole job.
-fn check_job(old: &[u8], new: &[u8], tt: &[u8], sheet: &[u8]) -> Answer
-    ensures { λ r. ⌜ Answered (checkAnswer (now (old .entry)) (now (new .entry)) (now (tt .entry)) (now (sheet .entry))) r ⌝ }
-{
-    let mut ow = [0usize; 8128];
-    let mut nw = [0usize; 8128];
-    let mut tests = [0usize; 400];
-    let mut rows = [0u64; 3200];
-    let had = intake::read_job(old, new, tt, &mut ow, &mut nw, &mut tests, &mut rows);
-    if had.number != 0 {
-        return Answer {
-            number: had.number,
-            place: had.place,
-        };
-    }
-    let olds = had.old_nodes;
-    let news = had.new_nodes;
-    let edges = had.old_edges;
-    let count = had.tests;
-    let mut w = [0usize; 16912];
-    let mut sets = [0u64; 20];
-    let ol = reader::links(&ow);
-    let nl = reader::links(&nw);
-    checker::check_sheet(
-        old,
-        &ow,
-        ol,
-        new,
-        &nw,
-        nl,
-        olds,
-        news,
-        edges,
-        tt,
-        &tests,
-        &rows,
-        count,
-        sheet,
-        &mut w,
-        &mut sets,
-    )
 }
 
 // Checks a sheet, the selector's or another's. Success is to pass.
@@ -196,6 +127,7 @@ fn check_job(old: &[u8], new: &[u8], tt: &[u8], sheet: &[u8]) -> Answer
 pub extern "C" fn ry_check(old: &[u8], new: &[u8], tt: &[u8], sheet: &[u8]) -> u64
     ensures { λ r. ⌜ r ≡ packed (checkAnswer (now (old .entry)) (now (new .entry)) (now (tt .entry)) (now (sheet .entry))) ⌝ }
 {
-    let a = check_job(old, new, tt, sheet);
+    let mut none = [0u8; 0];
+    let a = whole_job(old, new, tt, Request::Check, sheet, &mut none);
     pack(a.number, a.place)
 }

@@ -15,7 +15,7 @@ use Rattle.rules.specs.Run.{Meaning, crossing, edgeAhead, ended, endedAt
 use Rattle.rules.specs.Closing.{alike, fits, bothCall, fitted, goesOn, joined, byStart, byCall, byEdge, follows, grown, dangerousAt, dangerous, closed, pairs, dangers, meets, repeated, carries, carriesOnly, mark, sameCallee, sameLabel, sameWord}
 use Rattle.rules.specs.Sheet.{selected, mLine, dLine, rLine, endLine, sheetLines, sheetText, markByte, marksOf, crossed, vLine, recordText, sheetForm, before, allBelow, testOf, takeSheetLine, stepSheet, finishSheet, readSheet}
 use Rattle.rules.specs.Check.{entered, keeps, edgeKept, edgesKept, rule1, rule2, rule3, rule4, rule5, broken}
-use Rattle.rules.specs.Job.{Outcome, wrote, refusal, passed, outcome, readJob, writing, sheetBytes, recordBytes, sheetAnswer, recordAnswer, judged, checkAnswer}
+use Rattle.rules.specs.Job.{Outcome, wrote, refusal, passed, outcome, readJob, writing, sheetBytes, recordBytes, sheetAnswer, recordAnswer, judged, checkAnswer, serving, answering}
 
 -- A job: the texts of the old program, the new one and the tests.
 record Job : Type 0 where
@@ -183,7 +183,7 @@ unfolding answered sameOutcome examples refusals
     sameLabel sameCallee sameWord alike fits bothCall fitted goesOn joined byStart byCall byEdge follows grown dangerousAt dangerous closed pairs dangers meets repeated carries carriesOnly mark
     selected mLine dLine rLine endLine sheetLines sheetText markByte marksOf crossed vLine recordText sheetForm before allBelow testOf takeSheetLine stepSheet finishSheet readSheet
     entered keeps edgeKept edgesKept rule1 rule2 rule3 rule4 rule5 broken
-    outcome readJob writing sheetBytes recordBytes sheetAnswer recordAnswer judged checkAnswer
+    outcome readJob writing sheetBytes recordBytes judged serving answering
 examples-answered = refl
 
 -- ---- runs

@@ -16,9 +16,22 @@ use Rattle.rules.specs.Check.{broken}
 
 -- ---- stages
 
--- The calls of a job.
+-- What is asked of a job that has read its tests: write the sheet; write the record line of the test i; check a sheet; show the label of the node n of a side; or nothing that there is.
+pub data Request : Type 0 where
+  write-sheet : Request
+  write-record : ℕ → Request
+  check-sheet : Request
+  show-label : ℕ → ℕ → Request
+  no-request : Request
+
+-- A request as a C program gives it: by its number, with two numbers that it may use.
+unfoldable pub requestBy : ℕ → ℕ → ℕ → Request
+requestBy n a b =
+    choose (eqb n 0) write-sheet (choose (eqb n 1) (write-record a) (choose (eqb n 2) check-sheet (choose (eqb n 3) (show-label a b) no-request)))
+
+-- The calls of a job; every request is made by one.
 pub data Call : Type 0 where
-  reset-job read-old read-new read-tests write-sheet write-record check-sheet show-label : Call
+  reset-job read-old read-new read-tests make-request : Call
 
 -- A call is of a stage: 0 empty, 1 old read, 2 new read, 3 tests read. One that is not gets 13.
 unfoldable pub ofStage : Call → ℕ → Bool
@@ -26,10 +39,7 @@ ofStage reset-job stage = true
 ofStage read-old stage = eqb stage 0
 ofStage read-new stage = eqb stage 1
 ofStage read-tests stage = eqb stage 2
-ofStage write-sheet stage = eqb stage 3
-ofStage write-record stage = eqb stage 3
-ofStage check-sheet stage = eqb stage 3
-ofStage show-label stage = eqb stage 3
+ofStage make-request stage = eqb stage 3
 
 -- The stage after a call that succeeded.
 unfoldable pub stageAfter : Call → ℕ
@@ -37,10 +47,7 @@ stageAfter reset-job = 0
 stageAfter read-old = 1
 stageAfter read-new = 2
 stageAfter read-tests = 3
-stageAfter write-sheet = 3
-stageAfter write-record = 3
-stageAfter check-sheet = 3
-stageAfter show-label = 3
+stageAfter make-request = 3
 
 -- ---- answers
 
@@ -48,6 +55,10 @@ stageAfter show-label = 3
 pub data Outcome : Type 0 where
   wrote : Bytes → Outcome
   refusal : ℕ → ℕ → Outcome
+
+-- The largest number of a refusal.
+abbrev pub lastNumber : ℕ
+lastNumber = 16
 
 -- The answer's number and place: success is 0 and how many bytes were written, or 0.
 abbrev pub numberOf : Outcome → ℕ
@@ -119,16 +130,9 @@ sheetBytes g = sheetText (g .suite .names) (selected (g .old) (g .new) (g .suite
 unfoldable pub recordBytes : Given → ℕ → Bytes
 recordBytes g i = recordText (g .old) (g .new) (testName (g .suite) i) (coverageAt (g .suite) i)
 
--- Write the sheet.
-unfoldable pub sheetAnswer : Bytes → Bytes → Bytes → ℕ → Outcome
-sheetAnswer old new tests room = outcome (readJob old new tests) (λ g. writing g room (sheetBytes g))
-
--- Write the record line of the test i: 6 where there is none; of what the texts give, and of the texts.
+-- Write the record line of the test i: 6 where there is none.
 abbrev pub recording : Given → ℕ → ℕ → Outcome
 recording g i room = choose (ltb i (testCount (g .suite))) (writing g room (recordBytes g i)) (refusal 6 0)
-
-unfoldable pub recordAnswer : Bytes → Bytes → Bytes → ℕ → ℕ → Outcome
-recordAnswer old new tests i room = outcome (readJob old new tests) (λ g. recording g i room)
 
 -- ---- checking
 
@@ -137,38 +141,80 @@ unfoldable pub judged : Given → Sheet → Outcome
 judged g s =
     choose (eqb (broken (g .old) (g .new) (g .suite .coverages) s) 0) passed (refusal 12 (broken (g .old) (g .new) (g .suite .coverages) s))
 
--- Check a sheet; likewise.
+-- Check a sheet.
 abbrev pub checking : Given → Bytes → Outcome
 checking g sheet = outcome (readSheet (g .old) (g .new) (g .suite) sheet) (judged g)
 
-unfoldable pub checkAnswer : Bytes → Bytes → Bytes → Bytes → Outcome
-checkAnswer old new tests sheet = outcome (readJob old new tests) (λ g. checking g sheet)
-
 -- ---- showing a label
+
+-- The one of a side: 0 the old one, 1 the new one.
+unfoldable pub bySide : {A : Type 0} → A → A → ℕ → Option A
+bySide old new zero = some old
+bySide old new (suc zero) = some new
+bySide old new (suc (suc n)) = none
+
+-- The node n is one of the program.
+unfoldable pub hasNode : Program → ℕ → Bool
+hasNode p n = ltb n (nodeCount p)
+
+-- Show a label, by side and node number: 6 where there is no such side, or no such node of its version.
+unfoldable pub labelling : Given → ℕ → ℕ → Outcome
+labelling g side n = after (bySide (g .old) (g .new) side) (refusal 6 0) (λ p. choose (hasNode p n) success (refusal 6 0))
 
 -- A version of the program: its text, and what reading it leaves.
 pub record Version : Type 0 where
   pub text : Bytes
   pub listing : Listing
 
--- The version of a side: 0 the old one, 1 the new one.
-unfoldable pub bySide : Version → Version → ℕ → Option Version
-bySide old new zero = some old
-bySide old new (suc zero) = some new
-bySide old new (suc (suc n)) = none
+-- Where a part stands in its text.
+pub record Span : Type 0 where
+  pub start : ℕ
+  pub len : ℕ
 
--- The node n is one of the version.
-unfoldable pub isNodeOfVersion : Version → ℕ → Bool
-isNodeOfVersion v n = ltb n (nodeCount (v .listing .program))
+-- Where the label of the node n stands, and the part of the text that holds it.
+abbrev pub labelSpan : Version → ℕ → Span
+labelSpan v n = record { start = getD (v .listing .places .labelStarts) n 0; len = length (labelAt (v .listing .program) n) }
 
--- Show a label, by side and node number: 6 where there is no such side, or no such node of its version.
-unfoldable pub labelAnswer : Version → Version → ℕ → ℕ → Outcome
-labelAnswer old new side n = after (bySide old new side) (refusal 6 0) (λ v. choose (isNodeOfVersion v n) success (refusal 6 0))
-
--- The part of the text that holds the label of the node n.
 unfoldable pub labelPart : Version → ℕ → Bytes
-labelPart v n = take (length (labelAt (v .listing .program) n)) (drop (getD (v .listing .places .labelStarts) n 0) (v .text))
+labelPart v n = take (labelSpan v n .len) (drop (labelSpan v n .start) (v .text))
 
 -- The part that is shown: empty when refused.
 unfoldable pub labelShown : Version → Version → ℕ → ℕ → Bytes
-labelShown old new side n = after (bySide old new side) [] (λ v. choose (isNodeOfVersion v n) (labelPart v n) [])
+labelShown old new side n = after (bySide old new side) [] (λ v. choose (hasNode (v .listing .program) n) (labelPart v n) [])
+
+-- Where it stands, in the text of its version, and this in one number: 0 and 0 when refused.
+abbrev pub nowhere : Span
+nowhere = record { start = 0; len = 0 }
+
+unfoldable pub spanShown : Version → Version → ℕ → ℕ → Span
+spanShown old new side n = after (bySide old new side) nowhere (λ v. choose (hasNode (v .listing .program) n) (labelSpan v n) nowhere)
+
+unfoldable pub packedSpan : Span → ℕ
+packedSpan s = s .start * 4294967296 + s .len
+
+-- ---- requests
+
+-- What is asked, of what the texts give, with the text that the request comes with (the sheet to check; the others come with none) and an output of `room` bytes. 6 where nothing is.
+unfoldable pub serving : Request → Given → Bytes → ℕ → Outcome
+serving write-sheet g input room = writing g room (sheetBytes g)
+serving (write-record i) g input room = recording g i room
+serving check-sheet g input room = checking g input
+serving (show-label side n) g input room = labelling g side n
+serving no-request g input room = refusal 6 0
+
+-- The same, of the texts of a job.
+unfoldable pub answering : Request → Bytes → Bytes → Bytes → Bytes → ℕ → Outcome
+answering q old new tests input room = outcome (readJob old new tests) (λ g. serving q g input room)
+
+-- Each request by its own name.
+abbrev pub sheetAnswer : Bytes → Bytes → Bytes → ℕ → Outcome
+sheetAnswer old new tests room = answering write-sheet old new tests [] room
+
+abbrev pub recordAnswer : Bytes → Bytes → Bytes → ℕ → ℕ → Outcome
+recordAnswer old new tests i room = answering (write-record i) old new tests [] room
+
+abbrev pub checkAnswer : Bytes → Bytes → Bytes → Bytes → Outcome
+checkAnswer old new tests sheet = answering check-sheet old new tests sheet 0
+
+abbrev pub labelAnswer : Bytes → Bytes → Bytes → ℕ → ℕ → Outcome
+labelAnswer old new tests side n = answering (show-label side n) old new tests [] 0

@@ -17,25 +17,23 @@ use Rattle.rules.specs.Run.{Config, Meaning, ended, run, start, trail}
 use Rattle.rules.specs.Closing.{Counterparts, Coverage, Dangerous, Pair, alike, dangers, fits, holds, joined, pairs, repeated}
 use Rattle.rules.specs.Sheet.{Sheet, SheetLine, crossed, d-line, end-line, head-line, leftOff, m-line, no-form, r-line, rLine, sheetForm, sheetLines, sheetText, vLine}
 use Rattle.rules.specs.Check.{rule1, rule2, rule3, rule4, rule5}
-use Rattle.rules.specs.Job.{Outcome, Given, Version, checkAnswer, labelAnswer, labelPart, labelShown, numberOf, outputAfter, packed, passed, placeOf, readJob, readNewAnswer, readOldAnswer, readTestsAnswer, recordAnswer, recordBytes, refusal, sheetAnswer, sheetBytes, success, wrote}
+use Rattle.rules.specs.Job.{Given, Outcome, Request, Version, answering, check-sheet, checkAnswer, givenOf, labelPart, labelShown, labelling, lastNumber, no-request, numberOf, outputAfter, packed, passed, placeOf, readJob, readNewAnswer, readOldAnswer, readTestsAnswer, recordAnswer, recordBytes, refusal, requestBy, sheetAnswer, sheetBytes, show-label, success, write-record, write-sheet, wrote}
 use Rattle.rules.specs.Layout.{Follows, SheetFollows, SuiteFollows, writeProgram, writeSuite}
 use Rattle.rules.specs.Places.{Placed, TestsPlaced}
 
 -- ==== demand 1: what the calls answer, each number for its one reason
 
--- A call's answer has number 0 only where it succeeds, else one up to 16, and its place fits beside the number.
+-- A call's answer has number 0 only where it succeeds, else one up to the last, and its place fits beside the number.
 pub record Plain (o : Outcome) : Type 0 where
   pub zero-succeeds : numberOf o ≡ 0 → (b : Bytes) × (o ≡ wrote b)
-  pub few-numbers : numberOf o ≤ 16
+  pub few-numbers : numberOf o ≤ lastNumber
   pub fits-beside : placeOf o < 4294967296
 
 pub record AnswersPlain (old new tests : Bytes) : Type 0 where
   pub of-old : Plain (readOldAnswer old)
   pub of-new : Plain (readNewAnswer old new)
   pub of-tests : Plain (readTestsAnswer old new tests)
-  pub of-sheet : (room : ℕ) → Plain (sheetAnswer old new tests room)
-  pub of-record : (i room : ℕ) → Plain (recordAnswer old new tests i room)
-  pub of-check : (sheet : Bytes) → Plain (checkAnswer old new tests sheet)
+  pub of-request : (q : Request) (input : Bytes) (room : ℕ) → Plain (answering q old new tests input room)
 
 -- The one number that an exported call returns for the answer o, and the output that it leaves: below 4,294,967,296 it is how many bytes were written, and they stand at the front of
 -- the output; else number and place of the refusal are taken out of it, and the output is as it was.
@@ -46,12 +44,20 @@ pub record Returns (o : Outcome) (out : Bytes) : Type 0 where
 abbrev pub Unpacks : Type 0
 Unpacks = (o : Outcome) → Plain o → (out : Bytes) → Returns o out
 
--- The numbers that reading a program, reading a test file and checking a sheet may give; so the check never gives 15 or 16, nor 3, 5 or 6 for a line of a sheet.
+-- The numbers that a request may give once the texts are read; so the check never gives 15 or 16, nor 3, 5 or 6 for a line of a sheet.
+abbrev pub numbersOf : Request → List ℕ
+numbersOf write-sheet = 15 ∷ 16 ∷ []
+numbersOf (write-record i) = 6 ∷ 15 ∷ 16 ∷ []
+numbersOf check-sheet = 1 ∷ 2 ∷ 4 ∷ 11 ∷ 12 ∷ []
+numbersOf (show-label side n) = 6 ∷ []
+numbersOf no-request = 6 ∷ []
+
+-- The numbers that reading a program, reading a test file and a request may give.
 pub record NumbersGiven : Type 0 where
   pub of-program : (text : Bytes) (k p : ℕ) → readProgram text ≡ refused k p → has (1 ∷ 2 ∷ 3 ∷ 4 ∷ 5 ∷ 6 ∷ 7 ∷ 8 ∷ 9 ∷ []) k ≡ true
   pub of-tests : (m : ℕ) (text : Bytes) (k p : ℕ) → readSuite m text ≡ refused k p → has (1 ∷ 2 ∷ 4 ∷ 5 ∷ 10 ∷ []) k ≡ true
-  pub of-check : (old new tests sheet : Bytes) (g : Given) → readJob old new tests ≡ accepted g → (k p : ℕ) → checkAnswer old new tests sheet ≡ refusal k p
-      → has (1 ∷ 2 ∷ 4 ∷ 11 ∷ 12 ∷ []) k ≡ true
+  pub of-request : (q : Request) (old new tests input : Bytes) (room : ℕ) (g : Given) → readJob old new tests ≡ accepted g → (k p : ℕ) → answering q old new tests input room ≡ refusal k p
+      → has (numbersOf q) k ≡ true
 
 -- 1: exactly where the text is too long; its place is 0.
 pub record TooLong : Type 0 where
@@ -75,9 +81,7 @@ pub record TextsRead (old new tests : Bytes) : Type 0 where
 -- Where reading the texts refuses, every call that is given all of them gives that refusal, whatever else it is given.
 pub record TextsFirst (old new tests : Bytes) (k p : ℕ) : Type 0 where
   pub of-tests : readTestsAnswer old new tests ≡ refusal k p
-  pub of-sheet : (room : ℕ) → sheetAnswer old new tests room ≡ refusal k p
-  pub of-record : (i room : ℕ) → recordAnswer old new tests i room ≡ refusal k p
-  pub of-check : (sheet : Bytes) → checkAnswer old new tests sheet ≡ refusal k p
+  pub of-request : (q : Request) (input : Bytes) (room : ℕ) → answering q old new tests input room ≡ refusal k p
 
 abbrev pub TextsRefused : Type 0
 TextsRefused = (old new tests : Bytes) (k p : ℕ) → readJob old new tests ≡ refused k p → TextsFirst old new tests k p
@@ -85,6 +89,11 @@ TextsRefused = (old new tests : Bytes) (k p : ℕ) → readJob old new tests ≡
 -- The record line of a test that is not there is refused with 6, before 15.
 abbrev pub RecordUnnamed : Type 0
 RecordUnnamed = (old new tests : Bytes) (g : Given) → readJob old new tests ≡ accepted g → (i room : ℕ) → testCount (g .suite) ≤ i → recordAnswer old new tests i room ≡ refusal 6 0
+
+-- A request by a number that no request has is refused with 6.
+abbrev pub RequestUnnamed : Type 0
+RequestUnnamed = (old new tests : Bytes) (g : Given) → readJob old new tests ≡ accepted g → (n a b : ℕ) (input : Bytes) (room : ℕ) → 3 < n
+    → answering (requestBy n a b) old new tests input room ≡ refusal 6 0
 
 -- A sheet and a record line are written, refused with 15 or refused with 16, each exactly for its reason.
 
@@ -152,12 +161,15 @@ LineMissing =
     → (ls ms : List Bytes) (m : Bytes) → sheetLines (g .suite .names) c ≡ ls ++ (m ∷ ms) → checkAnswer old new tests (textOf ls) ≡ refusal 11 (suc (length ls))
 
 -- A label is shown by side, 0 old and 1 new, and node number; 6 where there is no such side, or no such node of its version, and then nothing is shown.
-pub record LabelsAnswered (old new : Version) : Type 0 where
-  pub old-shown : (n : ℕ) → n < nodeCount (old .listing .program) → (labelAnswer old new 0 n ≡ success) × (labelShown old new 0 n ≡ labelPart old n)
-  pub new-shown : (n : ℕ) → n < nodeCount (new .listing .program) → (labelAnswer old new 1 n ≡ success) × (labelShown old new 1 n ≡ labelPart new n)
-  pub no-old-node : (n : ℕ) → nodeCount (old .listing .program) ≤ n → (labelAnswer old new 0 n ≡ refusal 6 0) × (labelShown old new 0 n ≡ [])
-  pub no-new-node : (n : ℕ) → nodeCount (new .listing .program) ≤ n → (labelAnswer old new 1 n ≡ refusal 6 0) × (labelShown old new 1 n ≡ [])
-  pub no-side : (side n : ℕ) → 1 < side → (labelAnswer old new side n ≡ refusal 6 0) × (labelShown old new side n ≡ [])
+abbrev pub labelTold : Version → Version → TestListing → ℕ → ℕ → Outcome
+labelTold old new tests side n = labelling (givenOf (old .listing) (new .listing) tests) side n
+
+pub record LabelsAnswered (old new : Version) (tests : TestListing) : Type 0 where
+  pub old-shown : (n : ℕ) → n < nodeCount (old .listing .program) → (labelTold old new tests 0 n ≡ success) × (labelShown old new 0 n ≡ labelPart old n)
+  pub new-shown : (n : ℕ) → n < nodeCount (new .listing .program) → (labelTold old new tests 1 n ≡ success) × (labelShown old new 1 n ≡ labelPart new n)
+  pub no-old-node : (n : ℕ) → nodeCount (old .listing .program) ≤ n → (labelTold old new tests 0 n ≡ refusal 6 0) × (labelShown old new 0 n ≡ [])
+  pub no-new-node : (n : ℕ) → nodeCount (new .listing .program) ≤ n → (labelTold old new tests 1 n ≡ refusal 6 0) × (labelShown old new 1 n ≡ [])
+  pub no-side : (side n : ℕ) → 1 < side → (labelTold old new tests side n ≡ refusal 6 0) × (labelShown old new side n ≡ [])
 
 -- ==== demand 2: files, pairs, dangerous edges, tests to repeat, records
 

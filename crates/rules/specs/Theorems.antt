@@ -2,6 +2,7 @@
 use Rattle.rules.specs.Text.{Bytes}
 use mathlib.Core.List.{List}
 use Rattle.rules.specs.Graph.{Program}
+use Rattle.rules.specs.SuiteFile.{TestListing}
 use Rattle.rules.specs.Closing.{Coverage}
 use Rattle.rules.specs.Sheet.{Sheet}
 use Rattle.rules.specs.Job.{Version}
@@ -26,6 +27,7 @@ use Rattle.rules.specs.Promises.{
   ProgramWellFormed,
   RecordShort,
   RecordUnnamed,
+  RequestUnnamed,
   RulesExact,
   SuiteLayout,
   SuitePlaced,
@@ -74,6 +76,9 @@ texts-refused = Refused.texts-first
 pub record-unnamed : RecordUnnamed
 record-unnamed = Refused.no-test
 
+pub request-unnamed : RequestUnnamed
+request-unnamed = Refused.no-such-request
+
 pub writes-exactly : WritesExactly
 writes-exactly = written-exactly
 
@@ -89,7 +94,7 @@ line-above = Checked.line-above
 pub line-missing : LineMissing
 line-missing = Checked.line-missing
 
-pub labels-answered : (old new : Version) → LabelsAnswered old new
+pub labels-answered : (old new : Version) (tests : TestListing) → LabelsAnswered old new tests
 labels-answered = Refused.labels-answered
 
 -- ---- demand 2

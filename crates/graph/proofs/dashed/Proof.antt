@@ -1,6 +1,5 @@
 use borrow.Author.Needs.{needs}
-use Rattle.graph.proofs.Laws.{all}
-use Rattle.graph.proofs.Laws.{DashedBelow}
+use Rattle.graph.proofs.Laws.{all, DashedBelow}
 use Rattle.graph.proofs.dashed.Statement.{statement}
 use Rattle.graph.proofs.dashed.Tie as tie
 

@@ -1,7 +1,6 @@
 use borrow.Author.Needs.{needs}
-use Rattle.graph.proofs.Laws.{all}
+use Rattle.graph.proofs.Laws.{all, Counted}
 use Prim.Native.Nat.{_≤_, _+_}
-use Rattle.graph.proofs.Laws.{Counted}
 use Rattle.graph.proofs.degree.Statement.{statement}
 use Rattle.graph.proofs.degree.Tie as tie
 

@@ -1,6 +1,5 @@
 use borrow.Author.Needs.{needs}
-use Rattle.graph.proofs.Laws.{all}
-use Rattle.graph.proofs.Laws.{TakenBelow}
+use Rattle.graph.proofs.Laws.{all, TakenBelow}
 use Rattle.graph.proofs.edge_taken.Statement.{statement}
 use Rattle.graph.proofs.edge_taken.Tie as tie
 

@@ -1,6 +1,5 @@
 use borrow.Author.Needs.{needs}
-use Rattle.graph.proofs.Laws.{all}
-use Rattle.graph.proofs.Laws.{KeyFrom}
+use Rattle.graph.proofs.Laws.{all, KeyFrom}
 use Rattle.graph.proofs.key.Statement.{statement}
 use Rattle.graph.proofs.key.Tie as tie
 

@@ -1,7 +1,6 @@
 use borrow.Author.Needs.{needs}
-use Rattle.graph.proofs.Laws.{all}
+use Rattle.graph.proofs.Laws.{all, Unnamed}
 use Prim.Native.Nat.{_≤_, _-_}
-use Rattle.graph.proofs.Laws.{Unnamed}
 use Rattle.graph.proofs.proc_named.Statement.{statement}
 use Rattle.graph.proofs.proc_named.Tie as tie
 

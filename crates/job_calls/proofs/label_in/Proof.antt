@@ -1,6 +1,6 @@
 use mathlib.Core.Path.{refl}
 use borrow.Author.Needs.{needs}
-use Rattle.job_calls.proofs.Laws.{due-asks, label-goes, label-stop, unloads}
+use Rattle.job_calls.proofs.Laws.{all, due-asks, label-goes, unloads}
 use Rattle.job_calls.proofs.label_in.Statement.{statement}
 use Rattle.job_calls.proofs.label_in.Tie as tie
 
@@ -35,7 +35,7 @@ same-length : tie.Need-same-length
 same-length c = search needs
 
 returns : tie.Need-returns
-returns c = label-stop _ _ _ _ _ _ _ _ _ _ _ _ _ (unloads _ _ _ _ 0 refl (c .before .before .before .before .before .before .before .before .before .before .before .before .before .before .before .run .ensures) (c .before .before .before .before .before .before .before .before .before .before .before .before .before .before .copy .ensures)) (unloads _ _ _ _ 2048 refl (c .before .before .before .before .before .before .before .before .before .before .run2 .ensures) (c .before .before .before .before .before .before .before .before .before .copy2 .ensures)) _ (c .before .before .before .before .due .ensures) _ _ (c .if1 .taken)
+returns c = search (all, needs)
 
 slice-aggregate-label-of : tie.Need-slice-aggregate-label-of
 slice-aggregate-label-of c = search needs
@@ -44,13 +44,13 @@ slice-aggregate-label-of-2 : tie.Need-slice-aggregate-label-of-2
 slice-aggregate-label-of-2 c = search needs
 
 label-of-requires : tie.Need-label-of-requires
-label-of-requires c κs = let a = due-asks _ _ _ (c .before .before .before .before .before .before .due .ensures) (c .before .before .if1 .left) in (a .0, a .1)
+label-of-requires c κs = let a = due-asks _ _ (c .before .before .before .before .before .before .due .ensures) (c .before .before .if1 .left) in (a .0, a .1)
 
 same-length-2 : tie.Need-same-length-2
 same-length-2 c = search needs
 
 returns-2 : tie.Need-returns-2
-returns-2 c = label-goes _ _ _ _ _ _ _ _ _ _ _ _ _ (unloads _ _ _ _ 0 refl (c .before .before .before .before .before .before .before .before .before .before .before .before .before .before .before .before .before .before .run .ensures) (c .before .before .before .before .before .before .before .before .before .before .before .before .before .before .before .before .before .copy .ensures)) (unloads _ _ _ _ 2048 refl (c .before .before .before .before .before .before .before .before .before .before .before .before .before .run2 .ensures) (c .before .before .before .before .before .before .before .before .before .before .before .before .copy2 .ensures)) _ (c .before .before .before .before .before .before .before .due .ensures) _ _ _ (c .before .before .before .if1 .left) (c .label-of .ensures)
+returns-2 c = label-goes _ _ _ _ _ _ _ _ _ _ _ _ _ (unloads _ _ _ _ 0 refl (c .before .before .before .before .before .before .before .before .before .before .before .before .before .before .before .before .before .before .run .ensures) (c .before .before .before .before .before .before .before .before .before .before .before .before .before .before .before .before .before .copy .ensures)) (unloads _ _ _ _ 2048 refl (c .before .before .before .before .before .before .before .before .before .before .before .before .before .run2 .ensures) (c .before .before .before .before .before .before .before .before .before .before .before .before .copy2 .ensures)) _ _ _ (c .before .before .before .before .before .before .before .due .ensures) _ (c .before .before .before .if1 .left) (c .label-of .ensures)
 
 pub label-in-spec : {M : Type 1} → statement M
 label-in-spec =

@@ -1,5 +1,5 @@
 use borrow.Author.Needs.{needs}
-use Rattle.job_calls.proofs.Laws.{labels}
+use Rattle.job_calls.proofs.Laws.{all, on-zero}
 use Rattle.job_calls.proofs.label_on.Statement.{statement}
 use Rattle.job_calls.proofs.label_on.Tie as tie
 
@@ -13,7 +13,7 @@ same-length : tie.Need-same-length
 same-length c = search needs
 
 returns : tie.Need-returns
-returns c = search (labels, needs)
+returns c = (c .before .before .before .before .before .before .label-in .ensures, on-zero _ _ _ (c .before .before .before .before .before .scratch .given) (c .before .before .clear .ensures))
 
 pub label-on-spec : {M : Type 1} → statement M
 label-on-spec = tie.close (tie.spec label-in-requires clear-requires same-length returns)

@@ -16,7 +16,8 @@ use Rattle.records.proofs.Job.Laws as Job-laws
 use Rattle.records.specs.declared.Node.{Node}
 use Rattle.records.proofs.Node as Node-type
 use Rattle.records.specs.Nodes.{flat}
-use Rattle.job_calls.specs.Calls.{loadedJob, labelPartCall}
+use Rattle.job_calls.specs.Loaded.{loadedJob}
+use Rattle.lent_job.specs.Calls.{labelPartCall}
 use Rattle.job_calls.proofs.Laws.{shown-is}
 use Rattle.records.proofs.load_both as g₁
 use Rattle.records.proofs.load_both.Symbol as g₁-def

@@ -1,7 +1,6 @@
 use borrow.Author.Needs.{needs}
-use Rattle.pairset.proofs.Laws.{all}
+use Rattle.pairset.proofs.Laws.{all, NoneTo}
 use Prim.Native.Nat.{_-_, _/_, _≤_}
-use Rattle.pairset.proofs.Laws.{NoneTo}
 use Rattle.pairset.proofs.next_partner.Statement.{statement}
 use Rattle.pairset.proofs.next_partner.Tie as tie
 

@@ -1,9 +1,9 @@
--- Answers: which numbers each call gives; that number 0 is success, a number is at most 16, and a place and the bytes written are below 4,294,967,296, so that one number holds both.
+-- Answers: which numbers each call gives; that number 0 is success, a number is at most the last, and a place and the bytes written are below 4,294,967,296, so that one number holds both.
 use mathlib.Core.Path.{_≡_, refl, sym, ap, _∙_, subst}
 use mathlib.Core.Logic.{_↔_}
 use mathlib.Core.Bool.{Bool, true, false, true≢false}
 use mathlib.Core.List.{List, [], _∷_, _++_}
-use Prim.Native.Nat.{ℕ, suc, _+_, _≤_, _<_}
+use Prim.Native.Nat.{ℕ, zero, suc, _+_, _≤_, _<_}
 use native.Mathlib.Omega.{arith}
 use lib.Dec.{eqb}
 use lib.ListN.{length, length-append}
@@ -18,10 +18,10 @@ use Rattle.rules.specs.SuiteFile.{coverageAt, readSuite, testName}
 use Rattle.rules.specs.Closing.{Coverage, holds}
 use Rattle.rules.specs.Sheet.{Sheet, crossed, marksOf, readSheet, recordText, vLine}
 use Rattle.rules.specs.Check.{broken, rule1, rule2, rule3, rule4, rule5}
-use Rattle.rules.specs.Job.{Given, Outcome, checkAnswer, checking, judged, outcome, passed, readJob, readNewAnswer, readOldAnswer, readTestsAnswer, recordAnswer, recordBytes, refusal, sheetAnswer, sheetBytes, success, writing, wrote}
-use Rattle.rules.specs.Promises.{AnswersPlain, NumbersGiven, Plain, TooLong}
+use Rattle.rules.specs.Job.{Given, Outcome, Request, answering, bySide, check-sheet, checkAnswer, checking, judged, labelling, lastNumber, no-request, outcome, passed, readJob, readNewAnswer, readOldAnswer, readTestsAnswer, recordAnswer, recordBytes, refusal, serving, sheetBytes, show-label, success, write-record, write-sheet, writing, wrote}
+use Rattle.rules.specs.Promises.{AnswersPlain, NumbersGiven, Plain, TooLong, numbersOf}
 use Rattle.rules.specs.Proofs.JobLaws.{known, marks-length, outcome-wrote, record-wrote, wrote-choose, wrote-same}
-use Rattle.rules.specs.Proofs.Numbers.{Any, Good, Refusal, allOf, big, good-number, job-good, jobNumbers, passes-of, program-good, program-long, programNumbers, sheet-good, sheet-long, sheetNumbers, suite-good, suite-long, suiteNumbers}
+use Rattle.rules.specs.Proofs.Numbers.{Any, Good, Refusal, allOf, big, good-number, job-good, passes-of, program-good, program-long, programNumbers, sheet-good, sheet-long, sheetNumbers, suite-good, suite-long, suiteNumbers}
 use Rattle.rules.specs.Proofs.ReadBack.{name-short, written-passes}
 use Rattle.rules.specs.Proofs.TextLaws.{decimal-most}
 
@@ -47,19 +47,9 @@ told-number : (ks : List ℕ) (o : Outcome) (k p : ℕ) → Told ks o → o ≡ 
 told-number ks (wrote b) k p t e = absurd (true≢false (let z : true ≡ false = cc in z))
 told-number ks (refusal j q) k p t e = subst (λ (i : ℕ). has ks i ≡ true) (let z : j ≡ k = cc in z) (t .0)
 
--- The numbers of the calls that write, and of the check; of a sheet's check, where the texts are accepted.
-abbrev writeNumbers : List ℕ
-writeNumbers = 1 ∷ 2 ∷ 3 ∷ 4 ∷ 5 ∷ 6 ∷ 7 ∷ 8 ∷ 9 ∷ 10 ∷ 15 ∷ 16 ∷ []
-
-abbrev checkNumbers : List ℕ
-checkNumbers = 1 ∷ 2 ∷ 3 ∷ 4 ∷ 5 ∷ 6 ∷ 7 ∷ 8 ∷ 9 ∷ 10 ∷ 11 ∷ 12 ∷ []
-
-abbrev judgeNumbers : List ℕ
-judgeNumbers = 1 ∷ 2 ∷ 4 ∷ 11 ∷ 12 ∷ []
-
-writing-told : (g : Given) (room : ℕ) (b : Bytes) → Told writeNumbers (writing g room b)
-unfolding writing has _or_
-writing-told g room b = choose-told writeNumbers _ _ _ (refl, let z : 0 < big = omega arith in z) (choose-told writeNumbers _ _ _ (refl, let z : 0 < big = omega arith in z) tt)
+writing-told : (ks : List ℕ) (g : Given) (room : ℕ) (b : Bytes) → has ks 15 ≡ true → has ks 16 ≡ true → Told ks (writing g room b)
+unfolding writing
+writing-told ks g room b h k = choose-told ks _ _ _ (h, let z : 0 < big = omega arith in z) (choose-told ks _ _ _ (k, let z : 0 < big = omega arith in z) tt)
 
 -- The place of a broken rule is at most 5.
 failed-few : (k : ℕ) (l : List Bool) → firstFailed k l ≤ k + length l
@@ -72,26 +62,34 @@ broken-few : (old new : Program) (suite : List Coverage) (s : Sheet) → broken 
 unfolding broken
 broken-few old new suite s = omega (arith, failed-few 1 (rule1 old new s ∷ rule2 old new s ∷ rule3 old new s ∷ rule4 old new s ∷ rule5 suite s ∷ []))
 
-checking-told : (g : Given) (sheet : Bytes) → Told judgeNumbers (checking g sheet)
+checking-told : (g : Given) (sheet : Bytes) → Told (numbersOf check-sheet) (checking g sheet)
 unfolding judged allOf has _or_ _and_
 checking-told g sheet =
-    outcome-told (1 ∷ sheetNumbers) judgeNumbers _ _ refl (sheet-good (g .old) (g .new) (g .suite) sheet)
-    (λ s. choose-told judgeNumbers _ _ _ tt (refl, broken-few (g .old) (g .new) (g .suite .coverages) s))
+    outcome-told (1 ∷ sheetNumbers) (numbersOf check-sheet) _ _ refl (sheet-good (g .old) (g .new) (g .suite) sheet)
+    (λ s. choose-told (numbersOf check-sheet) _ _ _ tt (refl, broken-few (g .old) (g .new) (g .suite .coverages) s))
 
 more-told : (ks js : List ℕ) (o : Outcome) → allOf (has js) ks ≡ true → Told ks o → Told js o
 more-told ks js (wrote b) s t = tt
 more-told ks js (refusal k p) s t = (passes-of (has js) ks k s (t .0), t .1)
 
+-- Every number of a call that is lent no job.
+abbrev allNumbers : List ℕ
+allNumbers = 1 ∷ 2 ∷ 3 ∷ 4 ∷ 5 ∷ 6 ∷ 7 ∷ 8 ∷ 9 ∷ 10 ∷ 11 ∷ 12 ∷ 15 ∷ 16 ∷ []
+
 -- ---- the promises
 
+numbers-plain : allOf (between 1 lastNumber) allNumbers ≡ true
+unfolding allOf between _and_
+numbers-plain = refl
+
 -- What is told is plain, if what was written is short.
-plain : (ks : List ℕ) (o : Outcome) → allOf (between 1 16) ks ≡ true → Told ks o → ((b : Bytes) → o ≡ wrote b → length b < big) → Plain o
+plain : (o : Outcome) → Told allNumbers o → ((b : Bytes) → o ≡ wrote b → length b < big) → Plain o
 unfolding between
-plain ks (wrote b) s t h = record { zero-succeeds = λ e. (b, refl); few-numbers = omega arith; fits-beside = h b refl }
-plain ks (refusal k p) s t h =
-    let r = passes-of (between 1 16) ks k s (t .0) in
+plain (wrote b) t h = record { zero-succeeds = λ e. (b, refl); few-numbers = omega arith; fits-beside = h b refl }
+plain (refusal k p) t h =
+    let r = passes-of (between 1 lastNumber) allNumbers k numbers-plain (t .0) in
     let l : 1 ≤ k = leb-true 1 k (and-left _ _ r) in
-    record { zero-succeeds = λ e. absurd (let z : ⊥ = omega (arith, l) in z); few-numbers = leb-true k 16 (and-right _ _ r); fits-beside = t .1 }
+    record { zero-succeeds = λ e. absurd (let z : ⊥ = omega (arith, l) in z); few-numbers = leb-true k lastNumber (and-right _ _ r); fits-beside = t .1 }
 
 -- Where nothing is written, nothing long is.
 unwritten : (o : Outcome) → ((b : Bytes) → o ≡ wrote b → b ≡ []) → (b : Bytes) → o ≡ wrote b → length b < big
@@ -129,36 +127,76 @@ record-short old new tests i room b e =
       length-append d (44 ∷ marks),
     )
 
+-- ---- requests
+
+-- Each request is refused only with its numbers.
+serving-told : (q : Request) (g : Given) (input : Bytes) (room : ℕ) → Told (numbersOf q) (serving q g input room)
+unfolding serving labelling bySide has _or_
+serving-told write-sheet g input room = writing-told (numbersOf write-sheet) g room (sheetBytes g) refl refl
+serving-told (write-record i) g input room =
+    choose-told (numbersOf (write-record i)) _ _ _ (writing-told (numbersOf (write-record i)) g room (recordBytes g i) refl refl) (refl, let z : 0 < big = omega arith in z)
+serving-told check-sheet g input room = checking-told g input
+serving-told (show-label zero n) g input room = choose-told (numbersOf (show-label zero n)) _ _ _ tt (refl, let z : 0 < big = omega arith in z)
+serving-told (show-label (suc zero) n) g input room = choose-told (numbersOf (show-label (suc zero) n)) _ _ _ tt (refl, let z : 0 < big = omega arith in z)
+serving-told (show-label (suc (suc side)) n) g input room = (refl, let z : 0 < big = omega arith in z)
+serving-told no-request g input room = (refl, let z : 0 < big = omega arith in z)
+
+-- They are some of all.
+numbers-few : (q : Request) → allOf (has allNumbers) (numbersOf q) ≡ true
+unfolding allOf has _or_ _and_
+numbers-few write-sheet = refl
+numbers-few (write-record i) = refl
+numbers-few check-sheet = refl
+numbers-few (show-label side n) = refl
+numbers-few no-request = refl
+
+-- To show a label writes nothing.
+labelling-wrote : (g : Given) (side n : ℕ) (b : Bytes) → labelling g side n ≡ wrote b → b ≡ []
+unfolding labelling bySide
+labelling-wrote g zero n b e = nothing-wrote b (wrote-choose _ _ _ _ _ e .1)
+labelling-wrote g (suc zero) n b e = nothing-wrote b (wrote-choose _ _ _ _ _ e .1)
+labelling-wrote g (suc (suc side)) n b e = absurd (true≢false (let z : true ≡ false = cc in z))
+
+-- What a request writes is short.
+answering-short : (q : Request) (old new tests input : Bytes) (room : ℕ) (b : Bytes) → answering q old new tests input room ≡ wrote b → length b < big
+unfolding answering serving
+answering-short write-sheet old new tests input room b e = omega (arith, written-passes old new tests room b e .1)
+answering-short (write-record i) old new tests input room b e = omega (arith, record-short old new tests i room b e)
+answering-short check-sheet old new tests input room b e = unwritten _ (success-only _ _ (λ g. success-only _ _ (judged-wrote g))) b e
+answering-short (show-label side n) old new tests input room b e = unwritten _ (success-only _ _ (λ g. labelling-wrote g side n)) b e
+answering-short no-request old new tests input room b e = unwritten _ (success-only _ _ (λ g c f. absurd (true≢false (let z : true ≡ false = cc in z)))) b e
+
 pub plain-answers : (old new tests : Bytes) → AnswersPlain old new tests
-unfolding readOldAnswer readNewAnswer readTestsAnswer sheetAnswer recordAnswer checkAnswer allOf between has _or_ _and_
+unfolding readOldAnswer readNewAnswer readTestsAnswer answering allOf has _or_ _and_
 plain-answers old new tests =
     record {
-      of-old = plain jobNumbers _ refl (outcome-told _ jobNumbers _ _ refl (program-good old) (λ p. tt)) (unwritten _ (success-only _ _ (λ p. nothing-wrote)));
-      of-new = plain jobNumbers _ refl (outcome-told _ jobNumbers _ _ refl (program-good old) (λ p. outcome-told _ jobNumbers _ _ refl (program-good new) (λ r. tt)))
+      of-old = plain _ (outcome-told _ allNumbers _ _ refl (program-good old) (λ p. tt)) (unwritten _ (success-only _ _ (λ p. nothing-wrote)));
+      of-new = plain _ (outcome-told _ allNumbers _ _ refl (program-good old) (λ p. outcome-told _ allNumbers _ _ refl (program-good new) (λ r. tt)))
           (unwritten _ (success-only _ _ (λ p. success-only _ _ (λ r. nothing-wrote))));
-      of-tests = plain jobNumbers _ refl (outcome-told _ jobNumbers _ _ refl (job-good old new tests) (λ g. tt)) (unwritten _ (success-only _ _ (λ g. nothing-wrote)));
-      of-sheet = λ room.
-          plain writeNumbers _ refl (outcome-told _ writeNumbers _ _ refl (job-good old new tests) (λ g. writing-told g room (sheetBytes g))) (λ b e. omega (arith, written-passes old new tests room b e .1));
-      of-record = λ i room.
-          plain writeNumbers _ refl
-          (outcome-told _ writeNumbers _ _ refl (job-good old new tests) (λ g. choose-told writeNumbers _ _ _ (writing-told g room (recordBytes g i)) (refl, let z : 0 < big = omega arith in z)))
-          (λ b e. omega (arith, record-short old new tests i room b e));
-      of-check = λ sheet.
-          plain checkNumbers _ refl (outcome-told _ checkNumbers _ _ refl (job-good old new tests) (λ g. more-told judgeNumbers checkNumbers (checking g sheet) refl (checking-told g sheet)))
-          (unwritten _ (success-only _ _ (λ g. success-only _ _ (judged-wrote g))));
+      of-tests = plain _ (outcome-told _ allNumbers _ _ refl (job-good old new tests) (λ g. tt)) (unwritten _ (success-only _ _ (λ g. nothing-wrote)));
+      of-request = λ q input room.
+          plain _
+          (outcome-told _ allNumbers _ _ refl (job-good old new tests) (λ g. more-told (numbersOf q) allNumbers (serving q g input room) (numbers-few q) (serving-told q g input room)))
+          (λ b e. answering-short q old new tests input room b e);
     }
+
+-- A request, where the texts are accepted.
+pub answered : (q : Request) (old new tests input : Bytes) (room : ℕ) (g : Given) → readJob old new tests ≡ accepted g → answering q old new tests input room ≡ serving q g input room
+unfolding answering outcome
+answered q old new tests input room g e = ap (λ (a : Answer Given). outcome a (λ x. serving q x input room)) e
 
 -- The check, where the texts are accepted.
 pub checked : (old new tests sheet : Bytes) (g : Given) → readJob old new tests ≡ accepted g → checkAnswer old new tests sheet ≡ checking g sheet
-unfolding checkAnswer outcome
-checked old new tests sheet g e = ap (λ (a : Answer Given). outcome a (λ x. checking x sheet)) e
+unfolding serving
+checked old new tests sheet g e = answered check-sheet old new tests sheet 0 g e
 
 pub numbers-given : NumbersGiven
 numbers-given =
     record {
       of-program = λ text k p e. good-number Any (1 ∷ programNumbers) (readProgram text) k p (program-good text) e;
       of-tests = λ m text k p e. good-number Any (1 ∷ suiteNumbers) (readSuite m text) k p (suite-good m text) e;
-      of-check = λ old new tests sheet g r k p e. told-number judgeNumbers (checking g sheet) k p (checking-told g sheet) (sym (checked old new tests sheet g r) ∙ e);
+      of-request = λ q old new tests input room g r k p e.
+          told-number (numbersOf q) (serving q g input room) k p (serving-told q g input room) (sym (answered q old new tests input room g r) ∙ e);
     }
 
 -- A refusal with 1 is that of reading the sheet.

@@ -17,7 +17,7 @@ use Rattle.rules.specs.Graph.{Program}
 use Rattle.rules.specs.SuiteFile.{Suite}
 use Rattle.rules.specs.Sheet.{Sheet, SheetLine, SheetRead, d-line, end-line, finishSheet, head-line, m-line, no-form, noSheet, r-line, readSheet, sheetForm, sheetLines, sheetText, stepSheet, takeSheetLine, testOf}
 use Rattle.rules.specs.Check.{broken}
-use Rattle.rules.specs.Job.{Given, Outcome, checkAnswer, checking, judged, numberOf, outcome, passed, readJob, refusal}
+use Rattle.rules.specs.Job.{Given, Outcome, answering, checkAnswer, checking, judged, numberOf, outcome, passed, readJob, refusal, serving}
 use Rattle.rules.specs.Promises.{Breaks, ClaimsFalse, LineAbove, LineMissing, fiveRules, isM, mCount}
 use Rattle.rules.specs.Proofs.Numbers.{Any, Good, job-good, jobNumbers, sheet-good, sheetNumbers}
 use Rattle.rules.specs.Proofs.Answers.{checked}
@@ -68,7 +68,7 @@ judged-false g c p e = go (broken (g .old) (g .new) (g .suite .coverages) c) (eq
     go b false h q = (refusal-place q, λ z. both-ways (eq-eqb b 0 (refusal-place q ∙ z)) h)
 
 pub claims-false : ClaimsFalse
-unfolding checkAnswer outcome judged broken has _or_
+unfolding answering serving outcome judged broken has _or_
 claims-false old new tests sheet p = (there, back)
   where
     there : checkAnswer old new tests sheet ≡ refusal 12 p → Breaks old new tests sheet p

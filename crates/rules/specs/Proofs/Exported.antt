@@ -9,7 +9,7 @@ use lib.Seq.{take-append-seam}
 use Rattle.rules.specs.Text.{Bytes}
 use Rattle.rules.specs.SuiteFile.{testName}
 use Rattle.rules.specs.Sheet.{leftOff}
-use Rattle.rules.specs.Job.{Outcome, outputAfter, packed, passed, refusal, wrote}
+use Rattle.rules.specs.Job.{Outcome, check-sheet, outputAfter, packed, passed, refusal, write-record, write-sheet, wrote}
 use Rattle.rules.specs.Promises.{AnswersPlain, Demand3, ExportedDemand3, Plain, Unpacks}
 
 -- ---- number and place
@@ -34,7 +34,7 @@ nothing [] e = refl
 nothing (x ∷ b) e = absurd (let z : ⊥ = omega arith in z)
 
 -- 0 is success with nothing written.
-zero-passed : (o : Outcome) → Plain o → packed o ≡ 0 → o ≡ passed
+pub zero-passed : (o : Outcome) → Plain o → packed o ≡ 0 → o ≡ passed
 zero-passed o h e =
     let w = returned o h [] .success-below (omega (arith, e)) in
     w .1 ∙ ap wrote (nothing (w .0) (omega (arith, w .2, e)))
@@ -52,16 +52,16 @@ pub exported {ℓ κ} : (St : Type ℓ) (Out : Type κ) (old new tests : Bytes) 
 unfolding packed
 exported St Out old new tests d a =
     record {
-      checker = λ sheet r e z. d .checker sheet (zero-passed _ (a .of-check sheet) (sym e ∙ z));
+      checker = λ sheet r e z. d .checker sheet (zero-passed _ (a .of-request check-sheet sheet 0) (sym e ∙ z));
       passes = λ out out′ r e l s.
-          let w = written _ (a .of-sheet (length out)) out out′ r e l s in
+          let w = written _ (a .of-request write-sheet [] (length out)) out out′ r e l s in
           (w .0, w .1, w .2, w .3, ap packed (d .passes (length out) (w .0) (w .1) .0));
       unlisted = λ out out′ r e l s g j i h.
-          let w = written _ (a .of-sheet (length out)) out out′ r e l s in
+          let w = written _ (a .of-request write-sheet [] (length out)) out out′ r e l s in
           let f : take r out′ ≡ w .0 = ap₂ (λ (k : ℕ) (x : Bytes). take k x) (w .2) (w .3) ∙ take-append-seam (w .0) (drop r out) in
           d .unlisted (length out) (w .0) (w .1) g j i (subst (λ (x : Bytes). leftOff x (testName (g .suite) i) ≡ true) f h);
       marked = λ i out out′ r e l s.
-          let w = written _ (a .of-record i (length out)) out out′ r e l s in
+          let w = written _ (a .of-request (write-record i) [] (length out)) out out′ r e l s in
           let m = d .marked i (length out) (w .0) (w .1) in
           (m .0, m .1, m .2, m .3, w .2 ∙ ap length (m .4), w .3 ∙ ap (λ (x : Bytes). x ++ drop r out) (m .4), m .5);
     }

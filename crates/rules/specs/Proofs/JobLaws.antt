@@ -18,7 +18,7 @@ use Rattle.rules.specs.SuiteFile.{Suite, testCount, testName, coverageAt
 use Rattle.rules.specs.Closing.{pairs, repeated, Coverage, holds, Mark, mark-0, mark-1, mark-?, mark}
 use Rattle.rules.specs.Sheet.{Sheet, selected, rLine, sheetText, markByte, marksOf, crossed, vLine, recordText, among, leftOff, SheetLine, head-line, m-line, d-line, r-line, end-line, no-form, sheetForm, SheetRead, noSheet, allBelow, testOf, going, addR, takeSheetLine, stepSheet, finishSheet, readSheet}
 use Rattle.rules.specs.Check.{broken}
-use Rattle.rules.specs.Job.{Given, readJob, Outcome, wrote, refusal, passed, outcome, writing, sheetBytes, recordBytes, sheetAnswer, recordAnswer, judged, checkAnswer}
+use Rattle.rules.specs.Job.{Given, readJob, Outcome, wrote, refusal, passed, outcome, writing, sheetBytes, recordBytes, sheetAnswer, recordAnswer, judged, checkAnswer, serving, answering}
 use Rattle.rules.specs.Promises.{RunsAlike, MarksTrue}
 use Rattle.rules.specs.Proofs.Lockstep.{checked}
 use Rattle.rules.specs.Proofs.Marks.{marks-true}
@@ -184,7 +184,7 @@ pub record Passed (old new tests sheet : Bytes) : Type 0 where
   pub unbroken : broken (given .old) (given .new) (given .suite .coverages) claims ≡ 0
 
 pub check-passed : (old new tests sheet : Bytes) → checkAnswer old new tests sheet ≡ passed → Passed old new tests sheet
-unfolding checkAnswer judged
+unfolding answering serving judged
 check-passed old new tests sheet e =
     let u = outcome-wrote _ _ _ e in
     let v = outcome-wrote _ _ _ (u .2) in
@@ -192,7 +192,7 @@ check-passed old new tests sheet e =
 
 pub passed-check : (old new tests sheet : Bytes) (g : Given) (s : Sheet) → readJob old new tests ≡ accepted g → readSheet (g .old) (g .new) (g .suite) sheet ≡ accepted s
     → broken (g .old) (g .new) (g .suite .coverages) s ≡ 0 → checkAnswer old new tests sheet ≡ passed
-unfolding checkAnswer judged outcome
+unfolding answering serving judged outcome
 passed-check old new tests sheet g s a b c = rw (a, b) (choose-yes _ _ (eq-eqb _ _ c))
 
 -- The check of a sheet passes. Then the texts give programs and tests, and every test with no R line on the sheet runs the same in both.
@@ -245,7 +245,7 @@ byte-zero mark-? e = absurd (let z : ⊥ = omega arith in z)
 -- What a written sheet and a written record line are.
 pub sheet-wrote : (old new tests : Bytes) (room : ℕ) (b : Bytes) → sheetAnswer old new tests room ≡ wrote b
     → (g : Given) × (readJob old new tests ≡ accepted g) × (length (pairs (g .old) (g .new)) ≤ maxPairs) × (length b ≤ room) × (sheetBytes g ≡ b)
-unfolding sheetAnswer
+unfolding answering serving
 sheet-wrote old new tests room b e =
     let u = outcome-wrote _ _ _ e in
     let v = writing-wrote _ _ _ _ (u .2) in
@@ -253,7 +253,7 @@ sheet-wrote old new tests room b e =
 
 pub record-wrote : (old new tests : Bytes) (i room : ℕ) (b : Bytes) → recordAnswer old new tests i room ≡ wrote b
     → (g : Given) × (readJob old new tests ≡ accepted g) × (i < testCount (g .suite)) × (recordBytes g i ≡ b)
-unfolding recordAnswer
+unfolding answering serving
 record-wrote old new tests i room b e =
     let u = outcome-wrote _ _ _ e in
     let w = wrote-choose _ _ _ _ _ (u .2) in

@@ -3,14 +3,14 @@ use mathlib.Core.Path.{_≡_, refl, ap, _∙_}
 use mathlib.Core.List.{[]}
 use Prim.Native.Nat.{ℕ, zero, suc, _<_}
 use native.Mathlib.Omega.{arith}
-use borrow.Author.Tests.{le-ltb, lt-ltb}
+use borrow.Author.Tests.{le-ltb, lt-ltb, ne-eqb}
 use Rattle.laws.specs.Lists.{choose-yes, choose-no}
 use Rattle.rules.specs.Text.{Answer, Bytes, then}
 use Rattle.rules.specs.Graph.{Program, nodeCount}
 use Rattle.rules.specs.ProgramFile.{readProgram}
-use Rattle.rules.specs.SuiteFile.{testCount}
-use Rattle.rules.specs.Job.{Given, Outcome, Version, bySide, checkAnswer, isNodeOfVersion, labelAnswer, labelShown, outcome, readJob, readNewAnswer, readOldAnswer, readTestsAnswer, recordAnswer, recording, refusal, sheetAnswer, success}
-use Rattle.rules.specs.Promises.{LabelsAnswered, RecordUnnamed, TextsRead, TextsRefused}
+use Rattle.rules.specs.SuiteFile.{TestListing, testCount}
+use Rattle.rules.specs.Job.{Given, Outcome, Request, Version, answering, bySide, hasNode, labelShown, labelling, no-request, outcome, readJob, readNewAnswer, readOldAnswer, readTestsAnswer, recording, refusal, requestBy, serving, success}
+use Rattle.rules.specs.Promises.{LabelsAnswered, RecordUnnamed, RequestUnnamed, TextsRead, TextsRefused, labelTold}
 
 -- ---- texts
 
@@ -28,20 +28,33 @@ texts-in-order old new tests =
 
 -- Where reading the texts refuses, that is the answer.
 pub texts-first : TextsRefused
-unfolding readTestsAnswer sheetAnswer recordAnswer checkAnswer outcome
+unfolding readTestsAnswer answering outcome
 texts-first old new tests k p e =
     let at : (f : Given → Outcome) → outcome (readJob old new tests) f ≡ refusal k p = λ f. ap (λ (a : Answer Given). outcome a f) e in
-    record { of-tests = at _; of-sheet = λ room. at _; of-record = λ i room. at _; of-check = λ sheet. at _ }
+    record { of-tests = at _; of-request = λ q input room. at _ }
 
 -- ---- a call's own numbers
 
 pub no-test : RecordUnnamed
-unfolding recordAnswer outcome
+unfolding answering serving outcome
 no-test old new tests g e i room l = ap (λ (x : Answer Given). outcome x (λ h. recording h i room)) e ∙ choose-no _ _ (le-ltb i (testCount (g .suite)) l)
 
-pub labels-answered : (old new : Version) → LabelsAnswered old new
-unfolding labelAnswer labelShown bySide isNodeOfVersion
-labels-answered old new =
+no-number : (n a b : ℕ) → 3 < n → requestBy n a b ≡ no-request
+unfolding requestBy
+no-number n a b l =
+    choose-no _ _ (ne-eqb n 0 (λ e. let z : ⊥ = omega arith in z))
+    ∙ choose-no _ _ (ne-eqb n 1 (λ e. let z : ⊥ = omega arith in z))
+    ∙ choose-no _ _ (ne-eqb n 2 (λ e. let z : ⊥ = omega arith in z))
+    ∙ choose-no _ _ (ne-eqb n 3 (λ e. let z : ⊥ = omega arith in z))
+
+pub no-such-request : RequestUnnamed
+unfolding answering serving outcome
+no-such-request old new tests g e n a b input room l =
+    ap (λ (q : Request). answering q old new tests input room) (no-number n a b l) ∙ ap (λ (x : Answer Given). outcome x (λ h. refusal 6 0)) e
+
+pub labels-answered : (old new : Version) (tests : TestListing) → LabelsAnswered old new tests
+unfolding labelling labelShown bySide hasNode
+labels-answered old new tests =
     record {
       old-shown = λ n h. let t = lt-ltb n (nodeCount (old .listing .program)) h in (choose-yes _ _ t, choose-yes _ _ t);
       new-shown = λ n h. let t = lt-ltb n (nodeCount (new .listing .program)) h in (choose-yes _ _ t, choose-yes _ _ t);
@@ -50,7 +63,7 @@ labels-answered old new =
       no-side = other-side;
     }
   where
-    other-side : (side n : ℕ) → 1 < side → (labelAnswer old new side n ≡ refusal 6 0) × (labelShown old new side n ≡ [])
+    other-side : (side n : ℕ) → 1 < side → (labelTold old new tests side n ≡ refusal 6 0) × (labelShown old new side n ≡ [])
     other-side zero n h = absurd (let z : ⊥ = omega arith in z)
     other-side (suc zero) n h = absurd (let z : ⊥ = omega arith in z)
     other-side (suc (suc s)) n h = (refl, refl)

@@ -11,7 +11,7 @@ use Rattle.laws.specs.Lists.{choose-yes, choose-no}
 use Rattle.rules.specs.Text.{Answer, Bytes, maxPairs}
 use Rattle.rules.specs.SuiteFile.{testCount}
 use Rattle.rules.specs.Closing.{pairs}
-use Rattle.rules.specs.Job.{Given, Outcome, outcome, recordAnswer, recordBytes, recording, refusal, sheetAnswer, sheetBytes, writing, wrote}
+use Rattle.rules.specs.Job.{Given, Outcome, answering, outcome, recordBytes, recording, refusal, serving, sheetBytes, writing, wrote}
 use Rattle.rules.specs.Promises.{Writes, WritesExactly}
 use Rattle.rules.specs.Proofs.JobLaws.{never-wrote, writing-wrote}
 
@@ -58,7 +58,7 @@ told : {g : Given} {room : ℕ} {b : Bytes} {o p : Outcome} → p ≡ o → Writ
 told {g} {room} {b} e w = subst (Writes g room b) (sym e) w
 
 pub written-exactly : WritesExactly
-unfolding sheetAnswer recordAnswer outcome
+unfolding answering serving outcome
 written-exactly old new tests g e room = (
   told (ap (λ (x : Answer Given). outcome x (λ h. writing h room (sheetBytes h))) e) (writing-exact g room (sheetBytes g)),
   λ i l. told (ap (λ (x : Answer Given). outcome x (λ h. recording h i room)) e ∙ choose-yes _ _ (lt-ltb i (testCount (g .suite)) l)) (writing-exact g room (recordBytes g i)),

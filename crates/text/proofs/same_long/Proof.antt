@@ -1,9 +1,8 @@
 use borrow.Author.Needs.{needs}
-use Rattle.text.proofs.Laws.{all}
+use Rattle.text.proofs.Laws.{all, before-on}
 use Prim.Native.Nat.{_≤_}
 use mathlib.Core.Path.{_≡_}
 use lib.ListN.{length, drop}
-use Rattle.text.proofs.Laws.{before-on}
 use Rattle.text.proofs.same_long.Statement.{statement}
 use Rattle.text.proofs.same_long.Tie as tie
 

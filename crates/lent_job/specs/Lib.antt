@@ -1,0 +1,12 @@
+pub mod Held
+pub mod HeldLaws
+pub mod ReadOld
+pub mod ReadLaws
+pub mod ReadNew
+pub mod ReadTests
+pub mod Stages
+pub mod Progress
+pub mod Calls
+pub mod DueLaws
+pub mod Answers
+pub mod Chain
