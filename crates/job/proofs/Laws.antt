@@ -59,14 +59,14 @@ due-chosen a false = refl
 
 -- ---- `fresh_due` and `old_due`
 
-module _ (j : Job) (u : Bool) (e : u ≡ sameJob j fresh) where
+module _ (j s : Job) (es : s ≡ fresh) (u : Bool) (e : u ≡ sameJob j s) where
   pub fresh-yes : u ≡ true → 0 ≡ freshDue j
   unfolding freshDue choose
-  fresh-yes t = simp (← e, t)
+  fresh-yes t = simp (← es, ← e, t)
 
   pub fresh-no : u ≡ false → 14 ≡ freshDue j
   unfolding freshDue choose
-  fresh-no t = simp (← e, t)
+  fresh-no t = simp (← es, ← e, t)
 
 module _ (j : Job) (n l w : ℕ) where
   pub due-stage : (j .stage ≡ 0 → ⊥) → 13 ≡ oldDue j n l w

@@ -54,16 +54,7 @@ fn long_enough(a: usize, b: usize, x: usize, y: usize, work: usize) -> bool
 fn fresh_due(job: Job) -> usize
     ensures { λ r. ⌜ r ≡ freshDue job ⌝ }
 {
-    let start = Job {
-        stage: 0,
-        old_procs: 0,
-        old_nodes: 0,
-        old_edges: 0,
-        new_procs: 0,
-        new_nodes: 0,
-        new_edges: 0,
-        tests: 0,
-    };
+    let start = records::fresh_job();
     if records::same_job(job, start) {
         return 0;
     }
@@ -101,7 +92,13 @@ fn with_old(had: Count) -> Job
 
 // Reads the old program, for `room` records of nodes: its links go to `lent`, and the numbers of its nodes stay in the scratch. What else the
 // scratch holds afterwards is left open.
-pub fn take_old(job: Job, room: usize, old: &[u8], lent: &mut [usize], scratch: &mut [usize]) -> Taken
+pub fn take_old(
+    job: Job,
+    room: usize,
+    old: &[u8],
+    lent: &mut [usize],
+    scratch: &mut [usize],
+) -> Taken
     ensures { λ r. ⌜ OldTaken job room (now (old .entry)) r (now (lent .entry)) (now (lent .exit)) (length (now (scratch .entry))) (now (scratch .exit)) ⌝ }
 {
     let due = old_due(job, room, lent.len(), scratch.len());

@@ -133,11 +133,11 @@ pub fn store(scratch: &mut [usize], n: usize, nodes: &mut [Node])
 
 // ---- the job
 
-// Makes the job a fresh one.
-pub fn reset(job: &mut Job)
-    ensures { λ _. ⌜ now (job .exit) ≡ fresh ⌝ }
+// The fresh job, at stage 0.
+pub fn fresh_job() -> Job
+    ensures { λ r. ⌜ r ≡ fresh ⌝ }
 {
-    *job = Job {
+    Job {
         stage: 0,
         old_procs: 0,
         old_nodes: 0,
@@ -146,7 +146,7 @@ pub fn reset(job: &mut Job)
         new_nodes: 0,
         new_edges: 0,
         tests: 0,
-    };
+    }
 }
 
 // Whether two jobs are the same.

@@ -1,17 +1,16 @@
 -- The returns of the calls.
 use mathlib.Core.Path.{_≡_, refl, sym, ap, ap₂, _∙_, subst}
 use mathlib.Core.List.{List, []}
-use Prim.Native.Nat.{ℕ, _+_, _*_, _≤_, _<_}
+use Prim.Native.Nat.{ℕ}
 use native.Mathlib.Omega.{arith}
 use lib.ListN.{length}
 use Rattle.rules.specs.Text.{Answer as Read, Bytes, accepted, refused}
 use Rattle.rules.specs.ProgramFile.{Listing, readListing, readProgram}
 use Rattle.rules.specs.Graph.{Program}
-use Rattle.rules.specs.Job.{Given, Outcome, Request as Asked, answering, checkAnswer, lastNumber, outcome, outputAfter, packed, readJob, readNewAnswer, readOldAnswer, readTestsAnswer, recordAnswer, refusal, serving, sheetAnswer, success}
-use Rattle.rules.specs.Promises.{Plain}
+use Rattle.rules.specs.Job.{Given, Outcome, Request as Asked, answering, check-sheet, checkAnswer, outcome, outputAfter, packed, readJob, readNewAnswer, readOldAnswer, readTestsAnswer, recordAnswer, refusal, serving, sheetAnswer, success, write-record, write-sheet}
 use Rattle.rules.specs.Proofs.Answers.{plain-answers}
 use Rattle.answer.specs.declared.Answer.{Answer}
-use Rattle.answer.specs.Outcomes.{Answered, Told, answered-as, refusal-told, told-as}
+use Rattle.answer.specs.Outcomes.{Answered, Told, answered-as, packing, packs, refusal-told, told-as}
 use Rattle.reader.specs.declared.Count.{Count}
 use Rattle.reader.specs.Result.{ReadInto, Told as ReaderTold, linksOf}
 use Rattle.versions.specs.Memory.{memory}
@@ -21,16 +20,6 @@ use Rattle.intake.proofs.Laws.{program-of, program-refused}
 use Rattle.work.specs.Work.{Done}
 use Rattle.requests.specs.declared.Request.the-variants.{Check, Record, Sheet}
 use Rattle.requests.specs.Requests.{Served, asked}
-use Rattle.requests.proofs.Laws.{asks-most}
-
--- ---- packing
-
-packs : (x : Outcome) (a : Answer) (r : ℕ) → Answered x a → r ≡ a .number * 4294967296 + a .place → r ≡ packed x
-unfolding packed
-packs x a r n e = e ∙ ap₂ (λ (k q : ℕ). k * 4294967296 + q) (n .number-is) (n .place-is)
-
-fits : (x : Outcome) (a : Answer) → Plain x → Answered x a → (a .number ≤ lastNumber) × (a .place < 4294967296)
-fits x a p n = (omega (arith, n .number-is, p .few-numbers), omega (arith, n .place-is, p .fits-beside))
 
 -- A number and a place are those of an outcome.
 abbrev Numbered : Outcome → ℕ → ℕ → Type 0
@@ -78,23 +67,14 @@ new-numbered old new o r w w′ h z n =
     answered-as (outcome-goes (readProgram old) (λ q. outcome (readProgram new) (λ q. success)) (p .0) (p .1))
     (told-program new (readListing new) r w′ refl (n .told) (λ q. success) (λ p e d q. succeeded (r .number) (r .place) e d))
 
-pub old-fits : (old : Bytes) (r : Count) (w : List ℕ) → ReadInto old r w → (r .number ≤ lastNumber) × (r .place < 4294967296)
-old-fits old r w h = fits (readOldAnswer old) _ (plain-answers old [] [] .of-old) (old-numbered old r w h)
+pub old-packs : (old : Bytes) (r : Count) (w : List ℕ) (x : ℕ) → ReadInto old r w → x ≡ packing (r .number) (r .place) → x ≡ packed (readOldAnswer old)
+old-packs old r w x h e = e ∙ packs (readOldAnswer old) _ (plain-answers old [] [] .of-old) (old-numbered old r w h)
 
-pub old-packs : (old : Bytes) (r : Count) (w : List ℕ) (x : ℕ) → ReadInto old r w → x ≡ r .number * 4294967296 + r .place → x ≡ packed (readOldAnswer old)
-old-packs old r w x h e = packs (readOldAnswer old) _ x (old-numbered old r w h) e
+pub new-stop-packs : (old new : Bytes) (r : Count) (w : List ℕ) (x : ℕ) → ReadInto old r w → (r .number ≡ 0 → ⊥) → x ≡ packing (r .number) (r .place) → x ≡ packed (readNewAnswer old new)
+new-stop-packs old new r w x h z e = e ∙ packs (readNewAnswer old new) _ (plain-answers old new [] .of-new) (new-stopped old new r w h z)
 
-pub new-stop-fits : (old new : Bytes) (r : Count) (w : List ℕ) → ReadInto old r w → (r .number ≡ 0 → ⊥) → (r .number ≤ lastNumber) × (r .place < 4294967296)
-new-stop-fits old new r w h z = fits (readNewAnswer old new) _ (plain-answers old new [] .of-new) (new-stopped old new r w h z)
-
-pub new-stop-packs : (old new : Bytes) (r : Count) (w : List ℕ) (x : ℕ) → ReadInto old r w → (r .number ≡ 0 → ⊥) → x ≡ r .number * 4294967296 + r .place → x ≡ packed (readNewAnswer old new)
-new-stop-packs old new r w x h z e = packs (readNewAnswer old new) _ x (new-stopped old new r w h z) e
-
-pub new-fits : (old new : Bytes) (o r : Count) (w w′ : List ℕ) → ReadInto old o w → o .number ≡ 0 → ReadInto new r w′ → (r .number ≤ lastNumber) × (r .place < 4294967296)
-new-fits old new o r w w′ h z n = fits (readNewAnswer old new) _ (plain-answers old new [] .of-new) (new-numbered old new o r w w′ h z n)
-
-pub new-packs : (old new : Bytes) (o r : Count) (w w′ : List ℕ) (x : ℕ) → ReadInto old o w → o .number ≡ 0 → ReadInto new r w′ → x ≡ r .number * 4294967296 + r .place → x ≡ packed (readNewAnswer old new)
-new-packs old new o r w w′ x h z n e = packs (readNewAnswer old new) _ x (new-numbered old new o r w w′ h z n) e
+pub new-packs : (old new : Bytes) (o r : Count) (w w′ : List ℕ) (x : ℕ) → ReadInto old o w → o .number ≡ 0 → ReadInto new r w′ → x ≡ packing (r .number) (r .place) → x ≡ packed (readNewAnswer old new)
+new-packs old new o r w w′ x h z n e = e ∙ packs (readNewAnswer old new) _ (plain-answers old new [] .of-new) (new-numbered old new o r w w′ h z n)
 
 -- ---- whole jobs
 
@@ -117,11 +97,8 @@ module _ (old ow new nw tt tests rows : List ℕ) (had : Texts) (j : JobRead old
   unfolding readTestsAnswer
   tests-numbered = tests-at (readJob old new tt) (j .told)
 
-  pub tests-fits : (had .number ≤ lastNumber) × (had .place < 4294967296)
-  tests-fits = fits (readTestsAnswer old new tt) _ (plain-answers old new tt .of-tests) tests-numbered
-
-  pub tests-packs : (x : ℕ) → x ≡ had .number * 4294967296 + had .place → x ≡ packed (readTestsAnswer old new tt)
-  tests-packs x e = packs (readTestsAnswer old new tt) _ x tests-numbered e
+  pub tests-packs : (x : ℕ) → x ≡ packing (had .number) (had .place) → x ≡ packed (readTestsAnswer old new tt)
+  tests-packs x e = e ∙ packs (readTestsAnswer old new tt) _ (plain-answers old new tt .of-tests) tests-numbered
 
   -- A job that is refused, and one that goes on with f.
   job-stop : (f : Given → Outcome) (out : Bytes) → (had .number ≡ 0 → ⊥) → Told (outcome (readJob old new tt) f) (record { number = had .number; place = had .place }) out out
@@ -149,25 +126,22 @@ module _ (old ow new nw tt tests rows : List ℕ) (had : Texts) (j : JobRead old
 -- ---- packed answers of requests
 
 module _ (old new tt input : Bytes) (a : Answer) (out out′ : Bytes) where
-  pub whole-fits : (q : Asked) → Told (answering q old new tt input (length out)) a out out′ → (a .number ≤ lastNumber) × (a .place < 4294967296)
-  whole-fits q t = fits _ a (plain-answers old new tt .of-request q input (length out)) (t .answered)
+  told-packs : (q : Asked) (r : ℕ) → Told (answering q old new tt input (length out)) a out out′ → r ≡ packing (a .number) (a .place)
+      → (r ≡ packed (answering q old new tt input (length out))) × (out′ ≡ outputAfter (answering q old new tt input (length out)) out)
+  told-packs q r t e = (e ∙ packs _ a (plain-answers old new tt .of-request q input (length out)) (t .answered), t .output-is)
 
-  told-packs : (x : Outcome) (r : ℕ) → Told x a out out′ → r ≡ a .number * 4294967296 + a .place → (r ≡ packed x) × (out′ ≡ outputAfter x out)
-  told-packs x r t e = (packs x a r (t .answered) e, t .output-is)
-
-  pub sheet-packs : (r : ℕ) → Told (answering (asked Sheet) old new tt input (length out)) a out out′ → r ≡ a .number * 4294967296 + a .place
+  pub sheet-packs : (r : ℕ) → Told (answering (asked Sheet) old new tt input (length out)) a out out′ → r ≡ packing (a .number) (a .place)
       → (r ≡ packed (sheetAnswer old new tt (length out))) × (out′ ≡ outputAfter (sheetAnswer old new tt (length out)) out)
   unfolding answering serving asked
-  sheet-packs r t e = told-packs (sheetAnswer old new tt (length out)) r t e
+  sheet-packs r t e = told-packs write-sheet r t e
 
-  pub record-packs : (i r : ℕ) → Told (answering (asked (Record i)) old new tt input (length out)) a out out′ → r ≡ a .number * 4294967296 + a .place
+  pub record-packs : (i r : ℕ) → Told (answering (asked (Record i)) old new tt input (length out)) a out out′ → r ≡ packing (a .number) (a .place)
       → (r ≡ packed (recordAnswer old new tt i (length out))) × (out′ ≡ outputAfter (recordAnswer old new tt i (length out)) out)
   unfolding answering serving asked
-  record-packs i r t e = told-packs (recordAnswer old new tt i (length out)) r t e
+  record-packs i r t e = told-packs (write-record i) r t e
 
-  pub check-packs : (r : ℕ) → Told (answering (asked Check) old new tt input (length out)) a out out′ → r ≡ a .number * 4294967296 + a .place → r ≡ packed (checkAnswer old new tt input)
+  pub check-packs : (r : ℕ) → Told (answering (asked Check) old new tt input (length out)) a out out′ → r ≡ packing (a .number) (a .place) → r ≡ packed (checkAnswer old new tt input)
   unfolding answering serving asked
-  check-packs r t e = told-packs (checkAnswer old new tt input) r t e .0
+  check-packs r t e = told-packs check-sheet r t e .0
 
-pub ruleset all =
-    (old-fits, old-packs, new-stop-fits, new-stop-packs, new-fits, new-packs, tests-fits, tests-packs, whole-stop, whole-goes, whole-fits, sheet-packs, record-packs, check-packs, asks-most)
+pub ruleset all = (old-packs, new-stop-packs, new-packs, tests-packs, whole-stop, whole-goes, sheet-packs, record-packs, check-packs)

@@ -1,22 +1,25 @@
-// The calls for host programs in C. Each takes texts, numbers and an output, runs a whole job in its own frame and returns
-// number * 4,294,967,296 + place: the number is 0 for success, and the place is then how many bytes were written. They answer for every text,
-// number and output; a refusal leaves the output as it was.
+// The calls for host programs in C. They return number * 4,294,967,296 + place: the number is 0 for success, and the place is then how many
+// bytes were written. Those of the first part take texts, numbers and an output and run a whole job in their own frames. Those of the second
+// part are the calls of a lent job: they work over a job record, nodes, tables and scratch that the caller lends. They answer for every text,
+// number and lent memory.
 use answer::Answer;
+use answer::pack;
+use records::Job;
+use records::Node;
 use requests::Request;
 ghost use mathlib.Core.Path.{_≡_};
-ghost use Prim.Native.Nat.{_+_, _*_, _≤_, _<_};
 ghost use lib.ListN.{length};
-ghost use Rattle.rules.specs.Job.{answering, checkAnswer, lastNumber, outputAfter, packed, readNewAnswer, readOldAnswer, readTestsAnswer, recordAnswer, sheetAnswer};
+ghost use Rattle.rules.specs.Job.{answering, checkAnswer, outputAfter, packed, readNewAnswer, readOldAnswer, readTestsAnswer, recordAnswer, requestBy, sheetAnswer};
 ghost use Rattle.answer.specs.Outcomes.{Told};
 ghost use Rattle.requests.specs.Requests.{asked};
+ghost use Rattle.records.specs.Jobs.{fresh};
+ghost use Rattle.lent_job.specs.Held.{lent};
+ghost use Rattle.lent_job.specs.ReadOld.{ReadOld};
+ghost use Rattle.lent_job.specs.ReadNew.{ReadNew};
+ghost use Rattle.lent_job.specs.ReadTests.{ReadTests};
+ghost use Rattle.lent_job.specs.Calls.{Called, Found, labelSpanCall, lentCall, lentJob};
 
-// Number and place in one number.
-fn pack(number: usize, place: usize) -> u64
-    requires { ⌜ (number ≤ lastNumber) × (place < 4294967296) ⌝ }
-    ensures { λ r. ⌜ r ≡ number * 4294967296 + place ⌝ }
-{
-    number as u64 * 4294967296 + place as u64
-}
+// ==== whole jobs
 
 // ---- reading
 
@@ -130,4 +133,179 @@ pub extern "C" fn ry_check(old: &[u8], new: &[u8], tt: &[u8], sheet: &[u8]) -> u
     let mut none = [0u8; 0];
     let a = whole_job(old, new, tt, Request::Check, sheet, &mut none);
     pack(a.number, a.place)
+}
+
+// ==== the lent job: after a refusal the job and the tables are as they were; the scratch is zero after every call
+
+// Makes the job a fresh one, at stage 0.
+#[no_mangle]
+pub extern "C" fn ry_job_reset(job: &mut Job)
+    ensures { λ _. ⌜ now (job .exit) ≡ fresh ⌝ }
+{
+    *job = records::fresh_job();
+}
+
+// Reads the old program, at stage 0, into `nodes` and `links`.
+#[no_mangle]
+pub extern "C" fn ry_job_read_old(
+    job: &mut Job,
+    old: &[u8],
+    nodes: &mut [Node],
+    links: &mut [usize],
+    scratch: &mut [usize],
+) -> u64
+    ensures { λ r. ⌜ ReadOld (now (job .entry)) (now (old .entry)) (now (nodes .entry)) (now (links .entry)) (now (scratch .entry)) r (now (job .exit)) (now (nodes .exit)) (now (links .exit)) (now (scratch .exit)) ⌝ }
+{
+    let r = job::take_old(*job, nodes.len(), old, links, scratch);
+    records::store(scratch, r.nodes, nodes);
+    *job = r.job;
+    pack(r.number, r.place)
+}
+
+// Reads the new program, at stage 1, with the old version as it was read.
+#[no_mangle]
+pub extern "C" fn ry_job_read_new(
+    job: &mut Job,
+    old: &[u8],
+    old_nodes: &[Node],
+    old_links: &[usize],
+    new: &[u8],
+    nodes: &mut [Node],
+    links: &mut [usize],
+    scratch: &mut [usize],
+) -> u64
+    ensures { λ r. ⌜ ReadNew (now (job .entry)) (lent (now (old .entry)) (now («old_nodes» .entry)) (now («old_links» .entry))) (now (new .entry)) (now (nodes .entry)) (now (links .entry)) (now (scratch .entry)) r (now (job .exit)) (now (nodes .exit)) (now (links .exit)) (now (scratch .exit)) ⌝ }
+{
+    records::load(old_nodes, 512, scratch, 0);
+    let r = job::take_new(
+        *job,
+        old_nodes.len(),
+        old,
+        old_links,
+        new,
+        nodes.len(),
+        links,
+        scratch,
+    );
+    records::store(scratch, r.nodes, nodes);
+    *job = r.job;
+    pack(r.number, r.place)
+}
+
+// Reads the tests, at stage 2, with both versions as they were read.
+#[no_mangle]
+pub extern "C" fn ry_job_read_tests(
+    job: &mut Job,
+    old: &[u8],
+    old_nodes: &[Node],
+    old_links: &[usize],
+    new: &[u8],
+    new_nodes: &[Node],
+    new_links: &[usize],
+    text: &[u8],
+    tests: &mut [usize],
+    rows: &mut [u64],
+    scratch: &mut [usize],
+) -> u64
+    ensures { λ r. ⌜ ReadTests (now (job .entry)) (lent (now (old .entry)) (now («old_nodes» .entry)) (now («old_links» .entry))) (lent (now (new .entry)) (now («new_nodes» .entry)) (now («new_links» .entry))) (now (text .entry)) (now (tests .entry)) (now (rows .entry)) (now (scratch .entry)) r (now (job .exit)) (now (tests .exit)) (now (rows .exit)) (now (scratch .exit)) ⌝ }
+{
+    records::load_both(old_nodes, new_nodes, scratch);
+    let r = job::take_tests(
+        *job,
+        old_nodes.len(),
+        old,
+        old_links,
+        new_nodes.len(),
+        new,
+        new_links,
+        text,
+        tests,
+        rows,
+        scratch,
+    );
+    text::clear(scratch);
+    *job = r.job;
+    pack(r.number, r.place)
+}
+
+// Does what is asked of a job at stage 3, by the number of the request and two numbers that it may use; `input` is the text that it comes with.
+#[no_mangle]
+pub extern "C" fn ry_job_call(
+    job: &mut Job,
+    old: &[u8],
+    old_nodes: &[Node],
+    old_links: &[usize],
+    new: &[u8],
+    new_nodes: &[Node],
+    new_links: &[usize],
+    text: &[u8],
+    tests: &[usize],
+    rows: &[u64],
+    request: usize,
+    a: usize,
+    b: usize,
+    input: &[u8],
+    scratch: &mut [usize],
+    out: &mut [u8],
+) -> u64
+    ensures { λ r. ⌜ Called (lentCall (requestBy request a b) (lentJob (now (job .entry)) (lent (now (old .entry)) (now («old_nodes» .entry)) (now («old_links» .entry))) (lent (now (new .entry)) (now («new_nodes» .entry)) (now («new_links» .entry))) (now (text .entry)) (now (tests .entry)) (now (rows .entry)) (length (now (scratch .entry)))) (now (input .entry)) (length (now (out .entry)))) r (now (job .entry)) (now (job .exit)) (now (scratch .entry)) (now (scratch .exit)) (now (out .entry)) (now (out .exit)) ⌝ }
+{
+    records::load_both(old_nodes, new_nodes, scratch);
+    let r = job_calls::call_on(
+        *job,
+        old_nodes.len(),
+        new_nodes.len(),
+        old,
+        old_links,
+        new,
+        new_links,
+        text,
+        tests,
+        rows,
+        request,
+        a,
+        b,
+        input,
+        scratch,
+        out,
+    );
+    pack(r.number, r.place)
+}
+
+// Where the label of a node stands in the old text (side 0) or in the new one (side 1): start * 4,294,967,296 + length, 0 when refused.
+#[no_mangle]
+pub extern "C" fn ry_job_label(
+    job: &mut Job,
+    old: &[u8],
+    old_nodes: &[Node],
+    old_links: &[usize],
+    new: &[u8],
+    new_nodes: &[Node],
+    new_links: &[usize],
+    text: &[u8],
+    tests: &[usize],
+    rows: &[u64],
+    side: usize,
+    node: usize,
+    scratch: &mut [usize],
+) -> u64
+    ensures { λ r. ⌜ Found (labelSpanCall (lentJob (now (job .entry)) (lent (now (old .entry)) (now («old_nodes» .entry)) (now («old_links» .entry))) (lent (now (new .entry)) (now («new_nodes» .entry)) (now («new_links» .entry))) (now (text .entry)) (now (tests .entry)) (now (rows .entry)) (length (now (scratch .entry)))) side node) r (now (job .entry)) (now (job .exit)) (now (scratch .entry)) (now (scratch .exit)) ⌝ }
+{
+    records::load_both(old_nodes, new_nodes, scratch);
+    let r = job_calls::label_on(
+        *job,
+        old_nodes.len(),
+        new_nodes.len(),
+        old,
+        old_links,
+        new,
+        new_links,
+        text,
+        tests,
+        rows,
+        side,
+        node,
+        scratch,
+    );
+    pack(r.start, r.len)
 }

@@ -10,7 +10,7 @@ whole-job-requires : tie.Need-whole-job-requires
 whole-job-requires c κs = search needs
 
 pack-requires : tie.Need-pack-requires
-pack-requires c κs = search (all, needs)
+pack-requires c κs = search needs
 
 returns : tie.Need-returns
 returns c = search (all, needs)

@@ -10,7 +10,7 @@ read-into-requires : tie.Need-read-into-requires
 read-into-requires c κs = search needs
 
 pack-requires : tie.Need-pack-requires
-pack-requires c κs = search (all, needs)
+pack-requires c κs = search needs
 
 returns : tie.Need-returns
 returns c = search (all, needs)
@@ -22,7 +22,7 @@ read-into-requires-2 : tie.Need-read-into-requires-2
 read-into-requires-2 c κs = search needs
 
 pack-requires-2 : tie.Need-pack-requires-2
-pack-requires-2 c κs = search (all, needs)
+pack-requires-2 c κs = search needs
 
 returns-2 : tie.Need-returns-2
 returns-2 c = search (all, needs)

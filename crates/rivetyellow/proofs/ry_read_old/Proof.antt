@@ -10,7 +10,7 @@ read-into-requires : tie.Need-read-into-requires
 read-into-requires c κs = search needs
 
 pack-requires : tie.Need-pack-requires
-pack-requires c κs = search (all, needs)
+pack-requires c κs = search needs
 
 returns : tie.Need-returns
 returns c = search (all, needs)

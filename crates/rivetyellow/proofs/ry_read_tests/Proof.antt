@@ -19,7 +19,7 @@ read-job-requires : tie.Need-read-job-requires
 read-job-requires c κs = search needs
 
 pack-requires : tie.Need-pack-requires
-pack-requires c κs = search (all, needs)
+pack-requires c κs = search needs
 
 returns : tie.Need-returns
 returns c = search (all, needs)

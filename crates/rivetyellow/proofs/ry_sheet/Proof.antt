@@ -1,5 +1,5 @@
 use borrow.Author.Needs.{needs}
-use Rattle.rivetyellow.proofs.Laws.{all, sheet-packs}
+use Rattle.rivetyellow.proofs.Laws.{sheet-packs}
 use Rattle.rivetyellow.proofs.ry_sheet.Statement.{statement}
 use Rattle.rivetyellow.proofs.ry_sheet.Tie as tie
 
@@ -10,7 +10,7 @@ whole-job-requires : tie.Need-whole-job-requires
 whole-job-requires c κs = search needs
 
 pack-requires : tie.Need-pack-requires
-pack-requires c κs = search (all, needs)
+pack-requires c κs = search needs
 
 same-length : tie.Need-same-length
 same-length c = search needs

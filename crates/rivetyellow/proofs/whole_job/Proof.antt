@@ -49,7 +49,7 @@ slice-aggregate-serve-5 : tie.Need-slice-aggregate-serve-5
 slice-aggregate-serve-5 c = search needs
 
 serve-requires : tie.Need-serve-requires
-serve-requires c κs = search (all, needs)
+serve-requires c κs = search needs
 
 same-length : tie.Need-same-length
 same-length c = search needs
