@@ -6,7 +6,7 @@ use Prim.Native.Nat.{ℕ, zero, suc, _+_, _*_}
 use lib.Dec.{eqb, ltb}
 use lib.ListN.{length, getD, take, drop}
 use Rattle.laws.specs.Tests.{after, choose}
-use Rattle.rules.specs.Text.{Answer, Bytes, accepted, maxPairs, refused, then}
+use Rattle.rules.specs.Text.{Answer, Bytes, accepted, maxPairs, refused, then, tooMany}
 use Rattle.rules.specs.Graph.{Program, edgeCount, labelAt, nodeCount}
 use Rattle.rules.specs.ProgramFile.{Listing, readProgram}
 use Rattle.rules.specs.SuiteFile.{TestListing, Suite, coverageAt, readSuite, testCount, testName}
@@ -119,9 +119,9 @@ readTestsAnswer old new tests = outcome (readJob old new tests) (λ g. success)
 
 -- ---- writing
 
--- 15: more than 4,096 pairs exist; 16: the output, of `room` bytes, is shorter than what must be written.
-unfoldable pub writing : Given → ℕ → Bytes → Outcome
-writing g room b = choose (ltb maxPairs (length (pairs (g .old) (g .new)))) (refusal 15 0) (choose (ltb room (length b)) (refusal 16 0) (wrote b))
+-- `over`: more than `limit` pairs exist; 16: the output, of `room` bytes, is shorter than what must be written.
+unfoldable pub writing : ℕ → ℕ → Given → ℕ → Bytes → Outcome
+writing limit over g room b = choose (ltb limit (length (pairs (g .old) (g .new)))) (refusal over 0) (choose (ltb room (length b)) (refusal 16 0) (wrote b))
 
 -- The sheet that the selector writes; the record line of the test i.
 unfoldable pub sheetBytes : Given → Bytes
@@ -131,8 +131,8 @@ unfoldable pub recordBytes : Given → ℕ → Bytes
 recordBytes g i = recordText (g .old) (g .new) (testName (g .suite) i) (coverageAt (g .suite) i)
 
 -- Write the record line of the test i: 6 where there is none.
-abbrev pub recording : Given → ℕ → ℕ → Outcome
-recording g i room = choose (ltb i (testCount (g .suite))) (writing g room (recordBytes g i)) (refusal 6 0)
+abbrev pub recording : ℕ → ℕ → Given → ℕ → ℕ → Outcome
+recording limit over g i room = choose (ltb i (testCount (g .suite))) (writing limit over g room (recordBytes g i)) (refusal 6 0)
 
 -- ---- checking
 
@@ -141,9 +141,9 @@ unfoldable pub judged : Given → Sheet → Outcome
 judged g s =
     choose (eqb (broken (g .old) (g .new) (g .suite .coverages) s) 0) passed (refusal 12 (broken (g .old) (g .new) (g .suite .coverages) s))
 
--- Check a sheet.
-abbrev pub checking : Given → Bytes → Outcome
-checking g sheet = outcome (readSheet (g .old) (g .new) (g .suite) sheet) (judged g)
+-- Check a sheet of at most `limit` pairs.
+abbrev pub checking : ℕ → Given → Bytes → Outcome
+checking limit g sheet = outcome (readSheet limit (g .old) (g .new) (g .suite) sheet) (judged g)
 
 -- ---- showing a label
 
@@ -196,9 +196,9 @@ packedSpan s = s .start * 4294967296 + s .len
 
 -- What is asked, of what the texts give, with the text that the request comes with (the sheet to check; the others come with none) and an output of `room` bytes. 6 where nothing is.
 unfoldable pub serving : Request → Given → Bytes → ℕ → Outcome
-serving write-sheet g input room = writing g room (sheetBytes g)
-serving (write-record i) g input room = recording g i room
-serving check-sheet g input room = checking g input
+serving write-sheet g input room = writing maxPairs tooMany g room (sheetBytes g)
+serving (write-record i) g input room = recording maxPairs tooMany g i room
+serving check-sheet g input room = checking maxPairs g input
 serving (show-label side n) g input room = labelling g side n
 serving no-request g input room = refusal 6 0
 

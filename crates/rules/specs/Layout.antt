@@ -9,7 +9,7 @@ use lib.ListN.{length}
 use Rattle.laws.specs.Tests.{choose, has, listed}
 use Rattle.laws.specs.TestLaws.{Ascending}
 use Rattle.laws.specs.Lists.{Rising}
-use Rattle.rules.specs.Text.{Bytes, bytes, maxBytes, maxProcs, maxNodes, maxEdges, maxTests, commas, textOf, isName, isWord, decimal, maxPairs}
+use Rattle.rules.specs.Text.{Bytes, bytes, maxBytes, maxProcs, maxNodes, maxEdges, maxTests, commas, textOf, isName, isWord, decimal}
 use Rattle.rules.specs.Graph.{Kind, E, S, C, X, Node, Edge, Program, WellFormed, nameAt, ownerAt, kindAt, labelAt, calleeAt, sourceAt, wordAt, procCount, nodeCount, edgeCount}
 use Rattle.rules.specs.ProgramFile.{isNode}
 use Rattle.rules.specs.SuiteFile.{Suite, testCount, testName, coverageAt}
@@ -110,9 +110,9 @@ pub record SuiteFollows (m : ℕ) (s : Suite) : Type 0 where
 
 -- ---- sheets
 
--- A sheet that follows the rules: at most 4,096 pairs, ascending by old, then new; edges ascending; tests in the order of their file; all of these the files have.
-pub record SheetFollows (old new : Program) (suite : Suite) (c : Sheet) : Type 0 where
-  pub fewPairs : length (c .M) ≤ maxPairs
+-- A sheet that follows the rules: at most `limit` pairs, ascending by old, then new; edges ascending; tests in the order of their file; all of these the files have.
+pub record SheetFollows (limit : ℕ) (old new : Program) (suite : Suite) (c : Sheet) : Type 0 where
+  pub fewPairs : length (c .M) ≤ limit
   pub ascends : Ascending (c .M)
   pub nodes : (n k : ℕ) → listed (c .M) n k ≡ true → (n < nodeCount old) × (k < nodeCount new)
   pub risesD : Rising (c .D)

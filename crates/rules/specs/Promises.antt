@@ -9,7 +9,7 @@ use lib.ListN.{length, getD, take, drop}
 use Rattle.laws.specs.Tests.{has, listed, count, plus}
 use Rattle.laws.specs.TestLaws.{Ascending}
 use Rattle.laws.specs.Lists.{Rising}
-use Rattle.rules.specs.Text.{Bytes, accepted, fieldsOf, linesOf, maxBytes, maxPairs, refused, textOf}
+use Rattle.rules.specs.Text.{Bytes, accepted, fieldsOf, linesOf, maxBytes, maxPairs, refused, textOf, tooMany}
 use Rattle.rules.specs.Graph.{C, E, Program, WellFormed, X, called, calleeAt, edgeCount, edgeTaken, entry, exit, itsEdge, kindAt, labelAt, nameAt, nodeCount, ownerAt, procCount, sourceAt, targetAt, wordAt}
 use Rattle.rules.specs.ProgramFile.{Listing, readListing, readProgram}
 use Rattle.rules.specs.SuiteFile.{Suite, TestListing, coverageAt, readSuite, readTests, testCount, testName}
@@ -46,8 +46,8 @@ Unpacks = (o : Outcome) → Plain o → (out : Bytes) → Returns o out
 
 -- The numbers that a request may give once the texts are read; so the check never gives 15 or 16, nor 3, 5 or 6 for a line of a sheet.
 abbrev pub numbersOf : Request → List ℕ
-numbersOf write-sheet = 15 ∷ 16 ∷ []
-numbersOf (write-record i) = 6 ∷ 15 ∷ 16 ∷ []
+numbersOf write-sheet = tooMany ∷ 16 ∷ []
+numbersOf (write-record i) = 6 ∷ tooMany ∷ 16 ∷ []
 numbersOf check-sheet = 1 ∷ 2 ∷ 4 ∷ 11 ∷ 12 ∷ []
 numbersOf (show-label side n) = 6 ∷ []
 numbersOf no-request = 6 ∷ []
@@ -97,18 +97,18 @@ RequestUnnamed = (old new tests : Bytes) (g : Given) → readJob old new tests �
 
 -- A sheet and a record line are written, refused with 15 or refused with 16, each exactly for its reason.
 
--- The answer o to writing the bytes b into an output of `room` bytes, for the texts that give g.
-pub record Writes (g : Given) (room : ℕ) (b : Bytes) (o : Outcome) : Type 0 where
-  pub written : (c : Bytes) → (o ≡ wrote c) ↔ ((length (pairs (g .old) (g .new)) ≤ maxPairs) × (length b ≤ room) × (b ≡ c))
-  -- 15: more than 4,096 pairs exist.
-  pub too-many : (o ≡ refusal 15 0) ↔ (maxPairs < length (pairs (g .old) (g .new)))
+-- The answer o to writing the bytes b into an output of `room` bytes, for the texts that give g, with this limit on pairs and the number for more.
+pub record Writes (limit over : ℕ) (g : Given) (room : ℕ) (b : Bytes) (o : Outcome) : Type 0 where
+  pub written : (c : Bytes) → (o ≡ wrote c) ↔ ((length (pairs (g .old) (g .new)) ≤ limit) × (length b ≤ room) × (b ≡ c))
+  -- More pairs exist.
+  pub too-many : (o ≡ refusal over 0) ↔ (limit < length (pairs (g .old) (g .new)))
   -- 16: the output is shorter than what must be written.
-  pub too-short : (o ≡ refusal 16 0) ↔ ((length (pairs (g .old) (g .new)) ≤ maxPairs) × (room < length b))
+  pub too-short : (o ≡ refusal 16 0) ↔ ((length (pairs (g .old) (g .new)) ≤ limit) × (room < length b))
 
 -- Of the sheet, and of the record line of a test that is there.
 abbrev pub WritesExactly : Type 0
 WritesExactly = (old new tests : Bytes) (g : Given) → readJob old new tests ≡ accepted g → (room : ℕ)
-    → Writes g room (sheetBytes g) (sheetAnswer old new tests room) × ((i : ℕ) → i < testCount (g .suite) → Writes g room (recordBytes g i) (recordAnswer old new tests i room))
+    → Writes maxPairs tooMany g room (sheetBytes g) (sheetAnswer old new tests room) × ((i : ℕ) → i < testCount (g .suite) → Writes maxPairs tooMany g room (recordBytes g i) (recordAnswer old new tests i room))
 
 -- A record line has at most 1,045 bytes.
 abbrev pub RecordShort : Type 0
@@ -122,7 +122,7 @@ pub record Breaks (old new tests sheet : Bytes) (p : ℕ) : Type 0 where
   pub given : Given
   pub reads : readJob old new tests ≡ accepted given
   pub claims : Sheet
-  pub order : SheetFollows (given .old) (given .new) (given .suite) claims
+  pub order : SheetFollows maxPairs (given .old) (given .new) (given .suite) claims
   pub text : sheet ≡ sheetText (given .suite .names) claims
   pub rule : ℕ
   pub place : p ≡ suc rule
@@ -157,7 +157,7 @@ LineAbove =
 -- 11: of a sheet in order that is cut off before one of its lines, the missing line counts as one past the last.
 abbrev pub LineMissing : Type 0
 LineMissing =
-    (old new tests : Bytes) (g : Given) → readJob old new tests ≡ accepted g → (c : Sheet) → SheetFollows (g .old) (g .new) (g .suite) c
+    (old new tests : Bytes) (g : Given) → readJob old new tests ≡ accepted g → (c : Sheet) → SheetFollows maxPairs (g .old) (g .new) (g .suite) c
     → (ls ms : List Bytes) (m : Bytes) → sheetLines (g .suite .names) c ≡ ls ++ (m ∷ ms) → checkAnswer old new tests (textOf ls) ≡ refusal 11 (suc (length ls))
 
 -- A label is shown by side, 0 old and 1 new, and node number; 6 where there is no such side, or no such node of its version, and then nothing is shown.
@@ -252,7 +252,7 @@ Repeated old new coverage = (e : ℕ) × Dangerous old new e × (holds coverage 
 pub record SheetExact (g : Given) (sheet : Bytes) : Type 0 where
   pub claims : Sheet
   pub text : sheet ≡ sheetText (g .suite .names) claims
-  pub order : SheetFollows (g .old) (g .new) (g .suite) claims
+  pub order : SheetFollows maxPairs (g .old) (g .new) (g .suite) claims
   pub pairs-are : (n n′ : ℕ) → (listed (claims .M) n n′ ≡ true) ↔ Pair (g .old) (g .new) n n′
   pub dangers-are : (e : ℕ) → (has (claims .D) e ≡ true) ↔ Dangerous (g .old) (g .new) e
   pub repeated-are : (i : ℕ) → (has (claims .R) i ≡ true) ↔ ((i < testCount (g .suite)) × Repeated (g .old) (g .new) (coverageAt (g .suite) i))
@@ -285,7 +285,7 @@ pub record Passes (old new tests sheet : Bytes) : Type 0 where
   pub reads : readJob old new tests ≡ accepted given
   -- The sheet keeps its limits and its layout: it is the writing of claims in order, with numbers and names that the files have.
   pub claims : Sheet
-  pub order : SheetFollows (given .old) (given .new) (given .suite) claims
+  pub order : SheetFollows maxPairs (given .old) (given .new) (given .suite) claims
   pub text : sheet ≡ sheetText (given .suite .names) claims
   pub short : length sheet ≤ maxBytes
   -- The five rules.

@@ -6,7 +6,7 @@ use Prim.Native.Nat.{ℕ, zero, suc}
 use lib.Dec.{eqb, leb, ltb}
 use lib.ListN.{length, getD}
 use Rattle.laws.specs.Tests.{_and_, _or_, isnt, first, count, allPairs, after, choose, none?}
-use Rattle.rules.specs.Text.{Bytes, same, bytes, maxPairs, linesOf, fieldsOf, commas, textOf, isName, isNumber, value, decimal, Answer, refused, accepted, unless, readText}
+use Rattle.rules.specs.Text.{Bytes, same, bytes, linesOf, fieldsOf, commas, textOf, isName, isNumber, value, decimal, Answer, refused, accepted, unless, readText}
 use Rattle.rules.specs.Graph.{Program, nodeCount, edgeCount}
 use Rattle.rules.specs.SuiteFile.{Suite, testCount, testName}
 use Rattle.rules.specs.Closing.{Coverage, holds, Mark, mark-0, mark-1, mark-?, mark, dangers, pairs, repeated}
@@ -145,35 +145,35 @@ addR i s = record { opened = s .opened; claims = record { M = s .claims .M; D = 
 abbrev pub shutSheet : SheetRead → SheetRead
 shutSheet s = record { opened = s .opened; claims = s .claims; shut = true }
 
--- One line, numbered n. 4: an M line above the number allowed. 11: the line is not in its order, its number or name is none of the files', or the counts are wrong.
-unfoldable pub takeSheetLine : Program → Program → Suite → ℕ → SheetRead → SheetLine → Answer SheetRead
-takeSheetLine old new suite n s head-line = unless (s .opened) 11 n (accepted (openSheet s))
-takeSheetLine old new suite n s (m-line a b) =
+-- One line, numbered n. 4: an M line above the limit. 11: the line is not in its order, its number or name is none of the files', or the counts are wrong.
+unfoldable pub takeSheetLine : ℕ → Program → Program → Suite → ℕ → SheetRead → SheetLine → Answer SheetRead
+takeSheetLine limit old new suite n s head-line = unless (s .opened) 11 n (accepted (openSheet s))
+takeSheetLine limit old new suite n s (m-line a b) =
     let c : Sheet = s .claims in
-    unless (leb maxPairs (length (c .M))) 4 n
+    unless (leb limit (length (c .M))) 4 n
     (unless (isnt (going s and none? (c .D) and none? (c .R) and ltb (value a) (nodeCount old) and ltb (value b) (nodeCount new) and pairsBefore (c .M) (value a) (value b))) 11 n
     (accepted (addM (value a) (value b) s)))
-takeSheetLine old new suite n s (d-line e) =
+takeSheetLine limit old new suite n s (d-line e) =
     let c : Sheet = s .claims in
     unless (isnt (going s and none? (c .R) and ltb (value e) (edgeCount old) and allBelow (c .D) (value e))) 11 n
     (accepted (addD (value e) s))
-takeSheetLine old new suite n s (r-line name) =
+takeSheetLine limit old new suite n s (r-line name) =
     after (testOf suite name) (refused 11 n) (λ i.
     unless (isnt (going s and allBelow (s .claims .R) i)) 11 n
     (accepted (addR i s)))
-takeSheetLine old new suite n s (end-line m d r) =
+takeSheetLine limit old new suite n s (end-line m d r) =
     let c : Sheet = s .claims in
     unless (isnt (going s and eqb (value m) (length (c .M)) and eqb (value d) (length (c .D)) and eqb (value r) (length (c .R)))) 11 n
     (accepted (shutSheet s))
-takeSheetLine old new suite n s no-form = refused 2 n
+takeSheetLine limit old new suite n s no-form = refused 2 n
 
-unfoldable pub stepSheet : Program → Program → Suite → ℕ → ℕ → SheetRead → Bytes → Answer SheetRead
-stepSheet old new suite n at s line = takeSheetLine old new suite n s (sheetForm (fieldsOf line))
+unfoldable pub stepSheet : ℕ → Program → Program → Suite → ℕ → ℕ → SheetRead → Bytes → Answer SheetRead
+stepSheet limit old new suite n at s line = takeSheetLine limit old new suite n s (sheetForm (fieldsOf line))
 
 -- A missing line counts as one past the last.
 unfoldable pub finishSheet : ℕ → SheetRead → Answer Sheet
 finishSheet n s = unless (isnt (s .shut)) 11 n (accepted (s .claims))
 
--- Reading a sheet, for these programs and tests.
-unfoldable pub readSheet : Program → Program → Suite → Bytes → Answer Sheet
-readSheet old new suite text = readText (stepSheet old new suite) finishSheet noSheet text
+-- Reading a sheet of at most `limit` pairs, for these programs and tests.
+unfoldable pub readSheet : ℕ → Program → Program → Suite → Bytes → Answer Sheet
+readSheet limit old new suite text = readText (stepSheet limit old new suite) finishSheet noSheet text

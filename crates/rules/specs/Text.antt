@@ -50,6 +50,10 @@ maxTests = 200
 abbrev pub maxPairs : ℕ
 maxPairs = 4096
 
+-- The number of the refusal where more pairs exist.
+abbrev pub tooMany : ℕ
+tooMany = 15
+
 -- ---- lines and fields
 
 -- One more byte x before the pieces: a separator begins a new piece.

@@ -11,7 +11,7 @@ use borrow.Author.Tests.{leb-true}
 use Rattle.laws.specs.Tests.{_and_, _or_, choose, count, firstFailed, has}
 use Rattle.laws.specs.TestLaws.{and-left, and-right}
 use Rattle.laws.specs.Counting.{count-few}
-use Rattle.rules.specs.Text.{Answer, Bytes, accepted, between, bytes, decimal, joinBy, refused, textOf}
+use Rattle.rules.specs.Text.{Answer, Bytes, accepted, between, bytes, decimal, joinBy, maxPairs, refused, textOf, tooMany}
 use Rattle.rules.specs.Graph.{Program, edgeCount}
 use Rattle.rules.specs.ProgramFile.{readProgram}
 use Rattle.rules.specs.SuiteFile.{coverageAt, readSuite, testName}
@@ -47,9 +47,9 @@ told-number : (ks : List ℕ) (o : Outcome) (k p : ℕ) → Told ks o → o ≡ 
 told-number ks (wrote b) k p t e = absurd (true≢false (let z : true ≡ false = cc in z))
 told-number ks (refusal j q) k p t e = subst (λ (i : ℕ). has ks i ≡ true) (let z : j ≡ k = cc in z) (t .0)
 
-writing-told : (ks : List ℕ) (g : Given) (room : ℕ) (b : Bytes) → has ks 15 ≡ true → has ks 16 ≡ true → Told ks (writing g room b)
+writing-told : (ks : List ℕ) (limit over : ℕ) (g : Given) (room : ℕ) (b : Bytes) → has ks over ≡ true → has ks 16 ≡ true → Told ks (writing limit over g room b)
 unfolding writing
-writing-told ks g room b h k = choose-told ks _ _ _ (h, let z : 0 < big = omega arith in z) (choose-told ks _ _ _ (k, let z : 0 < big = omega arith in z) tt)
+writing-told ks limit over g room b h k = choose-told ks _ _ _ (h, let z : 0 < big = omega arith in z) (choose-told ks _ _ _ (k, let z : 0 < big = omega arith in z) tt)
 
 -- The place of a broken rule is at most 5.
 failed-few : (k : ℕ) (l : List Bool) → firstFailed k l ≤ k + length l
@@ -62,10 +62,10 @@ broken-few : (old new : Program) (suite : List Coverage) (s : Sheet) → broken 
 unfolding broken
 broken-few old new suite s = omega (arith, failed-few 1 (rule1 old new s ∷ rule2 old new s ∷ rule3 old new s ∷ rule4 old new s ∷ rule5 suite s ∷ []))
 
-checking-told : (g : Given) (sheet : Bytes) → Told (numbersOf check-sheet) (checking g sheet)
+checking-told : (limit : ℕ) (g : Given) (sheet : Bytes) → Told (numbersOf check-sheet) (checking limit g sheet)
 unfolding judged allOf has _or_ _and_
-checking-told g sheet =
-    outcome-told (1 ∷ sheetNumbers) (numbersOf check-sheet) _ _ refl (sheet-good (g .old) (g .new) (g .suite) sheet)
+checking-told limit g sheet =
+    outcome-told (1 ∷ sheetNumbers) (numbersOf check-sheet) _ _ refl (sheet-good limit (g .old) (g .new) (g .suite) sheet)
     (λ s. choose-told (numbersOf check-sheet) _ _ _ tt (refl, broken-few (g .old) (g .new) (g .suite .coverages) s))
 
 more-told : (ks js : List ℕ) (o : Outcome) → allOf (has js) ks ≡ true → Told ks o → Told js o
@@ -74,7 +74,7 @@ more-told ks js (refusal k p) s t = (passes-of (has js) ks k s (t .0), t .1)
 
 -- Every number of a call that is lent no job.
 abbrev allNumbers : List ℕ
-allNumbers = 1 ∷ 2 ∷ 3 ∷ 4 ∷ 5 ∷ 6 ∷ 7 ∷ 8 ∷ 9 ∷ 10 ∷ 11 ∷ 12 ∷ 15 ∷ 16 ∷ []
+allNumbers = 1 ∷ 2 ∷ 3 ∷ 4 ∷ 5 ∷ 6 ∷ 7 ∷ 8 ∷ 9 ∷ 10 ∷ 11 ∷ 12 ∷ tooMany ∷ 16 ∷ []
 
 -- ---- the promises
 
@@ -132,10 +132,10 @@ record-short old new tests i room b e =
 -- Each request is refused only with its numbers.
 serving-told : (q : Request) (g : Given) (input : Bytes) (room : ℕ) → Told (numbersOf q) (serving q g input room)
 unfolding serving labelling bySide has _or_
-serving-told write-sheet g input room = writing-told (numbersOf write-sheet) g room (sheetBytes g) refl refl
+serving-told write-sheet g input room = writing-told (numbersOf write-sheet) maxPairs tooMany g room (sheetBytes g) refl refl
 serving-told (write-record i) g input room =
-    choose-told (numbersOf (write-record i)) _ _ _ (writing-told (numbersOf (write-record i)) g room (recordBytes g i) refl refl) (refl, let z : 0 < big = omega arith in z)
-serving-told check-sheet g input room = checking-told g input
+    choose-told (numbersOf (write-record i)) _ _ _ (writing-told (numbersOf (write-record i)) maxPairs tooMany g room (recordBytes g i) refl refl) (refl, let z : 0 < big = omega arith in z)
+serving-told check-sheet g input room = checking-told maxPairs g input
 serving-told (show-label zero n) g input room = choose-told (numbersOf (show-label zero n)) _ _ _ tt (refl, let z : 0 < big = omega arith in z)
 serving-told (show-label (suc zero) n) g input room = choose-told (numbersOf (show-label (suc zero) n)) _ _ _ tt (refl, let z : 0 < big = omega arith in z)
 serving-told (show-label (suc (suc side)) n) g input room = (refl, let z : 0 < big = omega arith in z)
@@ -186,7 +186,7 @@ unfolding answering outcome
 answered q old new tests input room g e = ap (λ (a : Answer Given). outcome a (λ x. serving q x input room)) e
 
 -- The check, where the texts are accepted.
-pub checked : (old new tests sheet : Bytes) (g : Given) → readJob old new tests ≡ accepted g → checkAnswer old new tests sheet ≡ checking g sheet
+pub checked : (old new tests sheet : Bytes) (g : Given) → readJob old new tests ≡ accepted g → checkAnswer old new tests sheet ≡ checking maxPairs g sheet
 unfolding serving
 checked old new tests sheet g e = answered check-sheet old new tests sheet 0 g e
 
@@ -200,9 +200,9 @@ numbers-given =
     }
 
 -- A refusal with 1 is that of reading the sheet.
-one-read : (g : Given) (sheet : Bytes) (p : ℕ) → (checking g sheet ≡ refusal 1 p) ↔ (readSheet (g .old) (g .new) (g .suite) sheet ≡ refused 1 p)
+one-read : (limit : ℕ) (g : Given) (sheet : Bytes) (p : ℕ) → (checking limit g sheet ≡ refusal 1 p) ↔ (readSheet limit (g .old) (g .new) (g .suite) sheet ≡ refused 1 p)
 unfolding outcome judged choose
-one-read g sheet p = go (readSheet (g .old) (g .new) (g .suite) sheet)
+one-read limit g sheet p = go (readSheet limit (g .old) (g .new) (g .suite) sheet)
   where
     never : (b : Bool) (q : ℕ) → choose b passed (refusal 12 q) ≡ refusal 1 p → ⊥
     never true q e = true≢false (let z : true ≡ false = cc in z)
@@ -218,7 +218,7 @@ too-long =
       of-program = program-long;
       of-tests = suite-long;
       of-check = λ old new tests sheet g r p.
-          let l = sheet-long (g .old) (g .new) (g .suite) sheet p in
-          let o = one-read g sheet p in
+          let l = sheet-long maxPairs (g .old) (g .new) (g .suite) sheet p in
+          let o = one-read maxPairs g sheet p in
           (λ e. l .0 (o .0 (sym (checked old new tests sheet g r) ∙ e)), λ h. checked old new tests sheet g r ∙ o .1 (l .1 h));
     }

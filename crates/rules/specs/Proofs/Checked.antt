@@ -73,10 +73,10 @@ claims-false old new tests sheet p = (there, back)
   where
     there : checkAnswer old new tests sheet ≡ refusal 12 p → Breaks old new tests sheet p
     there e =
-        let u = read-past jobNumbers (readJob old new tests) (λ g. checking g sheet) (job-good old new tests) refl p e in
+        let u = read-past jobNumbers (readJob old new tests) (λ g. checking maxPairs g sheet) (job-good old new tests) refl p e in
         let g = u .0 in
-        let v = read-past (1 ∷ sheetNumbers) (readSheet (g .old) (g .new) (g .suite) sheet) (judged g) (sheet-good (g .old) (g .new) (g .suite) sheet) refl p (u .2) in
-        let o = accepted-orderly (g .old) (g .new) (g .suite) sheet (v .0) (v .1) in
+        let v = read-past (1 ∷ sheetNumbers) (readSheet maxPairs (g .old) (g .new) (g .suite) sheet) (judged g) (sheet-good maxPairs (g .old) (g .new) (g .suite) sheet) refl p (u .2) in
+        let o = accepted-orderly maxPairs (g .old) (g .new) (g .suite) sheet (v .0) (v .1) in
         let b = judged-false g (v .0) p (v .2) in
         let f = failed-is (fiveRules g (v .0)) 1 (omega arith) (λ z. b .1 (sym (b .0) ∙ z)) in
         record { given = g; reads = u .1; claims = v .0; order = o .0; text = o .1; rule = f .0; place = omega (arith, b .0, f .1); broken = f .2; kept = f .3 }
@@ -85,7 +85,7 @@ claims-false old new tests sheet p = (there, back)
     back h =
         let g = h .given in
         let n = known old new tests g (h .reads) in
-        let r : readSheet (g .old) (g .new) (g .suite) sheet ≡ accepted (h .claims) = sheet-layout (g .old) (g .new) (g .suite) (n .old-sound) (n .new-sound) _ (n .suite-sound) sheet (h .claims) .1 (h .order, h .text) in
+        let r : readSheet maxPairs (g .old) (g .new) (g .suite) sheet ≡ accepted (h .claims) = sheet-layout maxPairs (omega arith) (g .old) (g .new) (g .suite) (n .old-sound) (n .new-sound) _ (n .suite-sound) sheet (h .claims) .1 (h .order, h .text) in
         let b : firstFailed 1 (fiveRules g (h .claims)) ≡ p = omega (arith, failed-at (fiveRules g (h .claims)) 1 (h .rule) (h .broken) (h .kept), h .place) in
         checked old new tests sheet g (h .reads)
         ∙ ap (λ (a : Answer Sheet). outcome a (judged g)) r
@@ -94,7 +94,7 @@ claims-false old new tests sheet p = (there, back)
 
 -- ---- 4
 
-module _ (old new : Program) (suite : Suite) (n : ℕ) (s : SheetRead) where
+module _ (limit : ℕ) (old new : Program) (suite : Suite) (n : ℕ) (s : SheetRead) where
   -- A line is refused at its own number, or it is taken, and there is a pair more if it is an M line.
   Counted : SheetLine → Answer SheetRead → Type 0
   Counted x (refused k p) = p ≡ n
@@ -110,7 +110,7 @@ module _ (old new : Program) (suite : Suite) (n : ℕ) (s : SheetRead) where
   after-counted x none f h = refl
   after-counted x (some i) f h = h i
 
-  line-counted : (x : SheetLine) → Counted x (takeSheetLine old new suite n s x)
+  line-counted : (x : SheetLine) → Counted x (takeSheetLine limit old new suite n s x)
   unfolding takeSheetLine isM plus Counted
   line-counted head-line = unless-counted head-line _ 11 _ refl
   line-counted (m-line a b) = unless-counted (m-line a b) _ 4 _ (unless-counted (m-line a b) _ 11 _ (snoc-length (0, 0) (s .claims .M) _))
@@ -120,7 +120,7 @@ module _ (old new : Program) (suite : Suite) (n : ℕ) (s : SheetRead) where
   line-counted no-form = refl
 
   -- An M line after so many.
-  above : (x : SheetLine) → isM x ≡ true → maxPairs ≤ length (s .claims .M) → takeSheetLine old new suite n s x ≡ refused 4 n
+  above : (x : SheetLine) → isM x ≡ true → limit ≤ length (s .claims .M) → takeSheetLine limit old new suite n s x ≡ refused 4 n
   unfolding takeSheetLine isM
   above (m-line a b) h l = unless-refuses _ 4 n _ (le-leb _ _ l)
   above head-line h l = absurd (true≢false (sym h))
@@ -134,54 +134,54 @@ unfolding plus
 plus-moves true i j = omega arith
 plus-moves false i j = refl
 
-module _ (old new : Program) (suite : Suite) (l m : Bytes) (ms : List Bytes) (is : isM (sheetForm (fieldsOf l)) ≡ true) where
+module _ (limit : ℕ) (old new : Program) (suite : Suite) (l m : Bytes) (ms : List Bytes) (is : isM (sheetForm (fieldsOf l)) ≡ true) where
   -- Reading the lines ls from the line n on, and behind them the line l; and the lines ls alone.
   abbrev reads : ℕ → ℕ → SheetRead → List Bytes → Answer Sheet
-  reads n at s ls = readLines (stepSheet old new suite) finishSheet n at s (ls ++ (l ∷ m ∷ ms))
+  reads n at s ls = readLines (stepSheet limit old new suite) finishSheet n at s (ls ++ (l ∷ m ∷ ms))
 
   abbrev alone : ℕ → ℕ → SheetRead → List Bytes → Answer Sheet
-  alone n at s ls = readLines (stepSheet old new suite) finishSheet n at s (ls ++ ([] ∷ []))
+  alone n at s ls = readLines (stepSheet limit old new suite) finishSheet n at s (ls ++ ([] ∷ []))
 
   -- The line l is refused with 4, or one of the lines before it is refused, whatever follows.
   abbrev Stops : ℕ → ℕ → SheetRead → List Bytes → Type 0
   Stops n at s ls = (reads n at s ls ≡ refused 4 (n + length ls)) ⊎ ((k p : ℕ) × (reads n at s ls ≡ refused k p) × (alone n at s ls ≡ refused k p) × (n ≤ p) × (p < n + length ls))
 
-  stops-next : (n at : ℕ) (s : SheetRead) (x : Bytes) (ls : List Bytes) (a : Answer SheetRead) → stepSheet old new suite n at s x ≡ a → Counted old new suite n s (sheetForm (fieldsOf x)) a
-      → length (s .claims .M) + mCount (x ∷ ls) ≡ maxPairs → ((t : SheetRead) → length (t .claims .M) + mCount ls ≡ maxPairs → Stops (suc n) (at + length x + 1) t ls) → Stops n at s (x ∷ ls)
+  stops-next : (n at : ℕ) (s : SheetRead) (x : Bytes) (ls : List Bytes) (a : Answer SheetRead) → stepSheet limit old new suite n at s x ≡ a → Counted limit old new suite n s (sheetForm (fieldsOf x)) a
+      → length (s .claims .M) + mCount (x ∷ ls) ≡ limit → ((t : SheetRead) → length (t .claims .M) + mCount ls ≡ limit → Stops (suc n) (at + length x + 1) t ls) → Stops n at s (x ∷ ls)
   unfolding Counted mCount then
   stops-next n at s x ls (refused k p) e c h f =
       inr (
         k,
         p,
-        lines-next (stepSheet old new suite) finishSheet n at s x l ls (m ∷ ms) ∙ ap (λ (a : Answer SheetRead). then a (λ t. reads (suc n) (at + length x + 1) t ls)) e,
-        lines-next (stepSheet old new suite) finishSheet n at s x [] ls [] ∙ ap (λ (a : Answer SheetRead). then a (λ t. alone (suc n) (at + length x + 1) t ls)) e,
+        lines-next (stepSheet limit old new suite) finishSheet n at s x l ls (m ∷ ms) ∙ ap (λ (a : Answer SheetRead). then a (λ t. reads (suc n) (at + length x + 1) t ls)) e,
+        lines-next (stepSheet limit old new suite) finishSheet n at s x [] ls [] ∙ ap (λ (a : Answer SheetRead). then a (λ t. alone (suc n) (at + length x + 1) t ls)) e,
         let z : n ≤ p = omega (arith, c) in z,
         let z : p < n + suc (length ls) = omega (arith, c) in z,
       )
   stops-next n at s x ls (accepted t) e c h f =
       let on : reads n at s (x ∷ ls) ≡ reads (suc n) (at + length x + 1) t ls
-      = lines-next (stepSheet old new suite) finishSheet n at s x l ls (m ∷ ms) ∙ ap (λ (a : Answer SheetRead). then a (λ t. reads (suc n) (at + length x + 1) t ls)) e in
+      = lines-next (stepSheet limit old new suite) finishSheet n at s x l ls (m ∷ ms) ∙ ap (λ (a : Answer SheetRead). then a (λ t. reads (suc n) (at + length x + 1) t ls)) e in
       let by : alone n at s (x ∷ ls) ≡ alone (suc n) (at + length x + 1) t ls
-      = lines-next (stepSheet old new suite) finishSheet n at s x [] ls [] ∙ ap (λ (a : Answer SheetRead). then a (λ t. alone (suc n) (at + length x + 1) t ls)) e in
+      = lines-next (stepSheet limit old new suite) finishSheet n at s x [] ls [] ∙ ap (λ (a : Answer SheetRead). then a (λ t. alone (suc n) (at + length x + 1) t ls)) e in
       let q : suc n + length ls ≡ n + suc (length ls) = omega arith in
       ⊎-elim (λ r. inl (on ∙ r ∙ ap (refused 4) q))
       (λ r. inr (r .0, r .1, on ∙ r .2, by ∙ r .3, let z : n ≤ r .1 = omega (arith, r .4) in z, let z : r .1 < n + suc (length ls) = omega (arith, r .5) in z))
       (f t (omega (arith, c, h, plus-moves (isM (sheetForm (fieldsOf x))) (length (s .claims .M)) (mCount ls))))
 
-  stops : (ls : List Bytes) (n at : ℕ) (s : SheetRead) → length (s .claims .M) + mCount ls ≡ maxPairs → Stops n at s ls
+  stops : (ls : List Bytes) (n at : ℕ) (s : SheetRead) → length (s .claims .M) + mCount ls ≡ limit → Stops n at s ls
   unfolding readLines stepSheet mCount then
   stops [] n at s h =
       let e : n ≡ n + 0 = omega arith in
-      inl (ap (λ (a : Answer SheetRead). then a (λ t. readLines (stepSheet old new suite) finishSheet (suc n) (at + length l + 1) t (m ∷ ms))) (above old new suite n s (sheetForm (fieldsOf l)) is (omega (arith, h))) ∙ ap (refused 4) e)
-  stops (x ∷ ls) n at s h = stops-next n at s x ls _ refl (line-counted old new suite n s (sheetForm (fieldsOf x))) h (λ t k. stops ls (suc n) (at + length x + 1) t k)
+      inl (ap (λ (a : Answer SheetRead). then a (λ t. readLines (stepSheet limit old new suite) finishSheet (suc n) (at + length l + 1) t (m ∷ ms))) (above limit old new suite n s (sheetForm (fieldsOf l)) is (omega (arith, h))) ∙ ap (refused 4) e)
+  stops (x ∷ ls) n at s h = stops-next n at s x ls _ refl (line-counted limit old new suite n s (sheetForm (fieldsOf x))) h (λ t k. stops ls (suc n) (at + length x + 1) t k)
 
 -- The check of a sheet that is not too long, by its lines.
 by-lines : (old new tests sheet : Bytes) (g : Given) (ls : List Bytes) → readJob old new tests ≡ accepted g → length sheet ≤ maxBytes → linesOf sheet ≡ ls
-    → checkAnswer old new tests sheet ≡ outcome (readLines (stepSheet (g .old) (g .new) (g .suite)) finishSheet 1 0 noSheet ls) (judged g)
+    → checkAnswer old new tests sheet ≡ outcome (readLines (stepSheet maxPairs (g .old) (g .new) (g .suite)) finishSheet 1 0 noSheet ls) (judged g)
 unfolding readSheet readText
 by-lines old new tests sheet g ls e short is-lines =
     checked old new tests sheet g e
-    ∙ ap (λ (a : Answer Sheet). outcome a (judged g)) (unless-passes _ _ _ _ (le-ltb _ _ short) ∙ ap (readLines (stepSheet (g .old) (g .new) (g .suite)) finishSheet 1 0 noSheet) is-lines)
+    ∙ ap (λ (a : Answer Sheet). outcome a (judged g)) (unless-passes _ _ _ _ (le-ltb _ _ short) ∙ ap (readLines (stepSheet maxPairs (g .old) (g .new) (g .suite)) finishSheet 1 0 noSheet) is-lines)
 
 pub line-above : LineAbove
 unfolding outcome
@@ -197,7 +197,7 @@ line-above old new tests front sheet g e brief short ls l m ms front-lines is-li
       r .4,
       let z : r .1 ≤ length ls = omega (arith, r .5) in z,
     ))
-    (stops (g .old) (g .new) (g .suite) l m ms is ls 1 0 noSheet (omega (arith, many)))
+    (stops maxPairs (g .old) (g .new) (g .suite) l m ms is ls 1 0 noSheet (omega (arith, many)))
 
 -- ---- 11, for a line that is missing
 
@@ -211,17 +211,17 @@ line-missing old new tests g e c o ls ms m is =
     let n = known old new tests g e in
     let h = n .suite-sound in
     let whole : length (textOf (sheetLines (g .suite .names) c)) ≤ maxBytes
-    = sheet-short (g .old) (g .new) (g .suite) (n .old-sound) (n .new-sound) _ h c o (few-of (g .old) (g .new) (g .suite) (n .old-sound) _ h c o) in
+    = sheet-short maxPairs (omega arith) (g .old) (g .new) (g .suite) (n .old-sound) (n .new-sound) _ h c o (few-of maxPairs (g .old) (g .new) (g .suite) (n .old-sound) _ h c o) in
     let short : length (textOf ls) ≤ maxBytes = omega (arith, whole, ap (λ (x : List Bytes). length (textOf x)) is, ended-append ls (m ∷ ms)) in
     let lines : linesOf (textOf ls) ≡ ls ++ ([] ∷ []) = split-ended ls (free-front ls (m ∷ ms) (subst (λ (x : List Bytes). AllFree 10 x) is (sheet-free _ (g .suite) h c))) in
-    let read : readLines (stepSheet (g .old) (g .new) (g .suite)) finishSheet 1 0 noSheet ((ls ++ (m ∷ ms)) ++ ([] ∷ [])) ≡ accepted c
-    = subst (λ (x : List Bytes). readLines (stepSheet (g .old) (g .new) (g .suite)) finishSheet 1 0 noSheet (x ++ ([] ∷ [])) ≡ accepted c) is (goes-all (g .old) (g .new) (g .suite) _ h c o 1 0) in
-    let cut : readLines (stepSheet (g .old) (g .new) (g .suite)) finishSheet 1 0 noSheet (ls ++ ([] ∷ [])) ≡ refused 11 (suc (length ls)) = go g ls ms m c read in
+    let read : readLines (stepSheet maxPairs (g .old) (g .new) (g .suite)) finishSheet 1 0 noSheet ((ls ++ (m ∷ ms)) ++ ([] ∷ [])) ≡ accepted c
+    = subst (λ (x : List Bytes). readLines (stepSheet maxPairs (g .old) (g .new) (g .suite)) finishSheet 1 0 noSheet (x ++ ([] ∷ [])) ≡ accepted c) is (goes-all maxPairs (g .old) (g .new) (g .suite) _ h c o 1 0) in
+    let cut : readLines (stepSheet maxPairs (g .old) (g .new) (g .suite)) finishSheet 1 0 noSheet (ls ++ ([] ∷ [])) ≡ refused 11 (suc (length ls)) = go g ls ms m c read in
     by-lines old new tests (textOf ls) g (ls ++ ([] ∷ [])) e short lines ∙ ap (λ (a : Answer Sheet). outcome a (judged g)) cut
   where
-    go : (g : Given) (ls ms : List Bytes) (m : Bytes) (c : Sheet) → readLines (stepSheet (g .old) (g .new) (g .suite)) finishSheet 1 0 noSheet ((ls ++ (m ∷ ms)) ++ ([] ∷ [])) ≡ accepted c
-        → readLines (stepSheet (g .old) (g .new) (g .suite)) finishSheet 1 0 noSheet (ls ++ ([] ∷ [])) ≡ refused 11 (suc (length ls))
+    go : (g : Given) (ls ms : List Bytes) (m : Bytes) (c : Sheet) → readLines (stepSheet maxPairs (g .old) (g .new) (g .suite)) finishSheet 1 0 noSheet ((ls ++ (m ∷ ms)) ++ ([] ∷ [])) ≡ accepted c
+        → readLines (stepSheet maxPairs (g .old) (g .new) (g .suite)) finishSheet 1 0 noSheet (ls ++ ([] ∷ [])) ≡ refused 11 (suc (length ls))
     go g ls [] m c r =
-        cut-sheet (g .old) (g .new) (g .suite) ls m [] [] c (ap (readLines (stepSheet (g .old) (g .new) (g .suite)) finishSheet 1 0 noSheet) (sym (append-assoc ls (m ∷ []) ([] ∷ []))) ∙ r)
+        cut-sheet maxPairs (g .old) (g .new) (g .suite) ls m [] [] c (ap (readLines (stepSheet maxPairs (g .old) (g .new) (g .suite)) finishSheet 1 0 noSheet) (sym (append-assoc ls (m ∷ []) ([] ∷ []))) ∙ r)
     go g ls (y ∷ ys) m c r =
-        cut-sheet (g .old) (g .new) (g .suite) ls m y (ys ++ ([] ∷ [])) c (ap (readLines (stepSheet (g .old) (g .new) (g .suite)) finishSheet 1 0 noSheet) (sym (append-assoc ls (m ∷ y ∷ ys) ([] ∷ []))) ∙ r)
+        cut-sheet maxPairs (g .old) (g .new) (g .suite) ls m y (ys ++ ([] ∷ [])) c (ap (readLines (stepSheet maxPairs (g .old) (g .new) (g .suite)) finishSheet 1 0 noSheet) (sym (append-assoc ls (m ∷ y ∷ ys) ([] ∷ []))) ∙ r)

@@ -83,9 +83,9 @@ pub never-wrote : {b : Bytes} {k p : ℕ} → wrote b ≡ refusal k p → ⊥
 never-wrote e = true≢false (let z : true ≡ false = cc in z)
 
 -- Something was written: not too many pairs, room enough, and these are the bytes.
-pub writing-wrote : (g : Given) (room : ℕ) (b c : Bytes) → writing g room b ≡ wrote c → (length (pairs (g .old) (g .new)) ≤ maxPairs) × (length b ≤ room) × (b ≡ c)
+pub writing-wrote : (limit over : ℕ) (g : Given) (room : ℕ) (b c : Bytes) → writing limit over g room b ≡ wrote c → (length (pairs (g .old) (g .new)) ≤ limit) × (length b ≤ room) × (b ≡ c)
 unfolding writing
-writing-wrote g room b c e =
+writing-wrote limit over g room b c e =
     let u = choose-wrote _ _ _ _ _ e in
     let v = choose-wrote _ _ _ _ _ (u .1) in
     (ltb-false _ _ (u .0), ltb-false _ _ (v .0), wrote-same (v .1))
@@ -119,7 +119,7 @@ r-form (f ∷ a ∷ b ∷ []) name e = absurd (not-r _ _ name (λ k. true≢fals
 r-form (f ∷ a ∷ b ∷ c ∷ []) name e = absurd (not-r _ _ name (λ k. true≢false (let z : true ≡ false = cc in z)) e)
 r-form (f ∷ a ∷ b ∷ c ∷ d ∷ ds) name e = absurd (true≢false (let z : true ≡ false = cc in z))
 
-module _ (old new : Program) (suite : Suite) where
+module _ (limit : ℕ) (old new : Program) (suite : Suite) where
   -- Each test that was read as listed has its R line among the lines.
   abbrev Lines : List Bytes → SheetRead → Type 0
   Lines ls s = (i : ℕ) → has (s .claims .R) i ≡ true → among ls (rLine (testName suite i)) ≡ true
@@ -142,7 +142,7 @@ module _ (old new : Program) (suite : Suite) where
       (has-append (s .claims .R) (j ∷ []) i k))
 
   lines-step : (n : ℕ) (ls : List Bytes) (s : SheetRead) (l : Bytes) (x : SheetLine) (t : SheetRead) → ((name : Bytes) → x ≡ r-line name → l ≡ rLine name)
-      → Lines ls s → takeSheetLine old new suite n s x ≡ accepted t → Lines (ls ++ (l ∷ [])) t
+      → Lines ls s → takeSheetLine limit old new suite n s x ≡ accepted t → Lines (ls ++ (l ∷ [])) t
   unfolding takeSheetLine
   lines-step n ls s l head-line t f h e =
       let u = unless-accepted _ _ _ _ _ e in
@@ -160,15 +160,15 @@ module _ (old new : Program) (suite : Suite) where
       subst (λ (t : SheetRead). Lines (ls ++ (l ∷ [])) t) (accepted-same (u .1)) (λ i k. among-append ls (l ∷ []) _ (h i k))
   lines-step n ls s l no-form t f h e = absurd (true≢false (let z : true ≡ false = cc in z))
 
-  lines-kept : (n at : ℕ) (ls : List Bytes) (s : SheetRead) (l : Bytes) (t : SheetRead) → Lines ls s → stepSheet old new suite n at s l ≡ accepted t → Lines (ls ++ (l ∷ [])) t
+  lines-kept : (n at : ℕ) (ls : List Bytes) (s : SheetRead) (l : Bytes) (t : SheetRead) → Lines ls s → stepSheet limit old new suite n at s l ≡ accepted t → Lines (ls ++ (l ∷ [])) t
   unfolding stepSheet rLine
   lines-kept n at ls s l t h e = lines-step n ls s l (sheetForm (fieldsOf l)) t (λ name k. sym (join-split 44 l) ∙ ap commas (r-form (fieldsOf l) name k)) h e
 
   -- A test that a sheet's reading lists has an R line in its text.
-  pub r-lines : (text : Bytes) (s : Sheet) → readSheet old new suite text ≡ accepted s → (i : ℕ) → has (s .R) i ≡ true → among (linesOf text) (rLine (testName suite i)) ≡ true
+  pub r-lines : (text : Bytes) (s : Sheet) → readSheet limit old new suite text ≡ accepted s → (i : ℕ) → has (s .R) i ≡ true → among (linesOf text) (rLine (testName suite i)) ≡ true
   unfolding readSheet finishSheet
   r-lines text s e i h =
-      let r = text-holds (stepSheet old new suite) finishSheet Lines lines-kept text noSheet s (λ i k. absurd (none-has i k)) e in
+      let r = text-holds (stepSheet limit old new suite) finishSheet Lines lines-kept text noSheet s (λ i k. absurd (none-has i k)) e in
       let u = unless-accepted _ _ _ _ _ (r .finishes) in
       subst (λ (ps : List Bytes). among ps (rLine (testName suite i)) ≡ true) (sym (r .taken))
       (among-append (r .lines) ([] ∷ []) _ (r .holds i (subst (λ (c : Sheet). has (c .R) i ≡ true) (sym (accepted-same (u .1))) h)))
@@ -180,7 +180,7 @@ pub record Passed (old new tests sheet : Bytes) : Type 0 where
   pub given : Given
   pub reads : readJob old new tests ≡ accepted given
   pub claims : Sheet
-  pub reads-sheet : readSheet (given .old) (given .new) (given .suite) sheet ≡ accepted claims
+  pub reads-sheet : readSheet maxPairs (given .old) (given .new) (given .suite) sheet ≡ accepted claims
   pub unbroken : broken (given .old) (given .new) (given .suite .coverages) claims ≡ 0
 
 pub check-passed : (old new tests sheet : Bytes) → checkAnswer old new tests sheet ≡ passed → Passed old new tests sheet
@@ -190,7 +190,7 @@ check-passed old new tests sheet e =
     let v = outcome-wrote _ _ _ (u .2) in
     record { given = u .0; reads = u .1; claims = v .0; reads-sheet = v .1; unbroken = eqb-true _ _ (wrote-choose _ _ _ _ _ (v .2) .0) }
 
-pub passed-check : (old new tests sheet : Bytes) (g : Given) (s : Sheet) → readJob old new tests ≡ accepted g → readSheet (g .old) (g .new) (g .suite) sheet ≡ accepted s
+pub passed-check : (old new tests sheet : Bytes) (g : Given) (s : Sheet) → readJob old new tests ≡ accepted g → readSheet maxPairs (g .old) (g .new) (g .suite) sheet ≡ accepted s
     → broken (g .old) (g .new) (g .suite .coverages) s ≡ 0 → checkAnswer old new tests sheet ≡ passed
 unfolding answering serving judged outcome
 passed-check old new tests sheet g s a b c = rw (a, b) (choose-yes _ _ (eq-eqb _ _ c))
@@ -207,7 +207,7 @@ checked-texts old new tests sheet e =
       p .reads,
       λ i h l m s k c ran crossed.
           checked (g .old) (g .new) (n .old-formed) (n .new-formed) (g .suite .coverages) (p .claims) (p .unbroken) i (omega (arith, n .suite-sound .paired))
-          (fails _ (λ t. both-ways (r-lines (g .old) (g .new) (g .suite) sheet (p .claims) (p .reads-sheet) i t) (isnt-true _ l))) m s k c ran crossed,
+          (fails _ (λ t. both-ways (r-lines maxPairs (g .old) (g .new) (g .suite) sheet (p .claims) (p .reads-sheet) i t) (isnt-true _ l))) m s k c ran crossed,
     )
 
 -- ---- demand 3, the selector's half
@@ -248,7 +248,7 @@ pub sheet-wrote : (old new tests : Bytes) (room : ℕ) (b : Bytes) → sheetAnsw
 unfolding answering serving
 sheet-wrote old new tests room b e =
     let u = outcome-wrote _ _ _ e in
-    let v = writing-wrote _ _ _ _ (u .2) in
+    let v = writing-wrote _ _ _ _ _ _ (u .2) in
     (u .0, u .1, v .0, subst (λ (c : Bytes). length c ≤ room) (v .2) (v .1), v .2)
 
 pub record-wrote : (old new tests : Bytes) (i room : ℕ) (b : Bytes) → recordAnswer old new tests i room ≡ wrote b
@@ -257,7 +257,7 @@ unfolding answering serving
 record-wrote old new tests i room b e =
     let u = outcome-wrote _ _ _ e in
     let w = wrote-choose _ _ _ _ _ (u .2) in
-    let v = writing-wrote _ _ _ _ (w .1) in
+    let v = writing-wrote _ _ _ _ _ _ (w .1) in
     (u .0, u .1, ltb-true _ _ (w .0), v .2)
 
 -- A test with no R line on the selector's sheet is not repeated.

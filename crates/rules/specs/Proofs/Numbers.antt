@@ -188,14 +188,14 @@ test-good m n at l (test-line name row) h =
     unless-good suiteNumbers Any _ _ _ _ refl h (λ e. unless-good suiteNumbers Any _ _ _ _ refl h (λ e. unless-good suiteNumbers Any _ _ _ _ refl h (λ e. tt)))
 test-good m n at l no-test h = (refl, h)
 
-sheet-line-good : (old new : Program) (suite : Suite) (n : ℕ) (s : SheetRead) (x : SheetLine) → n < big → Good sheetNumbers Any (takeSheetLine old new suite n s x)
+sheet-line-good : (limit : ℕ) (old new : Program) (suite : Suite) (n : ℕ) (s : SheetRead) (x : SheetLine) → n < big → Good sheetNumbers Any (takeSheetLine limit old new suite n s x)
 unfolding takeSheetLine has _or_
-sheet-line-good old new suite n s head-line h = unless-good sheetNumbers Any _ _ _ _ refl h (λ e. tt)
-sheet-line-good old new suite n s (m-line a b) h = unless-good sheetNumbers Any _ _ _ _ refl h (λ e. unless-good sheetNumbers Any _ _ _ _ refl h (λ e. tt))
-sheet-line-good old new suite n s (d-line e) h = unless-good sheetNumbers Any _ _ _ _ refl h (λ e. tt)
-sheet-line-good old new suite n s (r-line name) h = after-good sheetNumbers Any (testOf suite name) _ _ (refl, h) (λ i. unless-good sheetNumbers Any _ _ _ _ refl h (λ e. tt))
-sheet-line-good old new suite n s (end-line m d r) h = unless-good sheetNumbers Any _ _ _ _ refl h (λ e. tt)
-sheet-line-good old new suite n s no-form h = (refl, h)
+sheet-line-good limit old new suite n s head-line h = unless-good sheetNumbers Any _ _ _ _ refl h (λ e. tt)
+sheet-line-good limit old new suite n s (m-line a b) h = unless-good sheetNumbers Any _ _ _ _ refl h (λ e. unless-good sheetNumbers Any _ _ _ _ refl h (λ e. tt))
+sheet-line-good limit old new suite n s (d-line e) h = unless-good sheetNumbers Any _ _ _ _ refl h (λ e. tt)
+sheet-line-good limit old new suite n s (r-line name) h = after-good sheetNumbers Any (testOf suite name) _ _ (refl, h) (λ i. unless-good sheetNumbers Any _ _ _ _ refl h (λ e. tt))
+sheet-line-good limit old new suite n s (end-line m d r) h = unless-good sheetNumbers Any _ _ _ _ refl h (λ e. tt)
+sheet-line-good limit old new suite n s no-form h = (refl, h)
 
 -- ---- the texts
 
@@ -231,20 +231,20 @@ suite-long m text p =
     let l = text-long suiteNumbers Any Any (stepSuite m) finishSuite refl (λ n at s l h k. test-good m n at s (testForm (fieldsOf l)) h) (λ n s h k. tt) noTests text tt refl p in
     (λ e. l .0 (r .0 e), λ h. r .1 (l .1 h))
 
-module _ (old new : Program) (suite : Suite) where
+module _ (limit : ℕ) (old new : Program) (suite : Suite) where
   sheet-end-good : (n : ℕ) (s : SheetRead) → n < big → Good sheetNumbers Any (finishSheet n s)
   unfolding finishSheet has _or_
   sheet-end-good n s h = unless-good sheetNumbers Any _ _ _ _ refl h (λ e. tt)
 
-  pub sheet-good : (text : Bytes) → Good (1 ∷ sheetNumbers) Any (readSheet old new suite text)
+  pub sheet-good : (text : Bytes) → Good (1 ∷ sheetNumbers) Any (readSheet limit old new suite text)
   unfolding readSheet stepSheet has _or_
   sheet-good text =
-      text-good sheetNumbers Any Any (stepSheet old new suite) finishSheet refl (λ n at s l h k. sheet-line-good old new suite n s (sheetForm (fieldsOf l)) h) (λ n s h k. sheet-end-good n s h) noSheet text tt
+      text-good sheetNumbers Any Any (stepSheet limit old new suite) finishSheet refl (λ n at s l h k. sheet-line-good limit old new suite n s (sheetForm (fieldsOf l)) h) (λ n s h k. sheet-end-good n s h) noSheet text tt
 
-  pub sheet-long : (text : Bytes) (p : ℕ) → (readSheet old new suite text ≡ refused 1 p) ↔ ((maxBytes < length text) × (p ≡ 0))
+  pub sheet-long : (text : Bytes) (p : ℕ) → (readSheet limit old new suite text ≡ refused 1 p) ↔ ((maxBytes < length text) × (p ≡ 0))
   unfolding readSheet stepSheet has _or_
   sheet-long text p =
-      text-long sheetNumbers Any Any (stepSheet old new suite) finishSheet refl (λ n at s l h k. sheet-line-good old new suite n s (sheetForm (fieldsOf l)) h) (λ n s h k. sheet-end-good n s h) noSheet text tt refl p
+      text-long sheetNumbers Any Any (stepSheet limit old new suite) finishSheet refl (λ n at s l h k. sheet-line-good limit old new suite n s (sheetForm (fieldsOf l)) h) (λ n s h k. sheet-end-good n s h) noSheet text tt refl p
 
 pub job-good : (old new tests : Bytes) → Good jobNumbers Any (readJob old new tests)
 unfolding readJob allOf has _or_ _and_

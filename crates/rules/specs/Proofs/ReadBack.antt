@@ -73,34 +73,34 @@ below-of (x ∷ l) n h = and-both (lt-ltb x n (h x (or-left _ (eqb-self x)))) (b
 abbrev pub reading : List (ℕ × ℕ) → List ℕ → List ℕ → SheetRead
 reading M D R = record { opened = true; claims = record { M = M; D = D; R = R }; shut = false }
 
-module _ (old new : Program) (suite : Suite) where
-  step-head : (n at : ℕ) → stepSheet old new suite n at noSheet headLine ≡ accepted (reading [] [] [])
+module _ (limit : ℕ) (old new : Program) (suite : Suite) where
+  step-head : (n at : ℕ) → stepSheet limit old new suite n at noSheet headLine ≡ accepted (reading [] [] [])
   unfolding stepSheet takeSheetLine
-  step-head n at = ap (takeSheetLine old new suite n noSheet) form-head ∙ unless-passes _ _ _ _ refl
+  step-head n at = ap (takeSheetLine limit old new suite n noSheet) form-head ∙ unless-passes _ _ _ _ refl
 
-  take-m : (n : ℕ) (M : List (ℕ × ℕ)) (x y : Bytes) (a b : ℕ) → value x ≡ a → value y ≡ b → length M < maxPairs → a < nodeCount old → b < nodeCount new
-      → ((n k : ℕ) → listed M n k ≡ true → Before (n, k) (a, b)) → takeSheetLine old new suite n (reading M [] []) (m-line x y) ≡ accepted (reading (M ++ ((a, b) ∷ [])) [] [])
+  take-m : (n : ℕ) (M : List (ℕ × ℕ)) (x y : Bytes) (a b : ℕ) → value x ≡ a → value y ≡ b → length M < limit → a < nodeCount old → b < nodeCount new
+      → ((n k : ℕ) → listed M n k ≡ true → Before (n, k) (a, b)) → takeSheetLine limit old new suite n (reading M [] []) (m-line x y) ≡ accepted (reading (M ++ ((a, b) ∷ [])) [] [])
   unfolding takeSheetLine none? _and_ isnt
   take-m n M x y a b p q few h k late =
       rw (p, q)
-      (unless-passes _ _ _ _ (lt-leb maxPairs (length M) few)
+      (unless-passes _ _ _ _ (lt-leb limit (length M) few)
       ∙ unless-passes _ _ _ _ (false-isnt (and-both (lt-ltb _ _ h) (and-both (lt-ltb _ _ k) (allPairs-of (before a b) M (λ n k t. before-of a b n k (late n k t)))))))
 
-  step-m : (n at : ℕ) (M : List (ℕ × ℕ)) (a b : ℕ) → length M < maxPairs → a < nodeCount old → b < nodeCount new
-      → ((n k : ℕ) → listed M n k ≡ true → Before (n, k) (a, b)) → stepSheet old new suite n at (reading M [] []) (mLine a b) ≡ accepted (reading (M ++ ((a, b) ∷ [])) [] [])
+  step-m : (n at : ℕ) (M : List (ℕ × ℕ)) (a b : ℕ) → length M < limit → a < nodeCount old → b < nodeCount new
+      → ((n k : ℕ) → listed M n k ≡ true → Before (n, k) (a, b)) → stepSheet limit old new suite n at (reading M [] []) (mLine a b) ≡ accepted (reading (M ++ ((a, b) ∷ [])) [] [])
   unfolding stepSheet
   step-m n at M a b few h k late =
-      ap (takeSheetLine old new suite n (reading M [] [])) (form-m a b) ∙ take-m n M (decimal a) (decimal b) a b (value-decimal a) (value-decimal b) few h k late
+      ap (takeSheetLine limit old new suite n (reading M [] [])) (form-m a b) ∙ take-m n M (decimal a) (decimal b) a b (value-decimal a) (value-decimal b) few h k late
 
   take-d : (n : ℕ) (M : List (ℕ × ℕ)) (D : List ℕ) (x : Bytes) (e : ℕ) → value x ≡ e → e < edgeCount old → ((i : ℕ) → has D i ≡ true → i < e)
-      → takeSheetLine old new suite n (reading M D []) (d-line x) ≡ accepted (reading M (D ++ (e ∷ [])) [])
+      → takeSheetLine limit old new suite n (reading M D []) (d-line x) ≡ accepted (reading M (D ++ (e ∷ [])) [])
   unfolding takeSheetLine none? _and_ isnt
   take-d n M D x e p h late = rw p (unless-passes _ _ _ _ (false-isnt (and-both (lt-ltb _ _ h) (below-of D e late))))
 
   step-d : (n at : ℕ) (M : List (ℕ × ℕ)) (D : List ℕ) (e : ℕ) → e < edgeCount old → ((i : ℕ) → has D i ≡ true → i < e)
-      → stepSheet old new suite n at (reading M D []) (dLine e) ≡ accepted (reading M (D ++ (e ∷ [])) [])
+      → stepSheet limit old new suite n at (reading M D []) (dLine e) ≡ accepted (reading M (D ++ (e ∷ [])) [])
   unfolding stepSheet
-  step-d n at M D e h late = ap (takeSheetLine old new suite n (reading M D [])) (form-d e) ∙ take-d n M D (decimal e) e (value-decimal e) h late
+  step-d n at M D e h late = ap (takeSheetLine limit old new suite n (reading M D [])) (form-d e) ∙ take-d n M D (decimal e) e (value-decimal e) h late
 
   module _ (w : ℕ) (sound : SoundSuite w suite) where
     name-found : (i : ℕ) → i < testCount suite → testOf suite (testName suite i) ≡ some i
@@ -110,31 +110,31 @@ module _ (old new : Program) (suite : Suite) where
         (λ j k e. sound .names i j h k (same-true _ _ e))
 
     step-r : (n at : ℕ) (M : List (ℕ × ℕ)) (D R : List ℕ) (i : ℕ) → i < testCount suite → ((j : ℕ) → has R j ≡ true → j < i)
-        → stepSheet old new suite n at (reading M D R) (rLine (testName suite i)) ≡ accepted (reading M D (R ++ (i ∷ [])))
+        → stepSheet limit old new suite n at (reading M D R) (rLine (testName suite i)) ≡ accepted (reading M D (R ++ (i ∷ [])))
     unfolding stepSheet takeSheetLine _and_ isnt
     step-r n at M D R i h late =
-        ap (takeSheetLine old new suite n (reading M D R)) (form-r (testName suite i) (sound .nameForms i h))
+        ap (takeSheetLine limit old new suite n (reading M D R)) (form-r (testName suite i) (sound .nameForms i h))
         ∙ rw (name-found i h) (unless-passes _ _ _ _ (false-isnt (below-of R i late)))
 
   take-end : (n : ℕ) (M : List (ℕ × ℕ)) (D R : List ℕ) (x y z : Bytes) → value x ≡ length M → value y ≡ length D → value z ≡ length R
-      → takeSheetLine old new suite n (reading M D R) (end-line x y z) ≡ accepted (shutSheet (reading M D R))
+      → takeSheetLine limit old new suite n (reading M D R) (end-line x y z) ≡ accepted (shutSheet (reading M D R))
   unfolding takeSheetLine _and_ isnt
   take-end n M D R x y z p q r = unless-passes _ _ _ _ (false-isnt (and-both (eq-eqb _ _ p) (and-both (eq-eqb _ _ q) (eq-eqb _ _ r))))
 
   step-end : (n at : ℕ) (M : List (ℕ × ℕ)) (D R : List ℕ)
-      → stepSheet old new suite n at (reading M D R) (endLine (length M) (length D) (length R)) ≡ accepted (shutSheet (reading M D R))
+      → stepSheet limit old new suite n at (reading M D R) (endLine (length M) (length D) (length R)) ≡ accepted (shutSheet (reading M D R))
   unfolding stepSheet
   step-end n at M D R =
-      ap (takeSheetLine old new suite n (reading M D R)) (form-end (length M) (length D) (length R))
+      ap (takeSheetLine limit old new suite n (reading M D R)) (form-end (length M) (length D) (length R))
       ∙ take-end n M D R (decimal (length M)) (decimal (length D)) (decimal (length R)) (value-decimal _) (value-decimal _) (value-decimal _)
 
   -- ---- all the lines
 
   -- From what was read so far, the lines are read to the end, and give the sheet c.
   unfoldable pub Goes : Sheet → SheetRead → List Bytes → Type 0
-  Goes c s ls = (n at : ℕ) → readLines (stepSheet old new suite) finishSheet n at s (ls ++ ([] ∷ [])) ≡ accepted c
+  Goes c s ls = (n at : ℕ) → readLines (stepSheet limit old new suite) finishSheet n at s (ls ++ ([] ∷ [])) ≡ accepted c
 
-  goes-more : (c : Sheet) (s t : SheetRead) (l : Bytes) (ls : List Bytes) → ((n at : ℕ) → stepSheet old new suite n at s l ≡ accepted t) → Goes c t ls → Goes c s (l ∷ ls)
+  goes-more : (c : Sheet) (s t : SheetRead) (l : Bytes) (ls : List Bytes) → ((n at : ℕ) → stepSheet limit old new suite n at s l ≡ accepted t) → Goes c t ls → Goes c s (l ∷ ls)
   unfolding Goes readLines
   goes-more c s t l [] h g n at = then-passes _ (h n at) ∙ g (suc n) (at + length l + 1)
   goes-more c s t l (m ∷ ls) h g n at = then-passes _ (h n at) ∙ g (suc n) (at + length l + 1)
@@ -146,7 +146,7 @@ module _ (old new : Program) (suite : Suite) where
   goes-end : (M : List (ℕ × ℕ)) (D R : List ℕ) → Goes (record { M = M; D = D; R = R }) (reading M D R) (endLine (length M) (length D) (length R) ∷ [])
   goes-end M D R = goes-more _ (reading M D R) (shutSheet (reading M D R)) _ [] (λ n at. step-end n at M D R) (goes-shut M D R)
 
-  goes-m : (c : Sheet) (ls : List Bytes) (rest done : List (ℕ × ℕ)) → length done + length rest ≤ maxPairs
+  goes-m : (c : Sheet) (ls : List Bytes) (rest done : List (ℕ × ℕ)) → length done + length rest ≤ limit
       → ((n k : ℕ) → listed rest n k ≡ true → (n < nodeCount old) × (k < nodeCount new)) → Ascending rest
       → ((a b n k : ℕ) → listed done a b ≡ true → listed rest n k ≡ true → Before (a, b) (n, k))
       → Goes c (reading (done ++ rest) [] []) ls → Goes c (reading done [] []) (map (λ x. mLine (x .0) (x .1)) rest ++ ls)
@@ -181,7 +181,7 @@ module _ (old new : Program) (suite : Suite) where
       (λ a b t u. ⊎-elim (λ v. late a b v (has-rest x rest b u)) (λ v. subst (λ (i : ℕ). i < b) (one-has x a v) (up b u)) (has-append done (x ∷ []) a t))
       (subst (λ (r : List ℕ). Goes c (reading M D r) ls) (sym (append-assoc done (x ∷ []) rest)) g))
 
-  pub goes-all : (w : ℕ) → SoundSuite w suite → (c : Sheet) → SheetFollows old new suite c → Goes c noSheet (sheetLines (suite .names) c)
+  pub goes-all : (w : ℕ) → SoundSuite w suite → (c : Sheet) → SheetFollows limit old new suite c → Goes c noSheet (sheetLines (suite .names) c)
   unfolding sheetLines
   goes-all w h c o =
       goes-more c noSheet (reading [] [] []) headLine _ step-head
@@ -261,10 +261,10 @@ lines-back : (suite : Suite) (w : ℕ) → SoundSuite w suite → (c : Sheet) �
 unfolding sheetText
 lines-back suite w h c = sheet-lines w suite h c
 
-pub sheet-short : (old new : Program) (suite : Suite) → Sound old → Sound new → (w : ℕ) → SoundSuite w suite → (c : Sheet) → SheetFollows old new suite c → Few c
+pub sheet-short : (limit : ℕ) → limit ≤ maxPairs → (old new : Program) (suite : Suite) → Sound old → Sound new → (w : ℕ) → SoundSuite w suite → (c : Sheet) → SheetFollows limit old new suite c → Few c
     → length (sheetText (suite .names) c) ≤ maxBytes
 unfolding sheetText sheetLines
-sheet-short old new suite so sn w h c o f =
+sheet-short limit most old new suite so sn w h c o f =
     let ms : List Bytes = map (λ x. mLine (x .0) (x .1)) (c .M) in
     let ds : List Bytes = map dLine (c .D) in
     let rs : List Bytes = map (λ i. rLine (testName suite i)) (c .R) in
@@ -274,30 +274,31 @@ sheet-short old new suite so sn w h c o f =
     let b : length (textOf ds) ≤ 7 * length (c .D) = ended-d (c .D) (λ e t. omega (arith, o .edges e t, so .fewEdges)) in
     let d : length (textOf rs) ≤ 15 * length (c .R) = ended-r (testName suite) (c .R) (name-short w suite h) in
     let e : length (textOf es) ≤ 19
-    = omega (arith, ended-cons (endLine (length (c .M)) (length (c .D)) (length (c .R))) [], end-short (length (c .M)) (length (c .D)) (length (c .R)) (omega (arith, o .fewPairs)) (omega (arith, f .fewD)) (omega (arith, f .fewR)), nothing-ended) in
+    = omega (arith, ended-cons (endLine (length (c .M)) (length (c .D)) (length (c .R))) [], end-short (length (c .M)) (length (c .D)) (length (c .R)) (omega (arith, most, o .fewPairs)) (omega (arith, f .fewD)) (omega (arith, f .fewR)), nothing-ended) in
     omega (
       arith,
       ended-cons headLine (ms ++ (ds ++ (rs ++ es))),
       ended-append ms (ds ++ (rs ++ es)),
       ended-append ds (rs ++ es),
       ended-append rs es,
+      most,
       o .fewPairs,
       f .fewD,
       f .fewR,
     )
 
 -- A sheet that keeps the order is read back from its text.
-pub read-back : (old new : Program) (suite : Suite) → Sound old → Sound new → (w : ℕ) → SoundSuite w suite → (c : Sheet) → SheetFollows old new suite c → Few c
-    → readSheet old new suite (sheetText (suite .names) c) ≡ accepted c
+pub read-back : (limit : ℕ) → limit ≤ maxPairs → (old new : Program) (suite : Suite) → Sound old → Sound new → (w : ℕ) → SoundSuite w suite → (c : Sheet) → SheetFollows limit old new suite c → Few c
+    → readSheet limit old new suite (sheetText (suite .names) c) ≡ accepted c
 unfolding readSheet readText Goes
-read-back old new suite so sn w h c o f =
-    unless-passes _ _ _ _ (le-ltb _ _ (sheet-short old new suite so sn w h c o f))
-    ∙ ap (readLines (stepSheet old new suite) finishSheet 1 0 noSheet) (lines-back suite w h c)
-    ∙ goes-all old new suite w h c o 1 0
+read-back limit most old new suite so sn w h c o f =
+    unless-passes _ _ _ _ (le-ltb _ _ (sheet-short limit most old new suite so sn w h c o f))
+    ∙ ap (readLines (stepSheet limit old new suite) finishSheet 1 0 noSheet) (lines-back suite w h c)
+    ∙ goes-all limit old new suite w h c o 1 0
 
 -- The selector's sheet keeps the order.
-module _ (g : Given) (w : ℕ) (h : SoundSuite w (g .suite)) (few : length (pairs (g .old) (g .new)) ≤ maxPairs) where
-  pub chosen-orderly : SheetFollows (g .old) (g .new) (g .suite) (selected (g .old) (g .new) (g .suite .coverages))
+module _ (limit : ℕ) (g : Given) (w : ℕ) (h : SoundSuite w (g .suite)) (few : length (pairs (g .old) (g .new)) ≤ limit) where
+  pub chosen-orderly : SheetFollows limit (g .old) (g .new) (g .suite) (selected (g .old) (g .new) (g .suite .coverages))
   unfolding selected dangers repeated
   chosen-orderly =
       record {
@@ -319,8 +320,8 @@ module _ (g : Given) (w : ℕ) (h : SoundSuite w (g .suite)) (few : length (pair
       }
 
   -- It is within the limit on bytes.
-  pub selected-short : Sound (g .old) → Sound (g .new) → length (sheetText (g .suite .names) (selected (g .old) (g .new) (g .suite .coverages))) ≤ maxBytes
-  selected-short so sn = sheet-short (g .old) (g .new) (g .suite) so sn w h (selected (g .old) (g .new) (g .suite .coverages)) chosen-orderly (chosen-few so)
+  pub selected-short : limit ≤ maxPairs → Sound (g .old) → Sound (g .new) → length (sheetText (g .suite .names) (selected (g .old) (g .new) (g .suite .coverages))) ≤ maxBytes
+  selected-short most so sn = sheet-short limit most (g .old) (g .new) (g .suite) so sn w h (selected (g .old) (g .new) (g .suite .coverages)) chosen-orderly (chosen-few so)
 
 -- The checker passes all that the selector writes.
 pub written-passes : (old new tests : Bytes) (room : ℕ) (sheet : Bytes) → sheetAnswer old new tests room ≡ wrote sheet
@@ -332,10 +333,10 @@ written-passes old new tests room sheet e =
     let n = known old new tests g (u .1) in
     let c = selected (g .old) (g .new) (g .suite .coverages) in
     let h = n .suite-sound in
-    let o = chosen-orderly g _ h (u .2) in
-    let f = chosen-few g _ h (u .2) (n .old-sound) in (
+    let o = chosen-orderly maxPairs g _ h (u .2) in
+    let f = chosen-few maxPairs g _ h (u .2) (n .old-sound) in (
       passed-check old new tests sheet g c (u .1)
-          (subst (λ (b : Bytes). readSheet (g .old) (g .new) (g .suite) b ≡ accepted c) (u .4) (read-back (g .old) (g .new) (g .suite) (n .old-sound) (n .new-sound) _ h c o f))
+          (subst (λ (b : Bytes). readSheet maxPairs (g .old) (g .new) (g .suite) b ≡ accepted c) (u .4) (read-back maxPairs (omega arith) (g .old) (g .new) (g .suite) (n .old-sound) (n .new-sound) _ h c o f))
           (selected-passes (g .old) (g .new) (n .old-formed) (n .new-formed) (g .suite .coverages)),
-      subst (λ (b : Bytes). length b ≤ maxBytes) (u .4) (selected-short g _ h (u .2) (n .old-sound) (n .new-sound)),
+      subst (λ (b : Bytes). length b ≤ maxBytes) (u .4) (selected-short maxPairs g _ h (u .2) (omega arith) (n .old-sound) (n .new-sound)),
     )

@@ -5,7 +5,7 @@ use Prim.Native.Nat.{ℕ, zero, suc, _<_}
 use native.Mathlib.Omega.{arith}
 use borrow.Author.Tests.{le-ltb, lt-ltb, ne-eqb}
 use Rattle.laws.specs.Lists.{choose-yes, choose-no}
-use Rattle.rules.specs.Text.{Answer, Bytes, then}
+use Rattle.rules.specs.Text.{Answer, Bytes, maxPairs, then, tooMany}
 use Rattle.rules.specs.Graph.{Program, nodeCount}
 use Rattle.rules.specs.ProgramFile.{readProgram}
 use Rattle.rules.specs.SuiteFile.{TestListing, testCount}
@@ -37,7 +37,7 @@ texts-first old new tests k p e =
 
 pub no-test : RecordUnnamed
 unfolding answering serving outcome
-no-test old new tests g e i room l = ap (λ (x : Answer Given). outcome x (λ h. recording h i room)) e ∙ choose-no _ _ (le-ltb i (testCount (g .suite)) l)
+no-test old new tests g e i room l = ap (λ (x : Answer Given). outcome x (λ h. recording maxPairs tooMany h i room)) e ∙ choose-no _ _ (le-ltb i (testCount (g .suite)) l)
 
 no-number : (n a b : ℕ) → 3 < n → requestBy n a b ≡ no-request
 unfolding requestBy

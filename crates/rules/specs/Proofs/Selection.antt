@@ -8,7 +8,7 @@ use lib.ListN.{getD}
 use borrow.Author.Tests.{eqb-true, eq-eqb}
 use Rattle.laws.specs.Tests.{isnt, choose, any}
 use Rattle.laws.specs.TestLaws.{and-left, and-right, and-both, any-at, any-of, any-none, every-at, every-of, anyOf-at, anyOf-of, implied, implies}
-use Rattle.rules.specs.Text.{Bytes, accepted}
+use Rattle.rules.specs.Text.{Bytes, accepted, maxPairs}
 use Rattle.rules.specs.Graph.{Program, edgeCount}
 use Rattle.rules.specs.SuiteFile.{coverageAt, testName}
 use Rattle.rules.specs.Closing.{Counterparts, Coverage, carries, carriesOnly, dangers, holds, joined, mark, mark-0, mark-1, mark-?, meets, pairs}
@@ -33,7 +33,7 @@ sheet-proof old new tests room sheet e =
       record {
         claims = selected (g .old) (g .new) (g .suite .coverages);
         text = sym (u .4);
-        order = chosen-orderly g _ (n .suite-sound) (u .2);
+        order = chosen-orderly maxPairs g _ (n .suite-sound) (u .2);
         pairs-are = x .pairs-are;
         dangers-are = x .dangers-are;
         repeated-are = λ i. (

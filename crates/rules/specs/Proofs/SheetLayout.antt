@@ -104,12 +104,12 @@ rise-few (rise-more {x = x} {l = l} up r) k n h low high =
 
 -- ---- an accepted sheet is the writing of what was read
 
-module _ (old new : Program) (suite : Suite) where
+module _ (limit : ℕ) (old new : Program) (suite : Suite) where
   -- What an accepted line says.
   abbrev SheetTaken : SheetRead → SheetLine → SheetRead → Type 0
   SheetTaken s head-line t = (s .opened ≡ false) × (t ≡ openSheet s)
   SheetTaken s (m-line a b) t =
-      (length (s .claims .M) < maxPairs) × (going s ≡ true) × (s .claims .D ≡ []) × (s .claims .R ≡ []) × (value a < nodeCount old) × (value b < nodeCount new)
+      (length (s .claims .M) < limit) × (going s ≡ true) × (s .claims .D ≡ []) × (s .claims .R ≡ []) × (value a < nodeCount old) × (value b < nodeCount new)
       × (pairsBefore (s .claims .M) (value a) (value b) ≡ true) × (t ≡ addM (value a) (value b) s)
   SheetTaken s (d-line e) t = (going s ≡ true) × (s .claims .R ≡ []) × (value e < edgeCount old) × (allBelow (s .claims .D) (value e) ≡ true) × (t ≡ addD (value e) s)
   SheetTaken s (r-line name) t = (i : ℕ) × (testOf suite name ≡ some i) × (going s ≡ true) × (allBelow (s .claims .R) i ≡ true) × (t ≡ addR i s)
@@ -125,7 +125,7 @@ module _ (old new : Program) (suite : Suite) where
       let k = isnt-false _ (u .0) in
       (i, q, and-left _ _ k, and-right _ _ k, sym (accepted-same (u .1)))
 
-  sheet-taken : (n : ℕ) (s : SheetRead) (x : SheetLine) (t : SheetRead) → takeSheetLine old new suite n s x ≡ accepted t → SheetTaken s x t
+  sheet-taken : (n : ℕ) (s : SheetRead) (x : SheetLine) (t : SheetRead) → takeSheetLine limit old new suite n s x ≡ accepted t → SheetTaken s x t
   unfolding takeSheetLine
   sheet-taken n s head-line t e =
       let u = unless-accepted _ _ _ _ _ e in
@@ -176,19 +176,19 @@ module _ (old new : Program) (suite : Suite) where
   record Inside (ls : List Bytes) (s : SheetRead) : Type 0 where
     opens : s .opened ≡ true
     ajar : s .shut ≡ false
-    order : SheetFollows old new suite (s .claims)
+    order : SheetFollows limit old new suite (s .claims)
     lines : ls ≡ headLine ∷ (ms (s .claims .M) ++ (ds (s .claims .D) ++ rs (s .claims .R)))
 
   record Over (ls : List Bytes) (s : SheetRead) : Type 0 where
     opens : s .opened ≡ true
     shuts : s .shut ≡ true
-    order : SheetFollows old new suite (s .claims)
+    order : SheetFollows limit old new suite (s .claims)
     lines : ls ≡ sheetLines (suite .names) (s .claims)
 
   Stage : List Bytes → SheetRead → Type 0
   Stage ls s = ((s ≡ noSheet) × (ls ≡ [])) ⊎ (Inside ls s ⊎ Over ls s)
 
-  empty-order : SheetFollows old new suite (record { M = []; D = []; R = [] })
+  empty-order : SheetFollows limit old new suite (record { M = []; D = []; R = [] })
   empty-order =
       record {
         fewPairs = omega arith;
@@ -200,8 +200,8 @@ module _ (old new : Program) (suite : Suite) where
         tests = λ i h. absurd (none-has i h);
       }
 
-  order-m : (c : Sheet) (a b : ℕ) → SheetFollows old new suite c → length (c .M) < maxPairs → a < nodeCount old → b < nodeCount new → pairsBefore (c .M) a b ≡ true
-      → SheetFollows old new suite (record { M = c .M ++ ((a, b) ∷ []); D = c .D; R = c .R })
+  order-m : (c : Sheet) (a b : ℕ) → SheetFollows limit old new suite c → length (c .M) < limit → a < nodeCount old → b < nodeCount new → pairsBefore (c .M) a b ≡ true
+      → SheetFollows limit old new suite (record { M = c .M ++ ((a, b) ∷ []); D = c .D; R = c .R })
   order-m c a b o few ha hb late =
       record {
         fewPairs = omega (arith, length-append (c .M) ((a, b) ∷ []));
@@ -225,7 +225,7 @@ module _ (old new : Program) (suite : Suite) where
   has-snoc : (l : List ℕ) (x n : ℕ) → ((y : ℕ) → has l y ≡ true → y < n) → x < n → (y : ℕ) → has (l ++ (x ∷ [])) y ≡ true → y < n
   has-snoc l x n h k y t = ⊎-elim (h y) (λ u. subst (λ (z : ℕ). z < n) (one-has x y u) k) (has-append l (x ∷ []) y t)
 
-  order-d : (c : Sheet) (e : ℕ) → SheetFollows old new suite c → e < edgeCount old → allBelow (c .D) e ≡ true → SheetFollows old new suite (record { M = c .M; D = c .D ++ (e ∷ []); R = c .R })
+  order-d : (c : Sheet) (e : ℕ) → SheetFollows limit old new suite c → e < edgeCount old → allBelow (c .D) e ≡ true → SheetFollows limit old new suite (record { M = c .M; D = c .D ++ (e ∷ []); R = c .R })
   order-d c e o h late =
       record {
         fewPairs = o .fewPairs;
@@ -237,7 +237,7 @@ module _ (old new : Program) (suite : Suite) where
         tests = o .tests;
       }
 
-  order-r : (c : Sheet) (i : ℕ) → SheetFollows old new suite c → i < testCount suite → allBelow (c .R) i ≡ true → SheetFollows old new suite (record { M = c .M; D = c .D; R = c .R ++ (i ∷ []) })
+  order-r : (c : Sheet) (i : ℕ) → SheetFollows limit old new suite c → i < testCount suite → allBelow (c .R) i ≡ true → SheetFollows limit old new suite (record { M = c .M; D = c .D; R = c .R ++ (i ∷ []) })
   order-r c i o h late =
       record {
         fewPairs = o .fewPairs;
@@ -342,7 +342,7 @@ module _ (old new : Program) (suite : Suite) where
   past-line s (end-line a b c) t o h k = shut-not s h (k .0)
   past-line s no-form t o h k = k
 
-  stage-step : (n at : ℕ) (ls : List Bytes) (s : SheetRead) (l : Bytes) (t : SheetRead) → Stage ls s → stepSheet old new suite n at s l ≡ accepted t → Stage (ls ++ (l ∷ [])) t
+  stage-step : (n at : ℕ) (ls : List Bytes) (s : SheetRead) (l : Bytes) (t : SheetRead) → Stage ls s → stepSheet limit old new suite n at s l ≡ accepted t → Stage (ls ++ (l ∷ [])) t
   unfolding stepSheet Stage
   stage-step n at ls s l t (inl w) e =
       subst (λ (r : List Bytes). Stage (r ++ (l ∷ [])) t) (sym (w .1))
@@ -358,7 +358,7 @@ module _ (old new : Program) (suite : Suite) where
   stage-over ls s h (inr (inr w)) = w
 
   -- Where a line is taken, the last line was not read before it.
-  open-still : (n at : ℕ) (ls : List Bytes) (s : SheetRead) (l : Bytes) (t : SheetRead) → Stage ls s → stepSheet old new suite n at s l ≡ accepted t → s .shut ≡ false
+  open-still : (n at : ℕ) (ls : List Bytes) (s : SheetRead) (l : Bytes) (t : SheetRead) → Stage ls s → stepSheet limit old new suite n at s l ≡ accepted t → s .shut ≡ false
   unfolding stepSheet Stage
   open-still n at ls s l t (inl w) e = ap (λ (x : SheetRead). x .shut) (w .0)
   open-still n at ls s l t (inr (inl w)) e = w .ajar
@@ -366,7 +366,7 @@ module _ (old new : Program) (suite : Suite) where
 
   -- Lines that are read to the end, cut off before the line m: one is missing.
   cut-short : (ls done : List Bytes) (n at : ℕ) (s : SheetRead) (m y : Bytes) (ys : List Bytes) (c : Sheet) → Stage done s
-      → readLines (stepSheet old new suite) finishSheet n at s (ls ++ (m ∷ y ∷ ys)) ≡ accepted c → readLines (stepSheet old new suite) finishSheet n at s (ls ++ ([] ∷ [])) ≡ refused 11 (n + length ls)
+      → readLines (stepSheet limit old new suite) finishSheet n at s (ls ++ (m ∷ y ∷ ys)) ≡ accepted c → readLines (stepSheet limit old new suite) finishSheet n at s (ls ++ ([] ∷ [])) ≡ refused 11 (n + length ls)
   unfolding readLines finishSheet empty isnt
   cut-short [] done n at s m y ys c w e =
       let t = then-accepted _ _ _ e in
@@ -374,31 +374,31 @@ module _ (old new : Program) (suite : Suite) where
       let z : n ≡ n + 0 = omega arith in
       unless-passes _ _ _ _ refl ∙ unless-refuses _ 11 n _ (ap isnt o) ∙ ap (refused 11) z
   cut-short (x ∷ ls) done n at s m y ys c w e =
-      let t = then-accepted _ _ _ (sym (lines-next (stepSheet old new suite) finishSheet n at s x m ls (y ∷ ys)) ∙ e) in
+      let t = then-accepted _ _ _ (sym (lines-next (stepSheet limit old new suite) finishSheet n at s x m ls (y ∷ ys)) ∙ e) in
       let z : suc n + length ls ≡ n + suc (length ls) = omega arith in
-      lines-next (stepSheet old new suite) finishSheet n at s x [] ls [] ∙ then-passes _ (t .1)
+      lines-next (stepSheet limit old new suite) finishSheet n at s x [] ls [] ∙ then-passes _ (t .1)
       ∙ cut-short ls (done ++ (x ∷ [])) (suc n) (at + length x + 1) (t .0) m y ys c (stage-step n at done s x (t .0) w (t .1)) (t .2) ∙ ap (refused 11) z
 
   pub cut-sheet : (ls : List Bytes) (m y : Bytes) (ys : List Bytes) (c : Sheet)
-      → readLines (stepSheet old new suite) finishSheet 1 0 noSheet (ls ++ (m ∷ y ∷ ys)) ≡ accepted c → readLines (stepSheet old new suite) finishSheet 1 0 noSheet (ls ++ ([] ∷ [])) ≡ refused 11 (suc (length ls))
+      → readLines (stepSheet limit old new suite) finishSheet 1 0 noSheet (ls ++ (m ∷ y ∷ ys)) ≡ accepted c → readLines (stepSheet limit old new suite) finishSheet 1 0 noSheet (ls ++ ([] ∷ [])) ≡ refused 11 (suc (length ls))
   unfolding Stage
   cut-sheet ls m y ys c e =
       let z : 1 + length ls ≡ suc (length ls) = omega arith in
       cut-short ls [] 1 0 noSheet m y ys c (inl (refl, refl)) e ∙ ap (refused 11) z
 
-  pub accepted-orderly : (text : Bytes) (c : Sheet) → readSheet old new suite text ≡ accepted c → SheetFollows old new suite c × (text ≡ sheetText (suite .names) c)
+  pub accepted-orderly : (text : Bytes) (c : Sheet) → readSheet limit old new suite text ≡ accepted c → SheetFollows limit old new suite c × (text ≡ sheetText (suite .names) c)
   unfolding readSheet finishSheet sheetText Stage
   accepted-orderly text c e =
-      let r = text-holds (stepSheet old new suite) finishSheet Stage stage-step text noSheet c (inl (refl, refl)) e in
+      let r = text-holds (stepSheet limit old new suite) finishSheet Stage stage-step text noSheet c (inl (refl, refl)) e in
       let u = unless-accepted _ _ _ _ _ (r .finishes) in
       let w = stage-over (r .lines) (r .last) (isnt-false _ (u .0)) (r .holds) in
       let q : r .last .claims ≡ c = accepted-same (u .1) in (
-        subst (λ (x : Sheet). SheetFollows old new suite x) q (w .order),
+        subst (λ (x : Sheet). SheetFollows limit old new suite x) q (w .order),
         lines-ended text (r .lines) (r .taken) ∙ ap textOf (w .lines) ∙ ap (λ (x : Sheet). textOf (sheetLines (suite .names) x)) q,
       )
 
   -- Edges and tests in order are not too many.
-  pub few-of : Sound old → (w : ℕ) → SoundSuite w suite → (c : Sheet) → SheetFollows old new suite c → Few c
+  pub few-of : Sound old → (w : ℕ) → SoundSuite w suite → (c : Sheet) → SheetFollows limit old new suite c → Few c
   few-of so w h c o =
       record {
         fewD = omega (arith, rise-few (o .risesD) 0 (edgeCount old) (omega arith) (λ x t. omega arith) (o .edges), so .fewEdges);
@@ -406,11 +406,11 @@ module _ (old new : Program) (suite : Suite) where
       }
 
 -- A sheet's text is accepted, and gives the claims c, exactly if these are in order, with numbers and names that the files have, and the text is how they are written.
-pub sheet-layout : (old new : Program) (suite : Suite) → Sound old → Sound new → (w : ℕ) → SoundSuite w suite → (text : Bytes) (c : Sheet)
-    → (readSheet old new suite text ≡ accepted c) ↔ (SheetFollows old new suite c × (text ≡ sheetText (suite .names) c))
-sheet-layout old new suite so sn w h text c = (
-  accepted-orderly old new suite text c,
-  λ k. subst (λ (t : Bytes). readSheet old new suite t ≡ accepted c) (sym (k .1)) (read-back old new suite so sn w h c (k .0) (few-of old new suite so w h c (k .0))),
+pub sheet-layout : (limit : ℕ) → limit ≤ maxPairs → (old new : Program) (suite : Suite) → Sound old → Sound new → (w : ℕ) → SoundSuite w suite → (text : Bytes) (c : Sheet)
+    → (readSheet limit old new suite text ≡ accepted c) ↔ (SheetFollows limit old new suite c × (text ≡ sheetText (suite .names) c))
+sheet-layout limit most old new suite so sn w h text c = (
+  accepted-orderly limit old new suite text c,
+  λ k. subst (λ (t : Bytes). readSheet limit old new suite t ≡ accepted c) (sym (k .1)) (read-back limit most old new suite so sn w h c (k .0) (few-of limit old new suite so w h c (k .0))),
 )
 
 -- No rule is broken exactly if all five hold.
@@ -428,16 +428,16 @@ check-exact old new tests sheet = (there, back)
         let p = check-passed old new tests sheet e in
         let g = p .given in
         let n = known old new tests g (p .reads) in
-        let k = accepted-orderly (g .old) (g .new) (g .suite) sheet (p .claims) (p .reads-sheet) in
+        let k = accepted-orderly maxPairs (g .old) (g .new) (g .suite) sheet (p .claims) (p .reads-sheet) in
         let r = five-rules (g .old) (g .new) (g .suite .coverages) (p .claims) (p .unbroken) in
-        let f = few-of (g .old) (g .new) (g .suite) (n .old-sound) _ (n .suite-sound) (p .claims) (k .0) in
+        let f = few-of maxPairs (g .old) (g .new) (g .suite) (n .old-sound) _ (n .suite-sound) (p .claims) (k .0) in
         record {
           given = g;
           reads = p .reads;
           claims = p .claims;
           order = k .0;
           text = k .1;
-          short = subst (λ (b : Bytes). length b ≤ maxBytes) (sym (k .1)) (sheet-short (g .old) (g .new) (g .suite) (n .old-sound) (n .new-sound) _ (n .suite-sound) (p .claims) (k .0) f);
+          short = subst (λ (b : Bytes). length b ≤ maxBytes) (sym (k .1)) (sheet-short maxPairs (omega arith) (g .old) (g .new) (g .suite) (n .old-sound) (n .new-sound) _ (n .suite-sound) (p .claims) (k .0) f);
           holds1 = r .0;
           holds2 = r .1;
           holds3 = r .2;
@@ -450,5 +450,5 @@ check-exact old new tests sheet = (there, back)
         let g = p .given in
         let n = known old new tests g (p .reads) in
         passed-check old new tests sheet g (p .claims) (p .reads)
-        (sheet-layout (g .old) (g .new) (g .suite) (n .old-sound) (n .new-sound) _ (n .suite-sound) sheet (p .claims) .1 (p .order, p .text))
+        (sheet-layout maxPairs (omega arith) (g .old) (g .new) (g .suite) (n .old-sound) (n .new-sound) _ (n .suite-sound) sheet (p .claims) .1 (p .order, p .text))
         (unbroken-of (g .old) (g .new) (g .suite .coverages) (p .claims) (p .holds1) (p .holds2) (p .holds3) (p .holds4) (p .holds5))
