@@ -1,9 +1,10 @@
 -- The returns of `judge` and `check_sheet`.
-use mathlib.Core.Path.{_≡_, refl, sym, ap₂, _∙_}
+use mathlib.Core.Path.{_≡_, refl, subst, sym, ap₂, _∙_}
 use mathlib.Core.Bool.{Bool, true, false}
 use mathlib.Core.List.{List}
 use Prim.Native.Nat.{ℕ}
 use native.Mathlib.Omega.{arith}
+use lib.Dec.{eqb}
 use borrow.Author.Tests.{eq-eqb, ne-eqb}
 use Rattle.laws.specs.Tests.{choose, firstFailed}
 use Rattle.laws.specs.Lists.{choose-no, choose-yes}
@@ -16,12 +17,13 @@ use Rattle.rules.specs.Check.{broken, rule2, rule3, rule4}
 use Rattle.rules.specs.Job.{judged, outcome, passed, refusal}
 use Rattle.rules.specs.Proofs.SheetLayout.{accepted-orderly}
 use Rattle.answer.specs.declared.Answer.{Answer}
+use Rattle.answer.specs.Outcomes.{Answered}
 use Rattle.suite.specs.Rows.{Holds}
 use Rattle.suite.specs.RowLaws.{name-read, suite-read}
 use Rattle.versions.specs.Memory.{InMemory, Memory, memory}
 use Rattle.sheet_reader.specs.declared.SheetRead.{SheetRead}
-use Rattle.sheet_reader.specs.Claims.{ClaimsHeld, Reads, SheetTold, Told}
-use Rattle.checker.specs.Checking.{Checks}
+use Rattle.sheet_reader.specs.Claims.{ClaimsHeld, Reads, Told}
+use Rattle.checker.specs.Checking.{Checks, Verdict}
 use Rattle.checker.specs.Rules.{AllKeep, Claimed, Covered, Judges, Rule1, Rule5, pairRule}
 
 -- ---- `judge`
@@ -108,14 +110,14 @@ accepted-of : (x : Reading Sheet) (r : SheetRead) (w sets : List ℕ) → Told x
 accepted-of (refused k p) r w sets h z = absurd (let b : ⊥ = omega arith in b)
 accepted-of (accepted s) r w sets h z = (s, refl, h .2)
 
-module _ (v v′ : Memory) (olds news edges : ℕ) (tt : Bytes) (tests rows : List ℕ) (count : ℕ) (sheet : Bytes) (read : SheetRead) (w sets : List ℕ)
-    (told : SheetTold olds news edges tt tests count sheet read w sets) where
+module _ (limit : ℕ) (v v′ : Memory) (olds news edges : ℕ) (tt : Bytes) (tests rows : List ℕ) (count : ℕ) (sheet : Bytes) (read : SheetRead) (w sets : List ℕ)
+    (told : Reads limit olds news edges tt tests count sheet read w sets) where
   module _ (o p : Listing) (l : TestListing) (old-in : InMemory v o) (new-in : InMemory v′ p) (et : readTests (edgeCount (o .program)) tt ≡ accepted l)
       (hold : Holds (edgeCount (o .program)) tests rows count l) (eo : olds ≡ nodeCount (o .program)) (en : news ≡ nodeCount (p .program)) (ee : edges ≡ edgeCount (o .program)) where
-    told-is : Told (readSheet (o .program) (p .program) (l .suite) sheet) read w sets
+    told-is : Told (readSheet limit (o .program) (p .program) (l .suite) sheet) read w sets
     unfolding Reads
     told-is =
-        told .reads (o .program) (p .program) (l .suite)
+        told (o .program) (p .program) (l .suite)
         (record {
           old-nodes = eo;
           new-nodes = en;
@@ -126,38 +128,34 @@ module _ (v v′ : Memory) (olds news edges : ℕ) (tt : Bytes) (tests rows : Li
         })
 
     -- An accepted sheet: its claims are held, and of the job's files.
-    claimed : read .number ≡ 0 → (s : Sheet) × (readSheet (o .program) (p .program) (l .suite) sheet ≡ accepted s) × Claimed v v′ w sets (read .pairs) o p s
+    claimed : read .number ≡ 0 → (s : Sheet) × (readSheet limit (o .program) (p .program) (l .suite) sheet ≡ accepted s) × Claimed v v′ w sets (read .pairs) o p s
     claimed z =
-        let a = accepted-of (readSheet (o .program) (p .program) (l .suite) sheet) read w sets told-is z in
-        let f = accepted-orderly (o .program) (p .program) (l .suite) sheet (a .0) (a .1) .0 in
+        let a = accepted-of (readSheet limit (o .program) (p .program) (l .suite) sheet) read w sets told-is z in
+        let f = accepted-orderly limit (o .program) (p .program) (l .suite) sheet (a .0) (a .1) .0 in
         (a .0, a .1, record { old-in = old-in; new-in = new-in; held = a .2; nodes = f .nodes; edges = f .edges })
 
     covered : Covered rows (edgeCount (o .program)) count (l .suite .coverages)
     covered = record { counted = hold .counted ∙ sym (suite-read (edgeCount (o .program)) tt l et .paired); row = λ i h. hold .row i (omega (arith, hold .counted)) }
 
-  pub check-refused : (r : Answer) → (read .number ≡ 0 → ⊥) → r .number ≡ read .number → r .place ≡ read .place → Checks v v′ olds news edges tt tests rows count sheet r
+  pub check-refused : (r : Answer) → (read .number ≡ 0 → ⊥) → r .number ≡ read .number → r .place ≡ read .place → Checks limit v v′ olds news edges tt tests rows count sheet r
   unfolding Checks outcome
   check-refused r z kn kp o p l old-in new-in et hold eo en ee =
-      let q = refused-of (readSheet (o .program) (p .program) (l .suite) sheet) read w sets (told-is o p l old-in new-in et hold eo en ee) z in
+      let q = refused-of (readSheet limit (o .program) (p .program) (l .suite) sheet) read w sets (told-is o p l old-in new-in et hold eo en ee) z in
       rw q (record { number-is = kn; place-is = kp })
 
-  module _ (z : read .number ≡ 0) (q : ℕ) (hq : Judges v v′ w (read .pairs) rows count sets q) where
-    pub check-passed : q ≡ 0 → Checks v v′ olds news edges tt tests rows count sheet (record { number = 0; place = 0 })
-    unfolding Checks outcome Judges judged
-    check-passed e o p l old-in new-in et hold eo en ee =
-        let a = claimed o p l old-in new-in et hold eo en ee z in
-        let b = hq o p (a .0) (l .suite .coverages) (a .2) (covered o p l old-in new-in et hold eo en ee) in
-        rw (a .1)
-        (rw (choose-yes passed (refusal 12 (broken (o .program) (p .program) (l .suite .coverages) (a .0))) (eq-eqb (broken (o .program) (p .program) (l .suite .coverages) (a .0)) 0 (sym b ∙ e)))
-        (record { number-is = refl; place-is = refl }))
+  pub check-judged : (q : ℕ) (r : Answer) → read .number ≡ 0 → Judges v v′ w (read .pairs) rows count sets q → Verdict q r → Checks limit v v′ olds news edges tt tests rows count sheet r
+  unfolding Checks outcome Judges judged Verdict
+  check-judged q r z hq h o p l old-in new-in et hold eo en ee =
+      let a = claimed o p l old-in new-in et hold eo en ee z in
+      let b = hq o p (a .0) (l .suite .coverages) (a .2) (covered o p l old-in new-in et hold eo en ee) in
+      rw (a .1) (subst (λ (k : ℕ). Answered (choose (eqb k 0) passed (refusal 12 k)) r) b h)
 
-    pub check-broken : (r : Answer) → (q ≡ 0 → ⊥) → r .number ≡ 12 → r .place ≡ q → Checks v v′ olds news edges tt tests rows count sheet r
-    unfolding Checks outcome Judges judged
-    check-broken r n kn kp o p l old-in new-in et hold eo en ee =
-        let a = claimed o p l old-in new-in et hold eo en ee z in
-        let b = hq o p (a .0) (l .suite .coverages) (a .2) (covered o p l old-in new-in et hold eo en ee) in
-        rw (a .1)
-        (rw (choose-no passed (refusal 12 (broken (o .program) (p .program) (l .suite .coverages) (a .0))) (ne-eqb (broken (o .program) (p .program) (l .suite .coverages) (a .0)) 0 (λ d. n (b ∙ d))))
-        (record { number-is = kn; place-is = kp ∙ b }))
+pub verdict-passed : (q : ℕ) → q ≡ 0 → Verdict q (record { number = 0; place = 0 })
+unfolding Verdict
+verdict-passed q e = rw (choose-yes passed (refusal 12 q) (eq-eqb q 0 e)) (record { number-is = refl; place-is = refl })
 
-pub ruleset checks = (check-refused, check-passed, check-broken)
+pub verdict-broken : (q : ℕ) → (q ≡ 0 → ⊥) → Verdict q (record { number = 12; place = q })
+unfolding Verdict
+verdict-broken q n = rw (choose-no passed (refusal 12 q) (ne-eqb q 0 n)) (record { number-is = refl; place-is = refl })
+
+pub ruleset checks = (check-refused, check-judged, verdict-passed, verdict-broken)

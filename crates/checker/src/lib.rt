@@ -1,9 +1,10 @@
 // The check of a sheet: its claims are read, and judged by the five rules. No pair is computed: the rules are tested within the sheet's own list.
 use answer::Answer;
-ghost use Prim.Native.Nat.{_≤_, _<_};
+ghost use Prim.Native.Nat.{_≤_, _<_, _+_, _*_};
 ghost use lib.ListN.{length};
 ghost use Rattle.versions.specs.Memory.{memory};
-ghost use Rattle.checker.specs.Checking.{Checks};
+ghost use Rattle.pairset.specs.Store.{pairBase};
+ghost use Rattle.checker.specs.Checking.{Checks, Verdict};
 ghost use Rattle.checker.specs.Rules.{
   AllKeep,
   AllKept,
@@ -193,9 +194,26 @@ fn judge(
     1
 }
 
-// Checks a sheet, for the programs and the tests of a job: its refusal, or 12 with the first broken rule, or 0, which is to pass. What the tables
+// The answer by the first broken rule, or 0: 12 with its number, or 0, which is to pass.
+fn verdict(rule: usize) -> Answer
+    ensures { λ r. ⌜ Verdict rule r ⌝ }
+{
+    if rule == 0 {
+        return Answer {
+            number: 0,
+            place: 0,
+        };
+    }
+    Answer {
+        number: 12,
+        place: rule,
+    }
+}
+
+// Checks a sheet of at most `limit` pairs, for the programs and the tests of a job: its refusal, or 12 with the first broken rule, or 0, which is to pass. What the tables
 // `w` and `sets` hold afterwards is left open.
 pub fn check_sheet(
+    limit: usize,
     ot: &[u8],
     on: &[usize],
     ol: &[usize],
@@ -213,10 +231,10 @@ pub fn check_sheet(
     w: &mut [usize],
     sets: &mut [u64],
 ) -> Answer
-    requires { ⌜ (olds ≤ 512) × (news ≤ 512) × (edges ≤ 1024) × (count ≤ 200) × (16912 ≤ length (now w)) × (20 ≤ length (now sets)) ⌝ }
-    ensures { λ r. ⌜ Checks (memory (now (ot .entry)) (now (on .entry)) (now (ol .entry))) (memory (now (nt .entry)) (now (nn .entry)) (now (nl .entry))) olds news edges (now (tt .entry)) (now (tests .entry)) (now (rows .entry)) count (now (sheet .entry)) r ⌝ }
+    requires { ⌜ (limit ≤ 4096) × (olds ≤ 512) × (news ≤ 512) × (edges ≤ 1024) × (count ≤ 200) × (pairBase + 3 * limit ≤ length (now w)) × (20 ≤ length (now sets)) ⌝ }
+    ensures { λ r. ⌜ Checks limit (memory (now (ot .entry)) (now (on .entry)) (now (ol .entry))) (memory (now (nt .entry)) (now (nn .entry)) (now (nl .entry))) olds news edges (now (tt .entry)) (now (tests .entry)) (now (rows .entry)) count (now (sheet .entry)) r ⌝ }
 {
-    let read = sheet_reader::read_sheet(sheet, olds, news, edges, tt, tests, count, w, sets);
+    let read = sheet_reader::read_sheet(limit, sheet, olds, news, edges, tt, tests, count, w, sets);
     let number = read.number;
     if number != 0 {
         return Answer {
@@ -225,14 +243,5 @@ pub fn check_sheet(
         };
     }
     let rule = judge(ot, on, ol, nt, nn, nl, w, read.pairs, rows, count, sets);
-    if rule == 0 {
-        return Answer {
-            number: 0,
-            place: 0,
-        };
-    }
-    Answer {
-        number: 12,
-        place: rule,
-    }
+    verdict(rule)
 }

@@ -19,14 +19,15 @@ use Rattle.rules.specs.Graph.{Program, edgeCount, nodeCount}
 use Rattle.rules.specs.SuiteFile.{Suite, testCount, testName}
 use Rattle.rules.specs.Sheet.{SheetRead, addD, addM, addR, allBelow, d-line, end-line, going, m-line, openSheet, pairsBefore, r-line, sheetForm, takeSheetLine, testOf}
 use Rattle.rules.specs.Proofs.TextLaws.{same-true}
-use Rattle.pairset.specs.Store.{Appended, Appends}
+use Rattle.pairset.specs.Store.{Appended, Appends, pairBase}
 use Rattle.suite.specs.Reading.{nameAt}
 use Rattle.text.specs.NumberLaws.{a-number, no-number, number-kept}
 use Rattle.text.specs.Scans.{span}
 use Rattle.text.specs.SplitLaws.{first-last, first-more}
+use Rattle.sheet_reader.specs.declared.Bounds.{Bounds}
 use Rattle.sheet_reader.specs.declared.State.{State}
 use Rattle.sheet_reader.specs.Claims.{For}
-use Rattle.sheet_reader.specs.Reading.{AddsEdge, AddsPair, AddsTest, After, Ends, Holds, Opens, PairsUpTo, Refusal, Small, UpTo, edgeFits, endFits, pairFits, testFrom, underway}
+use Rattle.sheet_reader.specs.Reading.{AddedPair, AddsEdge, AddsPair, AddsTest, After, Bounded, Ends, Holds, Opens, PairsUpTo, Refusal, Small, UpTo, edgeFits, endFits, pairFits, testFrom, underway, withPair}
 use Rattle.sheet_reader.proofs.Forms.{d-is, d-none, end-is, end-none, end-one, end-two, end-whole, m-is, m-none, m-one, m-whole, r-is, r-none}
 use Rattle.sheet_reader.proofs.Leaves.{sought}
 use Rattle.sheet_reader.proofs.Orders.{and-when, has-snoc, kept, kept-below, kept-is, kept-same, none-is, pairs-up-more, up-more}
@@ -115,7 +116,7 @@ module _ (w sets : List ℕ) (c : State) (s : SheetRead) (hold : Holds w sets c 
 module _ (n : ℕ) (c : State) where
   pub open-twice : (r : State) → c .opened ≡ true → Refusal 11 n r → Opens n c r
   unfolding Opens takeSheetLine
-  open-twice r e q old new suite s w sets hold = stop r w sets 11 n (accepted (openSheet s)) (sym (hold .opened-is) ∙ e) q (omega arith)
+  open-twice r e q limit old new suite s w sets hold = stop r w sets 11 n (accepted (openSheet s)) (sym (hold .opened-is) ∙ e) q (omega arith)
 
   -- The state with the first line more.
   abbrev withHead : State
@@ -124,7 +125,7 @@ module _ (n : ℕ) (c : State) where
 
   pub open-first : c .opened ≡ false → Opens n c withHead
   unfolding Opens takeSheetLine
-  open-first e old new suite s w sets hold =
+  open-first e limit old new suite s w sets hold =
       go-on withHead w sets 11 n (accepted (openSheet s)) (sym (hold .opened-is) ∙ e) (
         refl,
         refl,
@@ -149,13 +150,13 @@ pub ruleset opens = (open-twice, open-first, open-small)
 
 -- ---- `pair_line`
 
-module _ (olds news n : ℕ) (s a : Bytes) (c : State) (w : List ℕ) (ea : a ≡ take (span 44 s) s) where
-  pub pair-short : (r : State) (w′ : List ℕ) → length s ≤ length a → Refusal 2 n r → AddsPair olds news n (split 44 s) c w r w′
+module _ (limit olds news n : ℕ) (s a : Bytes) (c : State) (w : List ℕ) (ea : a ≡ take (span 44 s) s) where
+  pub pair-short : (r : State) (w′ : List ℕ) → length s ≤ length a → Refusal 2 n r → AddsPair limit olds news n (split 44 s) c w r w′
   unfolding AddsPair takeSheetLine
   pair-short r w′ h q old new suite k sets eo en hold =
       rw (ap (λ (ps : List Bytes). sheetForm (bytes "M" ∷ ps)) (first-last 44 s a ea h) ∙ m-one s) (q .number-is, q .place-is, omega arith)
 
-  pub pair-fields : (b : Bytes) (r : State) (w′ : List ℕ) → length a < length s → b ≡ drop (length a + 1) s → AddsPair olds news n (a ∷ b ∷ []) c w r w′ → AddsPair olds news n (split 44 s) c w r w′
+  pub pair-fields : (b : Bytes) (r : State) (w′ : List ℕ) → length a < length s → b ≡ drop (length a + 1) s → AddsPair limit olds news n (a ∷ b ∷ []) c w r w′ → AddsPair limit olds news n (split 44 s) c w r w′
   unfolding AddsPair
   pair-fields b r w′ h eb q old new suite k sets eo en hold =
       rw (ap (λ (ps : List Bytes). sheetForm (bytes "M" ∷ ps)) (first-more 44 s a ea b h eb) ∙ m-whole a b) (q old new suite k sets eo en hold)
@@ -164,11 +165,11 @@ module _ (olds news n : ℕ) (s a : Bytes) (c : State) (w : List ℕ) (ea : a �
 
 -- What the test says of the pair (i, j).
 module _ (olds news i j : ℕ) (c : State) (t : Bool) (et : t ≡ pairFits olds news i j c) (y : t ≡ true) where
-  pub pair-old : i < olds
+  pair-old : i < olds
   unfolding pairFits
   pair-old = ltb-true i olds (and-left _ _ (and-right _ _ (and-right _ _ (and-right _ _ (sym et ∙ y)))))
 
-  pub pair-new : j < news
+  pair-new : j < news
   unfolding pairFits
   pair-new = ltb-true j news (and-left _ _ (and-right _ _ (and-right _ _ (and-right _ _ (and-right _ _ (sym et ∙ y))))))
 
@@ -177,33 +178,8 @@ module _ (olds news i j : ℕ) (c : State) (t : Bool) (et : t ≡ pairFits olds 
   pair-behind = leb-true (c .pair) (512 * i + j) (and-right _ _ (and-right _ _ (and-right _ _ (and-right _ _ (and-right _ _ (sym et ∙ y))))))
 
   module _ (ho : olds ≤ 512) (hn : news ≤ 512) where
-    pub pair-mul : 512 * i < 18446744073709551616
-    pair-mul = omega (arith, pair-old)
-
-    pub pair-sum : 512 * i + j < 18446744073709551616
-    pair-sum = omega (arith, pair-old, pair-new)
-
-    pub pair-next : 512 * i + j + 1 < 18446744073709551616
-    pair-next = omega (arith, pair-old, pair-new)
-
-    -- The state with the pair more.
-    abbrev withPair : State
-    withPair =
-        record {
-          number = 0;
-          place = 0;
-          opened = c .opened;
-          shut = c .shut;
-          pairs = c .pairs + 1;
-          edges = c .edges;
-          tests = c .tests;
-          pair = 512 * i + j + 1;
-          edge = c .edge;
-          test = c .test;
-        }
-
-    module _ (room : c .pairs < 4096) where
-      held-pair : (s : SheetRead) (w sets w′ : List ℕ) → 16912 ≤ length w → Appended w (c .pairs) i j w′ → Holds w sets c s → Holds w′ sets withPair (addM i j s)
+    module _ (limit : ℕ) (room : c .pairs < limit) where
+      held-pair : (s : SheetRead) (w sets w′ : List ℕ) → pairBase + 3 * limit ≤ length w → Appended w (c .pairs) i j w′ → Holds w sets c s → Holds w′ sets (withPair i j c) (addM i j s)
       unfolding Appends
       held-pair s w sets w′ long ap hold =
           let p = ap .appends (hold .held .store) (omega (arith, pair-old)) (omega (arith, pair-new)) (omega arith) in
@@ -224,30 +200,31 @@ module _ (olds news i j : ℕ) (c : State) (t : Bool) (et : t ≡ pairFits olds 
             };
           }
 
-      pub pair-small : Small c → Small withPair
-      pair-small h =
-          record {
-            few-pairs = omega (arith, h .few-pairs);
+      pair-small : (r : State) → limit ≤ 4096 → Small c → r ≡ withPair i j c → Small r
+      pair-small r most h e =
+          subst Small (sym e)
+          (record {
+            few-pairs = omega arith;
             low-pair = omega (arith, pair-old, pair-new);
             few-edges = h .few-edges;
             low-edge = h .low-edge;
             few-tests = h .few-tests;
             low-test = h .low-test;
-          }
+          })
 
-module _ (olds news n : ℕ) (a b : Bytes) (c : State) (w : List ℕ) where
+module _ (limit olds news n : ℕ) (a b : Bytes) (c : State) (w : List ℕ) where
   -- A field is no number.
-  pair-none : (r : State) (w′ : List ℕ) → (isNumber a and isNumber b) ≡ false → Refusal 2 n r → AddsPair olds news n (a ∷ b ∷ []) c w r w′
+  pair-none : (r : State) (w′ : List ℕ) → (isNumber a and isNumber b) ≡ false → Refusal 2 n r → AddsPair limit olds news n (a ∷ b ∷ []) c w r w′
   unfolding AddsPair takeSheetLine
   pair-none r w′ e q old new suite s sets eo en hold = rw (m-none a b e) (q .number-is, q .place-is, omega arith)
 
   module _ (i : ℕ) (ei : i ≡ numberOf a) where
-    pub pair-first : (r : State) (w′ : List ℕ) → 65536 < i → Refusal 2 n r → AddsPair olds news n (a ∷ b ∷ []) c w r w′
+    pub pair-first : (r : State) (w′ : List ℕ) → 65536 < i → Refusal 2 n r → AddsPair limit olds news n (a ∷ b ∷ []) c w r w′
     unfolding _and_
     pair-first r w′ h q = pair-none r w′ (simp (no-number a i ei h)) q
 
     module _ (hi : i ≤ 65536) (j : ℕ) (ej : j ≡ numberOf b) where
-      pub pair-second : (r : State) (w′ : List ℕ) → 65536 < j → Refusal 2 n r → AddsPair olds news n (a ∷ b ∷ []) c w r w′
+      pub pair-second : (r : State) (w′ : List ℕ) → 65536 < j → Refusal 2 n r → AddsPair limit olds news n (a ∷ b ∷ []) c w r w′
       unfolding _and_
       pair-second r w′ h q = pair-none r w′ (simp (a-number a i ei hi, no-number b j ej h)) q
 
@@ -255,12 +232,12 @@ module _ (olds news n : ℕ) (a b : Bytes) (c : State) (w : List ℕ) where
         pair-form : sheetForm (bytes "M" ∷ a ∷ b ∷ []) ≡ m-line a b
         pair-form = m-is a b (a-number a i ei hi) (a-number b j ej hj)
 
-        pub pair-full : (r : State) (w′ : List ℕ) → 4096 ≤ c .pairs → Refusal 4 n r → AddsPair olds news n (a ∷ b ∷ []) c w r w′
+        pub pair-full : (r : State) (w′ : List ℕ) → limit ≤ c .pairs → Refusal 4 n r → AddsPair limit olds news n (a ∷ b ∷ []) c w r w′
         unfolding AddsPair takeSheetLine
         pair-full r w′ h q old new suite s sets eo en hold =
-            rw pair-form (stop r w′ sets 4 n _ (le-leb 4096 (length (s .claims .M)) (omega (arith, hold .pairs-n))) q (omega arith))
+            rw pair-form (stop r w′ sets 4 n _ (le-leb limit (length (s .claims .M)) (omega (arith, hold .pairs-n))) q (omega arith))
 
-        module _ (t : Bool) (ho : olds ≤ 512) (hn : news ≤ 512) (room : c .pairs < 4096) (et : t ≡ pairFits olds news i j c) where
+        module _ (t : Bool) (ho : olds ≤ 512) (hn : news ≤ 512) (room : c .pairs < limit) (et : t ≡ pairFits olds news i j c) where
           -- The definition's test, by the code's.
           fits-are : (old new : Program) (s : SheetRead) (sets : List ℕ) → olds ≡ nodeCount old → news ≡ nodeCount new → Holds w sets c s
               → (going s and none? (s .claims .D) and none? (s .claims .R) and ltb (value a) (nodeCount old) and ltb (value b) (nodeCount new) and pairsBefore (s .claims .M) (value a) (value b)) ≡ t
@@ -270,28 +247,37 @@ module _ (olds news n : ℕ) (a b : Bytes) (c : State) (w : List ℕ) where
               ∙ ap₂ (λ (k l : ℕ). pairFits olds news k l c) (sym (number-kept a i ei hi)) (sym (number-kept b j ej hj))
               ∙ sym et
 
-          few-are : (s : SheetRead) (sets : List ℕ) → Holds w sets c s → leb 4096 (length (s .claims .M)) ≡ false
-          few-are s sets hold = lt-leb 4096 (length (s .claims .M)) (omega (arith, hold .pairs-n))
+          few-are : (s : SheetRead) (sets : List ℕ) → Holds w sets c s → leb limit (length (s .claims .M)) ≡ false
+          few-are s sets hold = lt-leb limit (length (s .claims .M)) (omega (arith, hold .pairs-n))
 
-          pub pair-unfit : (r : State) (w′ : List ℕ) → t ≡ false → Refusal 11 n r → AddsPair olds news n (a ∷ b ∷ []) c w r w′
+          pub pair-unfit : (r : State) (w′ : List ℕ) → t ≡ false → Refusal 11 n r → AddsPair limit olds news n (a ∷ b ∷ []) c w r w′
           unfolding AddsPair takeSheetLine
           pair-unfit r w′ y q old new suite s sets eo en hold =
               rw pair-form
               (go-on r w′ sets 4 n _ (few-are s sets hold)
               (stop r w′ sets 11 n _ (true-isnt (fits-are old new s sets eo en hold ∙ y)) q (omega arith)))
 
-          pub pair-more : (w′ : List ℕ) (y : t ≡ true) → 16912 ≤ length w → Appended w (c .pairs) i j w′ → AddsPair olds news n (a ∷ b ∷ []) c w (withPair olds news i j c t et y ho hn) w′
+          pair-more : (r : State) (w′ : List ℕ) (y : t ≡ true) → pairBase + 3 * limit ≤ length w → Appended w (c .pairs) i j w′ → r ≡ withPair i j c → AddsPair limit olds news n (a ∷ b ∷ []) c w r w′
           unfolding AddsPair takeSheetLine
-          pair-more w′ y long ap old new suite s sets eo en hold =
+          pair-more r w′ y long ap er old new suite s sets eo en hold =
               let is : i ≡ value a = omega (arith, number-kept a i ei hi, pair-old olds news i j c t et y) in
               let js : j ≡ value b = omega (arith, number-kept b j ej hj, pair-new olds news i j c t et y) in
-              let r : State = withPair olds news i j c t et y ho hn in
               rw pair-form
               (go-on r w′ sets 4 n _ (few-are s sets hold)
               (go-on r w′ sets 11 n _ (false-isnt (fits-are old new s sets eo en hold ∙ y))
-              (refl, refl, subst (λ (k : SheetRead). Holds w′ sets r k) (ap₂ (λ (k l : ℕ). addM k l s) is js) (held-pair olds news i j c t et y ho hn room s w sets w′ long ap hold))))
+              (subst (λ (r : State). After (accepted (addM (value a) (value b) s)) r w′ sets) (sym er)
+              (refl, refl, subst (λ (k : SheetRead). Holds w′ sets (withPair i j c) k) (ap₂ (λ (k l : ℕ). addM k l s) is js) (held-pair olds news i j c t et y ho hn limit room s w sets w′ long ap hold)))))
 
-pub ruleset pairs = (pair-short, pair-fields, pair-old, pair-new, pair-mul, pair-sum, pair-next, pair-small, pair-first, pair-second, pair-full, pair-unfit, pair-more)
+pub pair-added : (bounds : Bounds) (n : ℕ) (a b : Bytes) (c : State) (w : List ℕ) (i : ℕ) → i ≡ numberOf a → i ≤ 65536 → (j : ℕ) → j ≡ numberOf b → j ≤ 65536 → (t : Bool)
+    → t ≡ pairFits (bounds .olds) (bounds .news) i j c → t ≡ true → (r : State) (w′ : List ℕ) → r ≡ withPair i j c → Appended w (c .pairs) i j w′ → Small c → Bounded bounds → c .pairs < bounds .limit
+    → pairBase + 3 * bounds .limit ≤ length w → AddedPair bounds n (a ∷ b ∷ []) c w r w′
+pair-added bounds n a b c w i ei hi j ej hj t et y r w′ er ap h k room long =
+    record {
+      adds = pair-more (bounds .limit) (bounds .olds) (bounds .news) n a b c w i ei hi j ej hj t (k .few-olds) (k .few-news) room et r w′ y long ap er;
+      small = pair-small (bounds .olds) (bounds .news) i j c t et y (k .few-olds) (k .few-news) (bounds .limit) room r (k .few-pairs) h er;
+    }
+
+pub ruleset pairs = (pair-short, pair-fields, pair-first, pair-second, pair-full, pair-unfit, pair-added)
 
 -- ---- a bit more
 
@@ -323,7 +309,7 @@ module _ (sets : List ℕ) (long : 20 ≤ length sets) (l : List ℕ) where
 module _ (edges n : ℕ) (e : Bytes) (c : State) (sets : List ℕ) (i : ℕ) (ei : i ≡ numberOf e) where
   pub edge-no : (r : State) (sets′ : List ℕ) → 65536 < i → Refusal 2 n r → AddsEdge edges n (e ∷ []) c sets r sets′
   unfolding AddsEdge takeSheetLine
-  edge-no r sets′ h q old new suite s w eo hold = rw (d-none e (no-number e i ei h)) (q .number-is, q .place-is, omega arith)
+  edge-no r sets′ h q limit old new suite s w eo hold = rw (d-none e (no-number e i ei h)) (q .number-is, q .place-is, omega arith)
 
   module _ (hi : i ≤ 65536) (t : Bool) (few : edges ≤ 1024) (et : t ≡ edgeFits edges i c) where
     edge-form : sheetForm (bytes "D" ∷ e ∷ []) ≡ d-line e
@@ -340,7 +326,7 @@ module _ (edges n : ℕ) (e : Bytes) (c : State) (sets : List ℕ) (i : ℕ) (ei
 
     pub edge-unfit : (r : State) (sets′ : List ℕ) → t ≡ false → Refusal 11 n r → AddsEdge edges n (e ∷ []) c sets r sets′
     unfolding AddsEdge takeSheetLine
-    edge-unfit r sets′ y q old new suite s w eo hold = rw edge-form (stop r w sets′ 11 n _ (true-isnt (edge-are old s w eo hold ∙ y)) q (omega arith))
+    edge-unfit r sets′ y q limit old new suite s w eo hold = rw edge-form (stop r w sets′ 11 n _ (true-isnt (edge-are old s w eo hold ∙ y)) q (omega arith))
 
     module _ (y : t ≡ true) where
       edge-in : i < edges
@@ -394,7 +380,7 @@ module _ (edges n : ℕ) (e : Bytes) (c : State) (sets : List ℕ) (i : ℕ) (ei
 
       pub edge-more : (sets′ : List ℕ) → 20 ≤ length sets → sets′ ≡ withBit sets i → AddsEdge edges n (e ∷ []) c sets withEdge sets′
       unfolding AddsEdge takeSheetLine
-      edge-more sets′ long es old new suite s w eo hold =
+      edge-more sets′ long es limit old new suite s w eo hold =
           let is : i ≡ value e = omega (arith, number-kept e i ei hi, edge-in) in
           rw edge-form
           (go-on withEdge w sets′ 11 n _ (false-isnt (edge-are old s w eo hold ∙ y)) (
@@ -457,7 +443,7 @@ module _ (tt : Bytes) (table : List ℕ) (count : ℕ) (name : Bytes) (k t : ℕ
 pub test-no : (tt : Bytes) (table : List ℕ) (count n : ℕ) (name : Bytes) (c : State) (sets : List ℕ) (u : Bool) (r : State) (sets′ : List ℕ) → u ≡ isName name → u ≡ false → Refusal 2 n r
     → AddsTest tt table count n (name ∷ []) c sets r sets′
 unfolding AddsTest takeSheetLine
-test-no tt table count n name c sets u r sets′ e y q olds news edges old new suite s w for hold = rw (r-none name (sym e ∙ y)) (q .number-is, q .place-is, omega arith)
+test-no tt table count n name c sets u r sets′ e y q limit olds news edges old new suite s w for hold = rw (r-none name (sym e ∙ y)) (q .number-is, q .place-is, omega arith)
 
 module _ (tt : Bytes) (table : List ℕ) (count n : ℕ) (name : Bytes) (c : State) (sets : List ℕ) (u : Bool) (eu : u ≡ isName name) (yu : u ≡ true) (t : ℕ) (et : t ≡ testFrom tt table (c .test) count name) where
   test-form : sheetForm (bytes "R" ∷ name ∷ []) ≡ r-line name
@@ -465,9 +451,9 @@ module _ (tt : Bytes) (table : List ℕ) (count n : ℕ) (name : Bytes) (c : Sta
 
   pub test-unknown : (r : State) (sets′ : List ℕ) → t < 1 → Refusal 11 n r → AddsTest tt table count n (name ∷ []) c sets r sets′
   unfolding AddsTest takeSheetLine testOf UpTo
-  test-unknown r sets′ h q olds news edges old new suite s w for hold = rw test-form (go (testOf suite name) refl)
+  test-unknown r sets′ h q limit olds news edges old new suite s w for hold = rw test-form (go (testOf suite name) refl)
     where
-      go : (o : Option ℕ) → testOf suite name ≡ o → After (takeSheetLine old new suite n s (r-line name)) r w sets′
+      go : (o : Option ℕ) → testOf suite name ≡ o → After (takeSheetLine limit old new suite n s (r-line name)) r w sets′
       go none e = rw e (q .number-is, q .place-is, omega arith)
       go (some i) e =
           let f = first-at (λ i. same (testName suite i) name) (testCount suite) i e in
@@ -492,7 +478,7 @@ module _ (tt : Bytes) (table : List ℕ) (count n : ℕ) (name : Bytes) (c : Sta
 
     pub test-unfit : (r : State) (sets′ : List ℕ) → f ≡ false → Refusal 11 n r → AddsTest tt table count n (name ∷ []) c sets r sets′
     unfolding AddsTest takeSheetLine
-    test-unfit r sets′ y q olds news edges old new suite s w for hold =
+    test-unfit r sets′ y q limit olds news edges old new suite s w for hold =
         rw (test-form, found-only tt table count name (c .test) t et some-test olds news edges old new suite for)
         (stop r w sets′ 11 n _ (true-isnt (test-are s w hold ∙ y)) q (omega arith))
 
@@ -538,7 +524,7 @@ module _ (tt : Bytes) (table : List ℕ) (count n : ℕ) (name : Bytes) (c : Sta
 
       pub test-more : (sets′ : List ℕ) → f ≡ true → 20 ≤ length sets → sets′ ≡ withBit sets (1023 + t) → AddsTest tt table count n (name ∷ []) c sets withTest sets′
       unfolding AddsTest takeSheetLine
-      test-more sets′ y long es olds news edges old new suite s w for hold =
+      test-more sets′ y long es limit olds news edges old new suite s w for hold =
           let q : 1024 + (t - 1) ≡ 1023 + t = omega arith in
           rw (test-form, found-only tt table count name (c .test) t et some-test olds news edges old new suite for)
           (go-on withTest w sets′ 11 n _ (false-isnt (test-are s w hold ∙ y))
@@ -565,21 +551,21 @@ pub ruleset tests = (test-no, test-bit, test-unknown, test-unfit, test-more, tes
 module _ (n : ℕ) (s a : Bytes) (c : State) (ea : a ≡ take (span 44 s) s) where
   pub end-first : (r : State) → length s ≤ length a → Refusal 2 n r → Ends n (split 44 s) c r
   unfolding Ends takeSheetLine
-  end-first r h q old new suite k w sets hold =
+  end-first r h q limit old new suite k w sets hold =
       rw (ap (λ (ps : List Bytes). sheetForm (bytes "end" ∷ ps)) (first-last 44 s a ea h) ∙ end-one s) (q .number-is, q .place-is, omega arith)
 
   module _ (m b : Bytes) (h : length a < length s) (em : m ≡ drop (length a + 1) s) (eb : b ≡ take (span 44 m) m) where
     pub end-second : (r : State) → length m ≤ length b → Refusal 2 n r → Ends n (split 44 s) c r
     unfolding Ends takeSheetLine
-    end-second r l q old new suite k w sets hold =
+    end-second r l q limit old new suite k w sets hold =
         rw (ap (λ (ps : List Bytes). sheetForm (bytes "end" ∷ ps)) (first-more 44 s a ea m h em ∙ ap (λ (ps : List Bytes). a ∷ ps) (first-last 44 m b eb l)) ∙ end-two a m)
         (q .number-is, q .place-is, omega arith)
 
     pub end-fields : (d : Bytes) (r : State) → length b < length m → d ≡ drop (length b + 1) m → Ends n (a ∷ b ∷ d ∷ []) c r → Ends n (split 44 s) c r
     unfolding Ends
-    end-fields d r l ed q old new suite k w sets hold =
+    end-fields d r l ed q limit old new suite k w sets hold =
         rw (ap (λ (ps : List Bytes). sheetForm (bytes "end" ∷ ps)) (first-more 44 s a ea m h em ∙ ap (λ (ps : List Bytes). a ∷ ps) (first-more 44 m b eb d l ed)) ∙ end-whole a b d)
-        (q old new suite k w sets hold)
+        (q limit old new suite k w sets hold)
 
 -- ---- `end`
 
@@ -587,7 +573,7 @@ module _ (n : ℕ) (a b d : Bytes) (c : State) where
   -- A field is no number.
   end-no : (r : State) → (isNumber a and isNumber b and isNumber d) ≡ false → Refusal 2 n r → Ends n (a ∷ b ∷ d ∷ []) c r
   unfolding Ends takeSheetLine
-  end-no r e q old new suite s w sets hold = rw (end-none a b d e) (q .number-is, q .place-is, omega arith)
+  end-no r e q limit old new suite s w sets hold = rw (end-none a b d e) (q .number-is, q .place-is, omega arith)
 
   module _ (i : ℕ) (ei : i ≡ numberOf a) where
     pub end-pairs : (r : State) → 65536 < i → Refusal 2 n r → Ends n (a ∷ b ∷ d ∷ []) c r
@@ -619,7 +605,7 @@ module _ (n : ℕ) (a b d : Bytes) (c : State) where
 
           pub end-unfit : (r : State) → t ≡ false → Refusal 11 n r → Ends n (a ∷ b ∷ d ∷ []) c r
           unfolding Ends takeSheetLine
-          end-unfit r y q old new suite s w sets hold = rw end-form (stop r w sets 11 n _ (true-isnt (end-are s w sets hold ∙ y)) q (omega arith))
+          end-unfit r y q limit old new suite s w sets hold = rw end-form (stop r w sets 11 n _ (true-isnt (end-are s w sets hold ∙ y)) q (omega arith))
 
           -- The state with the last line more.
           abbrev withEnd : State
@@ -628,7 +614,7 @@ module _ (n : ℕ) (a b d : Bytes) (c : State) where
 
           pub end-last : t ≡ true → Ends n (a ∷ b ∷ d ∷ []) c withEnd
           unfolding Ends takeSheetLine
-          end-last y old new suite s w sets hold =
+          end-last y limit old new suite s w sets hold =
               rw end-form
               (go-on withEnd w sets 11 n _ (false-isnt (end-are s w sets hold ∙ y)) (
                 refl,

@@ -3,7 +3,7 @@
 use mathlib.Core.Path.{_≡_, refl, sym, ap, ap₂, _∙_, subst}
 use mathlib.Core.Bool.{Bool, true, false}
 use mathlib.Core.List.{List, [], _∷_}
-use Prim.Native.Nat.{ℕ, suc, _+_, _-_, _≤_, _<_}
+use Prim.Native.Nat.{ℕ, suc, _+_, _-_, _*_, _≤_, _<_}
 use native.Mathlib.Numerals.{add-one}
 use native.Mathlib.Omega.{arith}
 use lib.ListN.{length, take, drop, length-drop, replicate}
@@ -20,49 +20,50 @@ use Rattle.rules.specs.Sheet.{Sheet, SheetRead, finishSheet, headLine, noSheet,
 use Rattle.rules.specs.Proofs.TextLaws.{empty-not, same-true, split-cons}
 use Rattle.text.specs.Scans.{span}
 use Rattle.text.specs.SplitLaws.{cut-at, letter, uncut-at}
-use Rattle.pairset.specs.Store.{Emptied, Empties}
+use Rattle.pairset.specs.Store.{Emptied, Empties, pairBase}
 use Rattle.pairset.specs.StoreLaws.{no-pairs}
+use Rattle.sheet_reader.specs.declared.Bounds.{Bounds}
 use Rattle.sheet_reader.specs.declared.State.{State}
 use Rattle.sheet_reader.specs.declared.SheetRead.{SheetRead as Result}
 use Rattle.sheet_reader.specs.Claims.{For, Reads}
-use Rattle.sheet_reader.specs.Reading.{AddsEdge, AddsPair, AddsTest, After, Ends, Finishes, Fresh, Holds, Lines, Opens, Refusal, Small, Stepped, Steps, nothingRead}
+use Rattle.sheet_reader.specs.Reading.{AddsEdge, AddsPair, AddsTest, After, Ends, Finishes, Fresh, Holds, Lines, Opens, Refusal, Small, Stepped, Steps, nothingRead, sheetRefused}
 use Rattle.sheet_reader.proofs.Forms.{d-whole, head-form, none-begins, r-whole, word}
 use Rattle.sheet_reader.proofs.Orders.{pairs-up-none, up-none}
 
 -- ---- `step`
 
-module _ (olds news edges : ℕ) (tt : Bytes) (table : List ℕ) (count n : ℕ) (line : Bytes) (c : State) (w sets : List ℕ) (f : Bytes) where
+module _ (b : Bounds) (tt : Bytes) (table : List ℕ) (n : ℕ) (line : Bytes) (c : State) (w sets : List ℕ) (f : Bytes) where
   module _ (rest : Bytes) (t : Bool) (y : t ≡ true) where
     module _ (ef : f ≡ take 2 line) (er : rest ≡ drop 2 line) where
-      pub step-pair : (r : State) (w′ : List ℕ) → t ≡ same f (bytes "M,") → AddsPair olds news n (split 44 rest) c w r w′ → Steps olds news edges tt table count n line c w sets r w′ sets
+      pub step-pair : (r : State) (w′ : List ℕ) → t ≡ same f (bytes "M,") → AddsPair (b .limit) (b .olds) (b .news) n (split 44 rest) c w r w′ → Steps b tt table n line c w sets r w′ sets
       unfolding Steps stepSheet AddsPair
       step-pair r w′ e q old new suite s at for hold =
           rw (letter 44 77 line f rest ef er refl (sym e ∙ y)) (q old new suite s sets (for .old-nodes) (for .new-nodes) hold)
 
-      pub step-edge : (r : State) (sets′ : List ℕ) → t ≡ same f (bytes "D,") → AddsEdge edges n (rest ∷ []) c sets r sets′ → Steps olds news edges tt table count n line c w sets r w sets′
+      pub step-edge : (r : State) (sets′ : List ℕ) → t ≡ same f (bytes "D,") → AddsEdge (b .edges) n (rest ∷ []) c sets r sets′ → Steps b tt table n line c w sets r w sets′
       unfolding Steps stepSheet AddsEdge
       step-edge r sets′ e q old new suite s at for hold =
-          rw (ap sheetForm (letter 44 68 line f rest ef er refl (sym e ∙ y)) ∙ d-whole rest) (q old new suite s w (for .old-edges) hold)
+          rw (ap sheetForm (letter 44 68 line f rest ef er refl (sym e ∙ y)) ∙ d-whole rest) (q (b .limit) old new suite s w (for .old-edges) hold)
 
-      pub step-test : (r : State) (sets′ : List ℕ) → t ≡ same f (bytes "R,") → AddsTest tt table count n (rest ∷ []) c sets r sets′
-          → Steps olds news edges tt table count n line c w sets r w sets′
+      pub step-test : (r : State) (sets′ : List ℕ) → t ≡ same f (bytes "R,") → AddsTest tt table (b .count) n (rest ∷ []) c sets r sets′
+          → Steps b tt table n line c w sets r w sets′
       unfolding Steps stepSheet AddsTest
       step-test r sets′ e q old new suite s at for hold =
-          rw (ap sheetForm (letter 44 82 line f rest ef er refl (sym e ∙ y)) ∙ r-whole rest) (q olds news edges old new suite s w for hold)
+          rw (ap sheetForm (letter 44 82 line f rest ef er refl (sym e ∙ y)) ∙ r-whole rest) (q (b .limit) (b .olds) (b .news) (b .edges) old new suite s w for hold)
 
     pub step-end : (r : State) → f ≡ take 4 line → rest ≡ drop 4 line → t ≡ same f (bytes "end,") → Ends n (split 44 rest) c r
-        → Steps olds news edges tt table count n line c w sets r w sets
+        → Steps b tt table n line c w sets r w sets
     unfolding Steps stepSheet Ends
-    step-end r ef er e q old new suite s at for hold = rw (word line f rest ef er (sym e ∙ y)) (q old new suite s w sets hold)
+    step-end r ef er e q old new suite s at for hold = rw (word line f rest ef er (sym e ∙ y)) (q (b .limit) old new suite s w sets hold)
 
   module _ (t : Bool) (et : t ≡ same line headLine) where
-    pub step-head : (r : State) → t ≡ true → Opens n c r → Steps olds news edges tt table count n line c w sets r w sets
+    pub step-head : (r : State) → t ≡ true → Opens n c r → Steps b tt table n line c w sets r w sets
     unfolding Steps stepSheet Opens
     step-head r y q old new suite s at for hold =
-        rw (ap (λ (l : Bytes). sheetForm (split 44 l)) (same-true line headLine (sym et ∙ y)) ∙ head-form) (q old new suite s w sets hold)
+        rw (ap (λ (l : Bytes). sheetForm (split 44 l)) (same-true line headLine (sym et ∙ y)) ∙ head-form) (q (b .limit) old new suite s w sets hold)
 
     pub step-none : (g : Bytes) (m d e u : Bool) (r : State) → f ≡ take 2 line → g ≡ take 4 line → m ≡ same f (bytes "M,") → m ≡ false → d ≡ same f (bytes "D,") → d ≡ false → e ≡ same f (bytes "R,") → e ≡ false
-        → u ≡ same g (bytes "end,") → u ≡ false → t ≡ false → Refusal 2 n r → Steps olds news edges tt table count n line c w sets r w sets
+        → u ≡ same g (bytes "end,") → u ≡ false → t ≡ false → Refusal 2 n r → Steps b tt table n line c w sets r w sets
     unfolding Steps stepSheet takeSheetLine
     step-none g m d e u r ef eg em nm ed nd ee ne eu nu nt q old new suite s at for hold =
         rw (none-begins line f g ef eg (sym em ∙ nm) (sym ed ∙ nd) (sym ee ∙ ne) (sym eu ∙ nu) (sym et ∙ nt)) (q .number-is, q .place-is, omega arith)
@@ -76,17 +77,11 @@ module _ (n : ℕ) (c : State) where
   unfolding Finishes finishSheet unless
   finish-shut e s w sets hold = rw (false-isnt (sym (hold .shut-is) ∙ e)) (refl, refl, hold .held)
 
-  pub finish-open : (r : Result) → c .shut ≡ false → r .number ≡ 11 → r .place ≡ n → Finishes n c r
+  pub finish-open : (r : Result) → c .shut ≡ false → r ≡ sheetRefused 11 n → Finishes n c r
   unfolding Finishes finishSheet unless
-  finish-open r e en ep s w sets hold = rw (true-isnt (sym (hold .shut-is) ∙ e)) (en, ep, omega arith)
+  finish-open r e er s w sets hold = rw (true-isnt (sym (hold .shut-is) ∙ e)) (ap (λ (x : Result). x .number) er, ap (λ (x : Result). x .place) er, omega arith)
 
-pub few-pairs : (c : State) → Small c → c .pairs ≤ 4096
-few-pairs c h = h .few-pairs
-
-pub none-few : 0 ≤ 4096
-none-few = omega arith
-
-pub ruleset finishes = (finish-shut, finish-open, few-pairs, none-few)
+pub ruleset finishes = (finish-shut, finish-open)
 
 -- ---- the loop
 
@@ -99,34 +94,34 @@ refused-of : (x : Answer SheetRead) (r : State) (w sets : List ℕ) → After x 
 refused-of (refused k p) r w sets h z = (ap₂ refused (sym (h .0)) (sym (h .1)), omega arith)
 refused-of (accepted s) r w sets h z = absurd (z (h .0))
 
-module _ (old new : Program) (suite : Suite) where
+module _ (limit : ℕ) (old new : Program) (suite : Suite) where
   abbrev linesFrom : ℕ → ℕ → SheetRead → List Bytes → Answer Sheet
-  linesFrom n at s ps = readLines (stepSheet old new suite) finishSheet n at s ps
+  linesFrom n at s ps = readLines (stepSheet limit old new suite) finishSheet n at s ps
 
   lines-more : (n at : ℕ) (s : SheetRead) (line : Bytes) (ps : List Bytes) (p : Bytes) (qs : List Bytes) → ps ≡ p ∷ qs
-      → linesFrom n at s (line ∷ ps) ≡ then (stepSheet old new suite n at s line) (λ s. linesFrom (suc n) (at + length line + 1) s ps)
+      → linesFrom n at s (line ∷ ps) ≡ then (stepSheet limit old new suite n at s line) (λ s. linesFrom (suc n) (at + length line + 1) s ps)
   unfolding readLines
   lines-more n at s line ps p qs e =
-      subst (λ (x : List Bytes). linesFrom n at s (line ∷ x) ≡ then (stepSheet old new suite n at s line) (λ s. linesFrom (suc n) (at + length line + 1) s x)) (sym e) refl
+      subst (λ (x : List Bytes). linesFrom n at s (line ∷ x) ≡ then (stepSheet limit old new suite n at s line) (λ s. linesFrom (suc n) (at + length line + 1) s x)) (sym e) refl
 
   pub record So (sheet : Bytes) (at n : ℕ) (c : State) (w sets : List ℕ) : Type 0 where
     pub s : SheetRead
     pub hold : Holds w sets c s
     pub goes : linesFrom 1 0 noSheet (split 10 sheet) ≡ linesFrom n at s (split 10 (drop at sheet))
 
-unfoldable pub Sos : ℕ → ℕ → ℕ → Bytes → List ℕ → ℕ → Bytes → List ℕ → List ℕ → ℕ → ℕ → State → List ℕ → List ℕ → Type 0
-Sos olds news edges tt table count sheet w₀ sets₀ at n c w sets =
-    (old new : Program) (suite : Suite) → For olds news edges tt table count old new suite → Fresh w₀ sets₀ → So old new suite sheet at n c w sets
+unfoldable pub Sos : Bounds → Bytes → List ℕ → Bytes → List ℕ → List ℕ → ℕ → ℕ → State → List ℕ → List ℕ → Type 0
+Sos b tt table sheet w₀ sets₀ at n c w sets =
+    (old new : Program) (suite : Suite) → For (b .olds) (b .news) (b .edges) tt table (b .count) old new suite → Fresh w₀ sets₀ → So (b .limit) old new suite sheet at n c w sets
 
 -- The invariant.
-pub record Head (olds news edges : ℕ) (tt : Bytes) (table : List ℕ) (count : ℕ) (sheet : Bytes) (w₀ sets₀ : List ℕ) (at n : ℕ) (c : State) (w sets : List ℕ) : Type 0 where
+pub record Head (b : Bounds) (tt : Bytes) (table : List ℕ) (sheet : Bytes) (w₀ sets₀ : List ℕ) (at n : ℕ) (c : State) (w sets : List ℕ) : Type 0 where
   pub short : length sheet ≤ 65536
   pub in-text : at ≤ length sheet
   pub few : n ≤ at + 1
   pub small : Small c
   pub long : length w ≡ length w₀
   pub wide : length sets ≡ length sets₀
-  pub so : Sos olds news edges tt table count sheet w₀ sets₀ at n c w sets
+  pub so : Sos b tt table sheet w₀ sets₀ at n c w sets
 
 none-held : (w sets : List ℕ) → Fresh w sets → Holds w sets nothingRead noSheet
 unfolding has
@@ -143,8 +138,8 @@ none-held w sets f =
       held = record { store = f .store; pairs-are = no-pairs w; edges-are = λ e h. f .clear e; tests-are = λ i h. f .clear (1024 + i) };
     }
 
-module _ (olds news edges : ℕ) (tt : Bytes) (table : List ℕ) (count : ℕ) (sheet : Bytes) where
-  pub head-start : (w sets : List ℕ) (c : State) → length sheet ≤ 65536 → c ≡ nothingRead → Head olds news edges tt table count sheet w sets 0 1 c w sets
+module _ (b : Bounds) (tt : Bytes) (table : List ℕ) (sheet : Bytes) where
+  pub head-start : (w sets : List ℕ) (c : State) → length sheet ≤ 65536 → c ≡ nothingRead → Head b tt table sheet w sets 0 1 c w sets
   unfolding Sos
   head-start w sets c k e =
       record {
@@ -157,14 +152,14 @@ module _ (olds news edges : ℕ) (tt : Bytes) (table : List ℕ) (count : ℕ) (
         so = λ old new suite for fresh. record { s = noSheet; hold = subst (λ (c : State). Holds w sets c noSheet) (sym e) (none-held w sets fresh); goes = refl };
       }
 
-  module _ (w₀ sets₀ : List ℕ) (at n : ℕ) (c : State) (w sets : List ℕ) (head : Head olds news edges tt table count sheet w₀ sets₀ at n c w sets) (rest : Bytes) (er : rest ≡ drop at sheet) (len : ℕ) (e : len ≡ span 10 rest) where
+  module _ (w₀ sets₀ : List ℕ) (at n : ℕ) (c : State) (w sets : List ℕ) (head : Head b tt table sheet w₀ sets₀ at n c w sets) (rest : Bytes) (er : rest ≡ drop at sheet) (len : ℕ) (e : len ≡ span 10 rest) where
     -- The last line is not ended.
-    pub no-end : at < length sheet → length rest ≤ len → (r : Result) → r .number ≡ 2 → r .place ≡ n → Lines olds news edges tt table count sheet w₀ sets₀ r w sets
+    pub no-end : at < length sheet → length rest ≤ len → (r : Result) → r ≡ sheetRefused 2 n → Lines b tt table sheet w₀ sets₀ r w sets
     unfolding Lines readLines unless isnt Sos
-    no-end h k r en ep old new suite for fresh =
+    no-end h k r en old new suite for fresh =
         let q : length rest ≡ length sheet - at = ap length er ∙ length-drop at sheet in
         let so = head .so old new suite for fresh in
-        simp (so .goes, uncut-at 10 sheet rest at len er e k, empty-not rest (omega arith)) (en, ep, omega arith)
+        simp (so .goes, uncut-at 10 sheet rest at len er e k, empty-not rest (omega arith)) (ap (λ (x : Result). x .number) en, ap (λ (x : Result). x .place) en, omega arith)
 
     -- The next line begins within the sheet.
     pub turn-at : len < length rest → at + len < 18446744073709551616
@@ -176,45 +171,45 @@ module _ (olds news edges : ℕ) (tt : Bytes) (table : List ℕ) (count : ℕ) (
     pub turn-number : len < length rest → n + 1 < 18446744073709551616
     turn-number h = omega (arith, head .short, head .few, head .in-text)
 
-    module _ (h : len < length rest) (line : Bytes) (el : line ≡ take len rest) (r : State) (w′ sets′ : List ℕ) (step : Stepped olds news edges tt table count n line c w sets r w′ sets′) where
+    module _ (h : len < length rest) (line : Bytes) (el : line ≡ take len rest) (r : State) (w′ sets′ : List ℕ) (step : Stepped b tt table n line c w sets r w′ sets′) where
       line-long : length line ≡ len
       line-long = ap length el ∙ length-take-le len rest (omega arith)
 
-      module _ (old new : Program) (suite : Suite) (for : For olds news edges tt table count old new suite) (fresh : Fresh w₀ sets₀) where
-        before : So old new suite sheet at n c w sets
+      module _ (old new : Program) (suite : Suite) (for : For (b .olds) (b .news) (b .edges) tt table (b .count) old new suite) (fresh : Fresh w₀ sets₀) where
+        before : So (b .limit) old new suite sheet at n c w sets
         unfolding Sos
         before = head .so old new suite for fresh
 
-        whole : linesFrom old new suite 1 0 noSheet (split 10 sheet)
-            ≡ then (stepSheet old new suite n at (before .s) line) (λ s. linesFrom old new suite (n + 1) (at + len + 1) s (split 10 (drop (at + len + 1) sheet)))
+        whole : linesFrom (b .limit) old new suite 1 0 noSheet (split 10 sheet)
+            ≡ then (stepSheet (b .limit) old new suite n at (before .s) line) (λ s. linesFrom (b .limit) old new suite (n + 1) (at + len + 1) s (split 10 (drop (at + len + 1) sheet)))
         whole =
             let sc = split-cons 10 (drop (at + len + 1) sheet) in
             before .goes
-            ∙ ap (λ (x : List Bytes). linesFrom old new suite n at (before .s) x) (cut-at 10 sheet rest at len er e line h el)
-            ∙ lines-more old new suite n at (before .s) line (split 10 (drop (at + len + 1) sheet)) (sc .0) (sc .1) (sc .2)
-            ∙ ap₂ (λ (k j : ℕ). then (stepSheet old new suite n at (before .s) line) (λ s. linesFrom old new suite k (at + j + 1) s (split 10 (drop (at + len + 1) sheet)))) (sym (add-one n)) line-long
+            ∙ ap (λ (x : List Bytes). linesFrom (b .limit) old new suite n at (before .s) x) (cut-at 10 sheet rest at len er e line h el)
+            ∙ lines-more (b .limit) old new suite n at (before .s) line (split 10 (drop (at + len + 1) sheet)) (sc .0) (sc .1) (sc .2)
+            ∙ ap₂ (λ (k j : ℕ). then (stepSheet (b .limit) old new suite n at (before .s) line) (λ s. linesFrom (b .limit) old new suite k (at + j + 1) s (split 10 (drop (at + len + 1) sheet)))) (sym (add-one n)) line-long
 
-        answer : After (stepSheet old new suite n at (before .s) line) r w′ sets′
+        answer : After (stepSheet (b .limit) old new suite n at (before .s) line) r w′ sets′
         unfolding Steps
         answer = step .steps old new suite (before .s) at for (before .hold)
 
-        so-on : r .number ≡ 0 → So old new suite sheet (at + len + 1) (n + 1) r w′ sets′
+        so-on : r .number ≡ 0 → So (b .limit) old new suite sheet (at + len + 1) (n + 1) r w′ sets′
         unfolding then
         so-on z =
-            let a = accepted-of (stepSheet old new suite n at (before .s) line) r w′ sets′ answer z in
+            let a = accepted-of (stepSheet (b .limit) old new suite n at (before .s) line) r w′ sets′ answer z in
             record {
               s = a .0;
               hold = a .2;
-              goes = whole ∙ ap (λ (x : Answer SheetRead). then x (λ s. linesFrom old new suite (n + 1) (at + len + 1) s (split 10 (drop (at + len + 1) sheet)))) (a .1);
+              goes = whole ∙ ap (λ (x : Answer SheetRead). then x (λ s. linesFrom (b .limit) old new suite (n + 1) (at + len + 1) s (split 10 (drop (at + len + 1) sheet)))) (a .1);
             }
 
-        stopped : (r .number ≡ 0 → ⊥) → (linesFrom old new suite 1 0 noSheet (split 10 sheet) ≡ refused (r .number) (r .place)) × (0 < r .number)
+        stopped : (r .number ≡ 0 → ⊥) → (linesFrom (b .limit) old new suite 1 0 noSheet (split 10 sheet) ≡ refused (r .number) (r .place)) × (0 < r .number)
         unfolding then
         stopped z =
-            let a = refused-of (stepSheet old new suite n at (before .s) line) r w′ sets′ answer z in
-            (whole ∙ ap (λ (x : Answer SheetRead). then x (λ s. linesFrom old new suite (n + 1) (at + len + 1) s (split 10 (drop (at + len + 1) sheet)))) (a .0), a .1)
+            let a = refused-of (stepSheet (b .limit) old new suite n at (before .s) line) r w′ sets′ answer z in
+            (whole ∙ ap (λ (x : Answer SheetRead). then x (λ s. linesFrom (b .limit) old new suite (n + 1) (at + len + 1) s (split 10 (drop (at + len + 1) sheet)))) (a .0), a .1)
 
-      pub head-on : r .number ≡ 0 → length w′ ≡ length w → length sets′ ≡ length sets → Head olds news edges tt table count sheet w₀ sets₀ (at + len + 1) (n + 1) r w′ sets′
+      pub head-on : r .number ≡ 0 → length w′ ≡ length w → length sets′ ≡ length sets → Head b tt table sheet w₀ sets₀ (at + len + 1) (n + 1) r w′ sets′
       unfolding Sos
       head-on z lw ls =
           record {
@@ -227,33 +222,33 @@ module _ (olds news edges : ℕ) (tt : Bytes) (table : List ℕ) (count : ℕ) (
             so = λ old new suite for fresh. so-on old new suite for fresh z;
           }
 
-      pub no-line : (q : Result) → (r .number ≡ 0 → ⊥) → q .number ≡ r .number → q .place ≡ r .place → Lines olds news edges tt table count sheet w₀ sets₀ q w′ sets′
+      pub no-line : (q : Result) → (r .number ≡ 0 → ⊥) → q ≡ sheetRefused (r .number) (r .place) → Lines b tt table sheet w₀ sets₀ q w′ sets′
       unfolding Lines
-      no-line q z en ep old new suite for fresh =
+      no-line q z en old new suite for fresh =
           let a = stopped old new suite for fresh z in
-          simp (a .0) (en, ep, a .1)
+          simp (a .0) (ap (λ (x : Result). x .number) en, ap (λ (x : Result). x .place) en, a .1)
 
-  pub all-read : (w₀ sets₀ : List ℕ) (at n : ℕ) (c : State) (w sets : List ℕ) (r : Result) → Head olds news edges tt table count sheet w₀ sets₀ at n c w sets → length sheet ≤ at → Finishes n c r
-      → Lines olds news edges tt table count sheet w₀ sets₀ r w sets
+  pub all-read : (w₀ sets₀ : List ℕ) (at n : ℕ) (c : State) (w sets : List ℕ) (r : Result) → Head b tt table sheet w₀ sets₀ at n c w sets → length sheet ≤ at → Finishes n c r
+      → Lines b tt table sheet w₀ sets₀ r w sets
   unfolding Lines readLines split unless isnt empty Finishes Sos
   all-read w₀ sets₀ at n c w sets r head h f old new suite for fresh =
       let so = head .so old new suite for fresh in
       simp (so .goes, drop-end sheet at h) (f (so .s) w sets (so .hold))
 
-  pub head-small : (w₀ sets₀ : List ℕ) (at n : ℕ) (c : State) (w sets : List ℕ) → Head olds news edges tt table count sheet w₀ sets₀ at n c w sets → Small c
+  pub head-small : (w₀ sets₀ : List ℕ) (at n : ℕ) (c : State) (w sets : List ℕ) → Head b tt table sheet w₀ sets₀ at n c w sets → Small c
   head-small w₀ sets₀ at n c w sets head = head .small
 
 pub ruleset turns = (head-start, no-end, turn-at, turn-next, turn-number, head-on, no-line, all-read, head-small)
 
 -- ---- `read_sheet`
 
-module _ (olds news edges : ℕ) (tt : Bytes) (table : List ℕ) (count : ℕ) (sheet : Bytes) (r : Result) (w′ sets′ : List ℕ) where
-  pub sheet-long : 65536 < length sheet → r .number ≡ 1 → r .place ≡ 0 → Reads olds news edges tt table count sheet r w′ sets′
+module _ (limit olds news edges : ℕ) (tt : Bytes) (table : List ℕ) (count : ℕ) (sheet : Bytes) (r : Result) (w′ sets′ : List ℕ) where
+  pub sheet-long : 65536 < length sheet → r ≡ sheetRefused 1 0 → Reads limit olds news edges tt table count sheet r w′ sets′
   unfolding Reads readSheet readText unless
-  sheet-long h en ep old new suite for = simp (lt-ltb 65536 (length sheet) h) (en, ep, omega arith)
+  sheet-long h e old new suite for = simp (lt-ltb 65536 (length sheet) h) (ap (λ (x : Result). x .number) e, ap (λ (x : Result). x .place) e, omega arith)
 
-  pub sheet-read : (w sets w₁ sets₁ : List ℕ) → length sheet ≤ 65536 → 16912 ≤ length w → Emptied w w₁ → sets₁ ≡ replicate (length sets) 0
-      → Lines olds news edges tt table count sheet w₁ sets₁ r w′ sets′ → Reads olds news edges tt table count sheet r w′ sets′
+  pub sheet-read : (w sets w₁ sets₁ : List ℕ) → length sheet ≤ 65536 → pairBase + 3 * limit ≤ length w → Emptied w w₁ → sets₁ ≡ replicate (length sets) 0
+      → Lines (record { limit = limit; olds = olds; news = news; edges = edges; count = count }) tt table sheet w₁ sets₁ r w′ sets′ → Reads limit olds news edges tt table count sheet r w′ sets′
   unfolding Reads Lines readSheet readText unless Empties
   sheet-read w sets w₁ sets₁ h k ew es a old new suite for =
       simp (le-ltb 65536 (length sheet) h) (a old new suite for (record { store = ew .empties (omega arith) .0; clear = clear-bits sets₁ (length sets) es }))

@@ -1,7 +1,7 @@
 -- What the reader of sheets promises: its answer is the definition's, and the tables hold the claims of an accepted sheet.
 use mathlib.Core.Path.{_≡_}
 use mathlib.Core.List.{List}
-use Prim.Native.Nat.{ℕ, _+_, _≤_, _<_}
+use Prim.Native.Nat.{ℕ, _+_, _<_}
 use Rattle.laws.specs.Tests.{has}
 use Rattle.laws.specs.Bits.{bitIn}
 use Rattle.rules.specs.Text.{Answer, Bytes, accepted, refused}
@@ -34,11 +34,7 @@ abbrev pub Told : Answer Sheet → SheetRead → List ℕ → List ℕ → Type 
 Told (refused k p) r w sets = (r .number ≡ k) × (r .place ≡ p) × (0 < k)
 Told (accepted s) r w sets = (r .number ≡ 0) × (r .place ≡ 0) × ClaimsHeld w sets (r .pairs) s
 
--- `read_sheet`: whatever programs and suite have these counts and names, the answer is the definition's.
-unfoldable pub Reads : ℕ → ℕ → ℕ → Bytes → List ℕ → ℕ → Bytes → SheetRead → List ℕ → List ℕ → Type 0
-Reads olds news edges tt table count sheet r w sets =
-    (old new : Program) (suite : Suite) → For olds news edges tt table count old new suite → Told (readSheet old new suite sheet) r w sets
-
-pub record SheetTold (olds news edges : ℕ) (tt : Bytes) (table : List ℕ) (count : ℕ) (sheet : Bytes) (r : SheetRead) (w sets : List ℕ) : Type 0 where
-  pub reads : Reads olds news edges tt table count sheet r w sets
-  pub few : r .pairs ≤ 4096
+-- `read_sheet`: whatever programs and suite have these counts and names, the answer is the definition's, of a sheet of at most `limit` pairs.
+unfoldable pub Reads : ℕ → ℕ → ℕ → ℕ → Bytes → List ℕ → ℕ → Bytes → SheetRead → List ℕ → List ℕ → Type 0
+Reads limit olds news edges tt table count sheet r w sets =
+    (old new : Program) (suite : Suite) → For olds news edges tt table count old new suite → Told (readSheet limit old new suite sheet) r w sets

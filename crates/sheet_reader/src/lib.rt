@@ -1,18 +1,20 @@
 // Sheets, read for the check: the pairs go into a table of pairs, the D edges and the R tests into a set of bits.
 ghost use mathlib.Core.Path.{_≡_};
 ghost use mathlib.Core.List.{_∷_, []};
-ghost use Prim.Native.Nat.{_≤_};
+ghost use Prim.Native.Nat.{_≤_, _+_, _*_};
 ghost use lib.ListN.{length, replicate};
 ghost use Rattle.laws.specs.BitSets.{withBit};
 ghost use Rattle.rules.specs.Text.{split};
-ghost use Rattle.sheet_reader.specs.Claims.{SheetTold};
+ghost use Rattle.pairset.specs.Store.{pairBase};
+ghost use Rattle.sheet_reader.specs.Claims.{Reads};
 ghost use Rattle.sheet_reader.specs.Reading.{
   AddedEdge,
   AddedPair,
   AddedTest,
+  Bounded,
   Ended,
-  Finished,
-  LinesRead,
+  Finishes,
+  Lines,
   Opened,
   Refusal,
   Small,
@@ -21,8 +23,10 @@ ghost use Rattle.sheet_reader.specs.Reading.{
   endFits,
   nothingRead,
   pairFits,
+  sheetRefused,
   testFrom,
   underway as isUnderway,
+  withPair,
 };
 
 // What was read: a refusal by number and place, where the number is not 0, or how many pairs there are.
@@ -30,6 +34,15 @@ pub struct SheetRead {
     pub number: usize,
     pub place: usize,
     pub pairs: usize,
+}
+
+// What a sheet may list: at most `limit` pairs, of so many old and new nodes, and of so many old edges and tests.
+pub struct Bounds {
+    pub limit: usize,
+    pub olds: usize,
+    pub news: usize,
+    pub edges: usize,
+    pub count: usize,
 }
 
 // What was read so far: a refusal by number and place, where the number is not 0; whether the first line and the last were read; how many
@@ -191,19 +204,32 @@ fn pair_fits(olds: usize, news: usize, a: usize, b: usize, had: State) -> bool
     false
 }
 
-// An M line of the fields a and b. What the table holds after a refusal is left open.
-fn add_pair(
-    olds: usize,
-    news: usize,
-    n: usize,
-    a: &[u8],
-    b: &[u8],
-    had: State,
-    w: &mut [usize],
-) -> State
+// What was read, with the pair (a, b) more.
+fn with_pair(a: usize, b: usize, had: State) -> State
     requires { ⌜ Small had ⌝ }
-    requires { ⌜ (olds ≤ 512) × (news ≤ 512) × (16912 ≤ length (now w)) ⌝ }
-    ensures { λ r. ⌜ AddedPair olds news n (now (a .entry) ∷ (now (b .entry) ∷ [])) had (now (w .entry)) r (now (w .exit)) ⌝ }
+    requires { ⌜ (a ≤ 65536) × (b ≤ 65536) ⌝ }
+    ensures { λ r. ⌜ r ≡ withPair a b had ⌝ }
+{
+    State {
+        number: 0,
+        place: 0,
+        opened: had.opened,
+        shut: had.shut,
+        pairs: had.pairs + 1,
+        edges: had.edges,
+        tests: had.tests,
+        pair: 512 * a + b + 1,
+        edge: had.edge,
+        test: had.test,
+    }
+}
+
+// An M line of the fields a and b. What the table holds after a refusal is left open.
+fn add_pair(bounds: Bounds, n: usize, a: &[u8], b: &[u8], had: State, w: &mut [usize]) -> State
+    requires { ⌜ Small had ⌝ }
+    requires { ⌜ Bounded bounds ⌝ }
+    requires { ⌜ pairBase + 3 * bounds .limit ≤ length (now w) ⌝ }
+    ensures { λ r. ⌜ AddedPair bounds n (now (a .entry) ∷ (now (b .entry) ∷ [])) had (now (w .entry)) r (now (w .exit)) ⌝ }
 {
     let i = text::number(a);
     if 65536 < i {
@@ -214,40 +240,30 @@ fn add_pair(
         return refuse(2, n);
     }
     let pairs = had.pairs;
-    if 4096 <= pairs {
+    if bounds.limit <= pairs {
         return refuse(4, n);
     }
-    if pair_fits(olds, news, i, j, had) {
+    if pair_fits(bounds.olds, bounds.news, i, j, had) {
         pairset::append(w, pairs, i, j);
-        return State {
-            number: 0,
-            place: 0,
-            opened: had.opened,
-            shut: had.shut,
-            pairs: pairs + 1,
-            edges: had.edges,
-            tests: had.tests,
-            pair: 512 * i + j + 1,
-            edge: had.edge,
-            test: had.test,
-        };
+        return with_pair(i, j, had);
     }
     refuse(11, n)
 }
 
 // An M line, by what stands behind its first comma. A number has no comma, so the second field is all that stands behind the next one. What
 // the table holds after a refusal is left open.
-fn pair_line(olds: usize, news: usize, n: usize, rest: &[u8], had: State, w: &mut [usize]) -> State
+fn pair_line(bounds: Bounds, n: usize, rest: &[u8], had: State, w: &mut [usize]) -> State
     requires { ⌜ Small had ⌝ }
-    requires { ⌜ (olds ≤ 512) × (news ≤ 512) × (16912 ≤ length (now w)) ⌝ }
-    ensures { λ r. ⌜ AddedPair olds news n (split 44 (now (rest .entry))) had (now (w .entry)) r (now (w .exit)) ⌝ }
+    requires { ⌜ Bounded bounds ⌝ }
+    requires { ⌜ pairBase + 3 * bounds .limit ≤ length (now w) ⌝ }
+    ensures { λ r. ⌜ AddedPair bounds n (split 44 (now (rest .entry))) had (now (w .entry)) r (now (w .exit)) ⌝ }
 {
     let a = text::first_short(rest, 44);
     if rest.len() <= a.len() {
         return refuse(2, n);
     }
     let b = text::after(rest, a.len() + 1);
-    add_pair(olds, news, n, a, b, had, w)
+    add_pair(bounds, n, a, b, had, w)
 }
 
 // Whether the edge e may come next, where there are so many old edges.
@@ -412,12 +428,9 @@ fn end_line(n: usize, rest: &[u8], had: State) -> State
 // Takes a line, numbered n, by its first bytes. A field is handed on as the part of the line that holds it. What the tables hold after a
 // refusal is left open.
 fn step(
-    olds: usize,
-    news: usize,
-    edges: usize,
+    bounds: Bounds,
     tt: &[u8],
     tests: &[usize],
-    count: usize,
     n: usize,
     line: &[u8],
     had: State,
@@ -425,18 +438,19 @@ fn step(
     sets: &mut [u64],
 ) -> State
     requires { ⌜ Small had ⌝ }
-    requires { ⌜ (olds ≤ 512) × (news ≤ 512) × (edges ≤ 1024) × (count ≤ 200) × (16912 ≤ length (now w)) × (20 ≤ length (now sets)) ⌝ }
-    ensures { λ r. ⌜ Stepped olds news edges (now (tt .entry)) (now (tests .entry)) count n (now (line .entry)) had (now (w .entry)) (now (sets .entry)) r (now (w .exit)) (now (sets .exit)) ⌝ }
+    requires { ⌜ Bounded bounds ⌝ }
+    requires { ⌜ (pairBase + 3 * bounds .limit ≤ length (now w)) × (20 ≤ length (now sets)) ⌝ }
+    ensures { λ r. ⌜ Stepped bounds (now (tt .entry)) (now (tests .entry)) n (now (line .entry)) had (now (w .entry)) (now (sets .entry)) r (now (w .exit)) (now (sets .exit)) ⌝ }
 {
     let f = text::front(line, 2);
     if text::same(f, b"M,") {
-        return pair_line(olds, news, n, text::after(line, 2), had, w);
+        return pair_line(bounds, n, text::after(line, 2), had, w);
     }
     if text::same(f, b"D,") {
-        return add_edge(edges, n, text::after(line, 2), had, sets);
+        return add_edge(bounds.edges, n, text::after(line, 2), had, sets);
     }
     if text::same(f, b"R,") {
-        return add_test(tt, tests, count, n, text::after(line, 2), had, sets);
+        return add_test(tt, tests, bounds.count, n, text::after(line, 2), had, sets);
     }
     if text::same(text::front(line, 4), b"end,") {
         return end_line(n, text::after(line, 4), had);
@@ -449,10 +463,21 @@ fn step(
 
 // ---- a text
 
+// A sheet that is refused, by number and place.
+fn sheet_refused(number: usize, place: usize) -> SheetRead
+    ensures { λ r. ⌜ r ≡ sheetRefused number place ⌝ }
+{
+    SheetRead {
+        number,
+        place,
+        pairs: 0,
+    }
+}
+
 // What was read, where the line n is one past the last.
 fn finish(n: usize, had: State) -> SheetRead
     requires { ⌜ Small had ⌝ }
-    ensures { λ r. ⌜ Finished n had r ⌝ }
+    ensures { λ r. ⌜ Finishes n had r ⌝ }
 {
     let shut = had.shut;
     if shut {
@@ -462,27 +487,21 @@ fn finish(n: usize, had: State) -> SheetRead
             pairs: had.pairs,
         };
     }
-    SheetRead {
-        number: 11,
-        place: n,
-        pairs: 0,
-    }
+    sheet_refused(11, n)
 }
 
 // Reads the lines of a sheet into tables that hold nothing. What the tables hold after a refusal is left open.
 fn read_lines(
+    bounds: Bounds,
     sheet: &[u8],
-    olds: usize,
-    news: usize,
-    edges: usize,
     tt: &[u8],
     tests: &[usize],
-    count: usize,
     w: &mut [usize],
     sets: &mut [u64],
 ) -> SheetRead
-    requires { ⌜ (length (now sheet) ≤ 65536) × (olds ≤ 512) × (news ≤ 512) × (edges ≤ 1024) × (count ≤ 200) × (16912 ≤ length (now w)) × (20 ≤ length (now sets)) ⌝ }
-    ensures { λ r. ⌜ LinesRead olds news edges (now (tt .entry)) (now (tests .entry)) count (now (sheet .entry)) (now (w .entry)) (now (sets .entry)) r (now (w .exit)) (now (sets .exit)) ⌝ }
+    requires { ⌜ Bounded bounds ⌝ }
+    requires { ⌜ (length (now sheet) ≤ 65536) × (pairBase + 3 * bounds .limit ≤ length (now w)) × (20 ≤ length (now sets)) ⌝ }
+    ensures { λ r. ⌜ Lines bounds (now (tt .entry)) (now (tests .entry)) (now (sheet .entry)) (now (w .entry)) (now (sets .entry)) r (now (w .exit)) (now (sets .exit)) ⌝ }
 {
     let mut at = 0;
     let mut n = 1;
@@ -491,21 +510,13 @@ fn read_lines(
         let rest = text::after(sheet, at);
         let len = text::find_short(rest, 10);
         if rest.len() <= len {
-            return SheetRead {
-                number: 2,
-                place: n,
-                pairs: 0,
-            };
+            return sheet_refused(2, n);
         }
         let line = text::front(rest, len);
-        had = step(olds, news, edges, tt, tests, count, n, line, had, w, sets);
+        had = step(bounds, tt, tests, n, line, had, w, sets);
         let number = had.number;
         if number != 0 {
-            return SheetRead {
-                number,
-                place: had.place,
-                pairs: 0,
-            };
+            return sheet_refused(number, had.place);
         }
         at = at + len + 1;
         n += 1;
@@ -513,9 +524,10 @@ fn read_lines(
     finish(n, had)
 }
 
-// Reads a sheet, for programs of so many old and new nodes and old edges, and the tests of a table. What the tables hold after a refusal is
+// Reads a sheet of at most `limit` pairs, for programs of so many old and new nodes and old edges, and the tests of a table. What the tables hold after a refusal is
 // left open.
 pub fn read_sheet(
+    limit: usize,
     sheet: &[u8],
     olds: usize,
     news: usize,
@@ -526,17 +538,20 @@ pub fn read_sheet(
     w: &mut [usize],
     sets: &mut [u64],
 ) -> SheetRead
-    requires { ⌜ (olds ≤ 512) × (news ≤ 512) × (edges ≤ 1024) × (count ≤ 200) × (16912 ≤ length (now w)) × (20 ≤ length (now sets)) ⌝ }
-    ensures { λ r. ⌜ SheetTold olds news edges (now (tt .entry)) (now (tests .entry)) count (now (sheet .entry)) r (now (w .exit)) (now (sets .exit)) ⌝ }
+    requires { ⌜ (limit ≤ 4096) × (olds ≤ 512) × (news ≤ 512) × (edges ≤ 1024) × (count ≤ 200) × (pairBase + 3 * limit ≤ length (now w)) × (20 ≤ length (now sets)) ⌝ }
+    ensures { λ r. ⌜ Reads limit olds news edges (now (tt .entry)) (now (tests .entry)) count (now (sheet .entry)) r (now (w .exit)) (now (sets .exit)) ⌝ }
 {
     if 65536 < sheet.len() {
-        return SheetRead {
-            number: 1,
-            place: 0,
-            pairs: 0,
-        };
+        return sheet_refused(1, 0);
     }
     pairset::empty(w);
     clear_words(sets);
-    read_lines(sheet, olds, news, edges, tt, tests, count, w, sets)
+    let bounds = Bounds {
+        limit,
+        olds,
+        news,
+        edges,
+        count,
+    };
+    read_lines(bounds, sheet, tt, tests, w, sets)
 }

@@ -2,13 +2,13 @@
 use mathlib.Core.Path.{_≡_, refl, sym, ap, _∙_, subst}
 use mathlib.Core.Bool.{Bool}
 use mathlib.Core.List.{List}
-use Prim.Native.Nat.{ℕ, _≤_, _<_}
+use Prim.Native.Nat.{ℕ, suc, _+_, _*_, _≤_, _<_}
 use native.Mathlib.Omega.{arith}
 use borrow.Author.Tests.{le-leb, le-ltb, lt-ltb}
 use lib.ListN.{length, take}
 use Rattle.laws.specs.Lists.{choose-no, choose-yes}
 use Rattle.laws.specs.Slices.{below-or}
-use Rattle.rules.specs.Text.{Bytes, maxPairs}
+use Rattle.rules.specs.Text.{Bytes}
 use Rattle.rules.specs.Graph.{Program, edgeCount}
 use Rattle.rules.specs.ProgramFile.{Listing}
 use Rattle.rules.specs.SuiteFile.{coverageAt, readTests, testCount}
@@ -17,6 +17,7 @@ use Rattle.rules.specs.Job.{Given, recordBytes, recording, refusal, sheetBytes,
 use Rattle.rules.specs.Proofs.ReadBack.{selected-short}
 use Rattle.answer.specs.declared.Answer.{Answer}
 use Rattle.answer.specs.Outcomes.{Told, refusal-told, told-as}
+use Rattle.pairset.specs.Store.{pairBase}
 use Rattle.versions.specs.Memory.{InMemory, Memory, memory}
 use Rattle.versions.specs.MemoryLaws.{sound}
 use Rattle.closure.specs.Claims.{Closes, Found, Sized}
@@ -33,12 +34,12 @@ use Rattle.work.specs.Work.{Chosen, Done, RecordDone, RecordFrom, Select
 
 -- ---- `select`
 
-module _ (v v′ : Memory) (w w′ : List ℕ) (c : ℕ) (h : Sized w w′ (Closes v v′ 4096 w w′ c)) where
-  found : (o p : Listing) → InMemory v o → InMemory v′ p → 16912 ≤ length w → Found (o .program) (p .program) 4096 w′ c
+module _ (limit : ℕ) (v v′ : Memory) (w w′ : List ℕ) (c : ℕ) (h : Sized w w′ (Closes v v′ limit w w′ c)) where
+  found : (o p : Listing) → InMemory v o → InMemory v′ p → pairBase + 3 * limit ≤ length w → Found (o .program) (p .program) limit w′ c
   unfolding Closes
-  found o p io ip l = h .claim o p io ip (omega arith)
+  found o p io ip l = h .claim o p io ip l
 
-  pub select-many : (set : List ℕ) → 4096 < c → Selected v v′ w w′ set set c
+  pub select-many : (set : List ℕ) → limit < c → Selected limit v v′ w w′ set set c
   unfolding Selects
   select-many set m =
       record {
@@ -51,7 +52,7 @@ module _ (v v′ : Memory) (w w′ : List ℕ) (c : ℕ) (h : Sized w w′ (Clos
         set-size = refl;
       }
 
-  pub select-few : (set set′ : List ℕ) → c ≤ 4096 → DangersCopied w′ set set′ → Selected v v′ w w′ set set′ c
+  pub select-few : (set set′ : List ℕ) → c ≤ limit → DangersCopied w′ set set′ → Selected limit v v′ w w′ set set′ c
   unfolding Selects Copies
   select-few set set′ m d =
       record {
@@ -64,56 +65,56 @@ module _ (v v′ : Memory) (w w′ : List ℕ) (c : ℕ) (h : Sized w w′ (Clos
 
 -- ---- answers
 
--- More than 4,096 pairs: 15.
-too-many : (old new : Program) (w set : List ℕ) (c : ℕ) → Chosen old new w set c → 4096 < c → maxPairs < length (pairs old new)
-too-many old new w set c x h =
-    below-or maxPairs (length (pairs old new)) (λ b. b)
-    (λ b. absurd (let z : ⊥ = omega (arith, x .answer, choose-yes (length (pairs old new)) 4097 (le-leb (length (pairs old new)) maxPairs b)) in z))
+-- More pairs than the limit.
+too-many : (limit : ℕ) (old new : Program) (w set : List ℕ) (c : ℕ) → Chosen limit old new w set c → limit < c → limit < length (pairs old new)
+too-many limit old new w set c x h =
+    below-or limit (length (pairs old new)) (λ b. b)
+    (λ b. absurd (let z : ⊥ = omega (arith, x .answer, choose-yes (length (pairs old new)) (suc limit) (le-leb (length (pairs old new)) limit b)) in z))
 
-writing-many : (g : Given) (room : ℕ) (b : Bytes) → maxPairs < length (pairs (g .old) (g .new)) → writing g room b ≡ refusal 15 0
+writing-many : (limit over : ℕ) (g : Given) (room : ℕ) (b : Bytes) → limit < length (pairs (g .old) (g .new)) → writing limit over g room b ≡ refusal over 0
 unfolding writing
-writing-many g room b h = choose-yes _ _ (lt-ltb maxPairs (length (pairs (g .old) (g .new))) h)
+writing-many limit over g room b h = choose-yes _ _ (lt-ltb limit (length (pairs (g .old) (g .new))) h)
 
-recording-yes : (g : Given) (i room : ℕ) → i < testCount (g .suite) → recording g i room ≡ writing g room (recordBytes g i)
-recording-yes g i room h = choose-yes _ _ (lt-ltb i (testCount (g .suite)) h)
+recording-yes : (limit over : ℕ) (g : Given) (i room : ℕ) → i < testCount (g .suite) → recording limit over g i room ≡ writing limit over g room (recordBytes g i)
+recording-yes limit over g i room h = choose-yes _ _ (lt-ltb i (testCount (g .suite)) h)
 
-recording-no : (g : Given) (i room : ℕ) → testCount (g .suite) ≤ i → recording g i room ≡ refusal 6 0
-recording-no g i room h = choose-no _ _ (le-ltb i (testCount (g .suite)) h)
+recording-no : (limit over : ℕ) (g : Given) (i room : ℕ) → testCount (g .suite) ≤ i → recording limit over g i room ≡ refusal 6 0
+recording-no limit over g i room h = choose-no _ _ (le-ltb i (testCount (g .suite)) h)
 
-module _ (v v′ : Memory) (tt tests rows : List ℕ) (had : Texts) (w : List ℕ) (out : Bytes) where
+module _ (limit over : ℕ) (v v′ : Memory) (tt tests rows : List ℕ) (had : Texts) (w : List ℕ) (out : Bytes) where
   -- What the job gives, by its parts.
   abbrev giving : (g : Given) → Ready v v′ tt tests rows had g → Given
   giving g y = record { old = y .o .program; new = y .p .program; suite = y .l .suite }
 
-  chosen : (w′ set set′ : List ℕ) (c : ℕ) → Selected v v′ w w′ set set′ c → length set ≡ 16 → (g : Given) (y : Ready v v′ tt tests rows had g) → 16912 ≤ length w
-      → Chosen (y .o .program) (y .p .program) w′ set′ c
+  chosen : (w′ set set′ : List ℕ) (c : ℕ) → Selected limit v v′ w w′ set set′ c → length set ≡ 16 → (g : Given) (y : Ready v v′ tt tests rows had g) → pairBase + 3 * limit ≤ length w
+      → Chosen limit (y .o .program) (y .p .program) w′ set′ c
   unfolding Selects
   chosen w′ set set′ c s k g y l = s .selects (y .o) (y .p) (y .old-in) (y .new-in) l (omega arith)
 
-  held-few : (g : Given) (y : Ready v v′ tt tests rows had g) (w′ set′ : List ℕ) (c : ℕ) → Chosen (y .o .program) (y .p .program) w′ set′ c → c ≤ 4096
-      → length (pairs (y .o .program) (y .p .program)) ≤ maxPairs
+  held-few : (g : Given) (y : Ready v v′ tt tests rows had g) (w′ set′ : List ℕ) (c : ℕ) → Chosen limit (y .o .program) (y .p .program) w′ set′ c → c ≤ limit
+      → length (pairs (y .o .program) (y .p .program)) ≤ limit
   held-few g y w′ set′ c x h = omega (arith, x .held h .counted)
 
   -- ---- `write_sheet`
 
-  pub sheet-many : (w′ set set′ : List ℕ) (c : ℕ) → Selected v v′ w w′ set set′ c → length set ≡ 16 → 4096 < c
-      → Done w w′ out out (SheetDone v v′ tt tests rows had w out (record { number = 15; place = 0 }) out)
+  pub sheet-many : (w′ set set′ : List ℕ) (c : ℕ) → Selected limit v v′ w w′ set set′ c → length set ≡ 16 → limit < c
+      → Done w w′ out out (SheetDone limit over v v′ tt tests rows had w out (record { number = over; place = 0 }) out)
   unfolding SheetDone
   sheet-many w′ set set′ c s k m =
       record {
         claim = λ g y l.
             let x = chosen w′ set set′ c s k g y l in
-            subst (λ (g : Given). Told (writing g (length out) (sheetBytes g)) (record { number = 15; place = 0 }) out out) (sym (y .given-is))
-            (told-as (writing-many (giving g y) (length out) (sheetBytes (giving g y)) (too-many (y .o .program) (y .p .program) w′ set′ c x m)) (refusal-told 15 0 out));
+            subst (λ (g : Given). Told (writing limit over g (length out) (sheetBytes g)) (record { number = over; place = 0 }) out out) (sym (y .given-is))
+            (told-as (writing-many limit over (giving g y) (length out) (sheetBytes (giving g y)) (too-many limit (y .o .program) (y .p .program) w′ set′ c x m)) (refusal-told over 0 out));
         size = s .size;
         room = refl;
       }
 
-  pub sheet-few : (w′ set set′ : List ℕ) (c : ℕ) → Selected v v′ w w′ set set′ c → length set ≡ 16 → c ≤ 4096 → (r : Answer) (out′ : Bytes)
+  pub sheet-few : limit ≤ 4096 → (w′ set set′ : List ℕ) (c : ℕ) → Selected limit v v′ w w′ set set′ c → length set ≡ 16 → c ≤ limit → (r : Answer) (out′ : Bytes)
       → SheetWritten (selection w′ c (had .«old_nodes») (had .«new_nodes») set′ (had .«old_edges») tt tests rows (had .tests)) out r out′
-      → Done w w′ out out′ (SheetDone v v′ tt tests rows had w out r out′)
+      → Done w w′ out out′ (SheetDone limit over v v′ tt tests rows had w out r out′)
   unfolding SheetDone SheetWrites sheetBytes
-  sheet-few w′ set set′ c s k m r out′ h =
+  sheet-few most w′ set set′ c s k m r out′ h =
       record {
         claim = λ g y l.
             let x = chosen w′ set set′ c s k g y l in
@@ -126,50 +127,50 @@ module _ (v v′ : Memory) (tt tests rows : List ℕ) (had : Texts) (w : List �
               dangerous = x .marked m .bits;
               suite-read = ap (λ (n : ℕ). readTests n tt) (y .old-edges-n) ∙ y .tests-read;
               suite-held = subst (λ (n : ℕ). Holds n tests rows (had .tests) (y .l)) (sym (y .old-edges-n)) (y .tests-in);
-              short = selected-short (giving g y) (edgeCount (y .o .program)) (suite-read (edgeCount (y .o .program)) tt (y .l) (y .tests-read)) (held-few g y w′ set′ c x m)
+              short = selected-short limit (giving g y) (edgeCount (y .o .program)) (suite-read (edgeCount (y .o .program)) tt (y .l) (y .tests-read)) (held-few g y w′ set′ c x m) most
                   (sound v (y .o) (y .old-in)) (sound v′ (y .p) (y .new-in));
             }) in
-            subst (λ (g : Given). Told (writing g (length out) (sheetBytes g)) r out out′) (sym (y .given-is))
-            (told-as (writing-written (giving g y) (length out) (sheetBytes (giving g y)) (held-few g y w′ set′ c x m)) t);
+            subst (λ (g : Given). Told (writing limit over g (length out) (sheetBytes g)) r out out′) (sym (y .given-is))
+            (told-as (writing-written limit over (giving g y) (length out) (sheetBytes (giving g y)) (held-few g y w′ set′ c x m)) t);
         size = s .size;
         room = h .size;
       }
 
   -- ---- `write_record`
 
-  pub record-none : (i : ℕ) → had .tests ≤ i → Done w w out out (RecordDone v v′ tt tests rows had i w out (record { number = 6; place = 0 }) out)
+  pub record-none : (i : ℕ) → had .tests ≤ i → Done w w out out (RecordDone limit over v v′ tt tests rows had i w out (record { number = 6; place = 0 }) out)
   unfolding RecordDone
   record-none i h =
       record {
         claim = λ g y l.
-            subst (λ (g : Given). Told (recording g i (length out)) (record { number = 6; place = 0 }) out out) (sym (y .given-is))
-            (told-as (recording-no (giving g y) i (length out) (omega (arith, y .tests-in .counted))) (refusal-told 6 0 out));
+            subst (λ (g : Given). Told (recording limit over g i (length out)) (record { number = 6; place = 0 }) out out) (sym (y .given-is))
+            (told-as (recording-no limit over (giving g y) i (length out) (omega (arith, y .tests-in .counted))) (refusal-told 6 0 out));
         size = refl;
         room = refl;
       }
 
-  pub record-many : (w′ set set′ : List ℕ) (c i : ℕ) → i < had .tests → Selected v v′ w w′ set set′ c → length set ≡ 16 → 4096 < c
-      → Done w w′ out out (RecordDone v v′ tt tests rows had i w out (record { number = 15; place = 0 }) out)
+  pub record-many : (w′ set set′ : List ℕ) (c i : ℕ) → i < had .tests → Selected limit v v′ w w′ set set′ c → length set ≡ 16 → limit < c
+      → Done w w′ out out (RecordDone limit over v v′ tt tests rows had i w out (record { number = over; place = 0 }) out)
   unfolding RecordDone
   record-many w′ set set′ c i below s k m =
       record {
         claim = λ g y l.
             let x = chosen w′ set set′ c s k g y l in
-            subst (λ (g : Given). Told (recording g i (length out)) (record { number = 15; place = 0 }) out out) (sym (y .given-is))
+            subst (λ (g : Given). Told (recording limit over g i (length out)) (record { number = over; place = 0 }) out out) (sym (y .given-is))
             (told-as
-            (recording-yes (giving g y) i (length out) (omega (arith, y .tests-in .counted))
-            ∙ writing-many (giving g y) (length out) (recordBytes (giving g y) i) (too-many (y .o .program) (y .p .program) w′ set′ c x m))
-            (refusal-told 15 0 out));
+            (recording-yes limit over (giving g y) i (length out) (omega (arith, y .tests-in .counted))
+            ∙ writing-many limit over (giving g y) (length out) (recordBytes (giving g y) i) (too-many limit (y .o .program) (y .p .program) w′ set′ c x m))
+            (refusal-told over 0 out));
         size = s .size;
         room = refl;
       }
 
-  pub record-few : (w′ set set′ : List ℕ) (c i : ℕ) → i < had .tests → Selected v v′ w w′ set set′ c → length set ≡ 16 → c ≤ 4096 → (r : Answer) (out′ : Bytes)
-      → Done w′ w′ out out′ (RecordFrom (v .nodes) (v .links) (v′ .nodes) (v′ .links) tt tests rows had i w′ set′ out r out′) → Done w w′ out out′ (RecordDone v v′ tt tests rows had i w out r out′)
+  pub record-few : (w′ set set′ : List ℕ) (c i : ℕ) → i < had .tests → Selected limit v v′ w w′ set set′ c → length set ≡ 16 → c ≤ limit → (r : Answer) (out′ : Bytes)
+      → Done w′ w′ out out′ (RecordFrom (v .nodes) (v .links) (v′ .nodes) (v′ .links) tt tests rows had i w′ set′ out r out′) → Done w w′ out out′ (RecordDone limit over v v′ tt tests rows had i w out r out′)
   unfolding RecordDone RecordFrom
   record-few w′ set set′ c i below s k m r out′ h =
       record {
-        claim = λ g y l. h .claim (v .text) (v′ .text) g c y (chosen w′ set set′ c s k g y l) m below;
+        claim = λ g y l. h .claim limit over (v .text) (v′ .text) g c y (chosen w′ set set′ c s k g y l) m below;
         size = s .size;
         room = h .room;
       }
@@ -182,7 +183,7 @@ pub record-put : (on ol nn nl tt tests rows : List ℕ) (had : Texts) (w : List 
 unfolding RecordFrom Finds RecordWrites recordBytes
 record-put on ol nn nl tt tests rows had w out set marks marks′ i again r out′ few rep long f h =
     record {
-      claim = λ ot nt g c y x m is.
+      claim = λ limit over ot nt g c y x m is.
           let v = memory ot on ol in
           let v′ = memory nt nn nl in
           let old = y .o .program in
@@ -203,9 +204,9 @@ record-put on ol nn nl tt tests rows had w out set marks marks′ i again r out�
             is-test = below;
             marked = ap (λ (n : ℕ). take n marks′) (y .new-edges-n) ∙ marks-front old new coverage marks marks′ (omega arith) found;
           }) in
-          let job = giving v v′ tt tests rows had w out g y in
-          subst (λ (g : Given). Told (recording g i (length out)) r out out′) (sym (y .given-is))
-          (told-as (recording-yes job i (length out) below ∙ writing-written job (length out) (recordBytes job i) (held-few v v′ tt tests rows had w out g y w set c x m)) t);
+          let job = giving limit over v v′ tt tests rows had w out g y in
+          subst (λ (g : Given). Told (recording limit over g i (length out)) r out out′) (sym (y .given-is))
+          (told-as (recording-yes limit over job i (length out) below ∙ writing-written limit over job (length out) (recordBytes job i) (held-few limit over v v′ tt tests rows had w out g y w set c x m)) t);
       size = refl;
       room = h .size;
     }

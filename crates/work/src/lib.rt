@@ -1,5 +1,6 @@
 // The work of a job whose texts were read: the selection, the sheet, the record lines. Programs and tests are in memory, as reading them
-// leaves them; `w` is the table of the pairs, of 16,912 numbers. What a call that writes leaves in it is left open.
+// leaves them; `w` is the table of the pairs, with room for `limit` of them: the answer is `over` where more exist. What a call that writes
+// leaves in it is left open.
 use answer::Answer;
 use intake::Texts;
 ghost use Prim.Native.Nat.{_≤_};
@@ -7,9 +8,10 @@ ghost use Rattle.intake.specs.Ready.{Few};
 ghost use Rattle.versions.specs.Memory.{memory};
 ghost use Rattle.work.specs.Work.{Done, RecordDone, RecordFrom, Selected, SheetDone};
 
-// Finds the pairs of two versions, and their dangerous edges: the number of pairs, or 4,097 where there are more than 4,096; what the table and the
-// set hold then is left open.
+// Finds the pairs of two versions, and their dangerous edges: the number of pairs, or one more than the limit where there are more; what the
+// table and the set hold then is left open.
 pub fn select(
+    limit: usize,
     ot: &[u8],
     on: &[usize],
     ol: &[usize],
@@ -19,10 +21,11 @@ pub fn select(
     w: &mut [usize],
     set: &mut [u64],
 ) -> usize
-    ensures { λ r. ⌜ Selected (memory (now (ot .entry)) (now (on .entry)) (now (ol .entry))) (memory (now (nt .entry)) (now (nn .entry)) (now (nl .entry))) (now (w .entry)) (now (w .exit)) (now (set .entry)) (now (set .exit)) r ⌝ }
+    requires { ⌜ limit ≤ 4096 ⌝ }
+    ensures { λ r. ⌜ Selected limit (memory (now (ot .entry)) (now (on .entry)) (now (ol .entry))) (memory (now (nt .entry)) (now (nn .entry)) (now (nl .entry))) (now (w .entry)) (now (w .exit)) (now (set .entry)) (now (set .exit)) r ⌝ }
 {
-    let c = closure::close(ot, on, ol, nt, nn, nl, 4096, w);
-    if 4096 < c {
+    let c = closure::close(ot, on, ol, nt, nn, nl, limit, w);
+    if limit < c {
         return c;
     }
     selection::copy_dangers(w, set);
@@ -31,6 +34,8 @@ pub fn select(
 
 // Writes the sheet of the selection. What the table of the pairs holds afterwards is left open.
 pub fn write_sheet(
+    limit: usize,
+    over: usize,
     ot: &[u8],
     on: &[usize],
     ol: &[usize],
@@ -44,14 +49,15 @@ pub fn write_sheet(
     w: &mut [usize],
     out: &mut [u8],
 ) -> Answer
+    requires { ⌜ limit ≤ 4096 ⌝ }
     requires { ⌜ Few had ⌝ }
-    ensures { λ r. ⌜ Done (now (w .entry)) (now (w .exit)) (now (out .entry)) (now (out .exit)) (SheetDone (memory (now (ot .entry)) (now (on .entry)) (now (ol .entry))) (memory (now (nt .entry)) (now (nn .entry)) (now (nl .entry))) (now (tt .entry)) (now (tests .entry)) (now (rows .entry)) had (now (w .entry)) (now (out .entry)) r (now (out .exit))) ⌝ }
+    ensures { λ r. ⌜ Done (now (w .entry)) (now (w .exit)) (now (out .entry)) (now (out .exit)) (SheetDone limit over (memory (now (ot .entry)) (now (on .entry)) (now (ol .entry))) (memory (now (nt .entry)) (now (nn .entry)) (now (nl .entry))) (now (tt .entry)) (now (tests .entry)) (now (rows .entry)) had (now (w .entry)) (now (out .entry)) r (now (out .exit))) ⌝ }
 {
     let mut set = [0u64; 16];
-    let c = select(ot, on, ol, nt, nn, nl, w, &mut set);
-    if 4096 < c {
+    let c = select(limit, ot, on, ol, nt, nn, nl, w, &mut set);
+    if limit < c {
         return Answer {
-            number: 15,
+            number: over,
             place: 0,
         };
     }
@@ -91,6 +97,8 @@ pub fn record_from(
 
 // Writes the record line of a test: 6 where there is none of that number. What the table of the pairs holds afterwards is left open.
 pub fn write_record(
+    limit: usize,
+    over: usize,
     ot: &[u8],
     on: &[usize],
     ol: &[usize],
@@ -105,8 +113,9 @@ pub fn write_record(
     w: &mut [usize],
     out: &mut [u8],
 ) -> Answer
+    requires { ⌜ limit ≤ 4096 ⌝ }
     requires { ⌜ Few had ⌝ }
-    ensures { λ r. ⌜ Done (now (w .entry)) (now (w .exit)) (now (out .entry)) (now (out .exit)) (RecordDone (memory (now (ot .entry)) (now (on .entry)) (now (ol .entry))) (memory (now (nt .entry)) (now (nn .entry)) (now (nl .entry))) (now (tt .entry)) (now (tests .entry)) (now (rows .entry)) had i (now (w .entry)) (now (out .entry)) r (now (out .exit))) ⌝ }
+    ensures { λ r. ⌜ Done (now (w .entry)) (now (w .exit)) (now (out .entry)) (now (out .exit)) (RecordDone limit over (memory (now (ot .entry)) (now (on .entry)) (now (ol .entry))) (memory (now (nt .entry)) (now (nn .entry)) (now (nl .entry))) (now (tt .entry)) (now (tests .entry)) (now (rows .entry)) had i (now (w .entry)) (now (out .entry)) r (now (out .exit))) ⌝ }
 {
     let count = had.tests;
     if count <= i {
@@ -116,10 +125,10 @@ pub fn write_record(
         };
     }
     let mut set = [0u64; 16];
-    let c = select(ot, on, ol, nt, nn, nl, w, &mut set);
-    if 4096 < c {
+    let c = select(limit, ot, on, ol, nt, nn, nl, w, &mut set);
+    if limit < c {
         return Answer {
-            number: 15,
+            number: over,
             place: 0,
         };
     }

@@ -8,7 +8,7 @@ use borrow.Author.Tests.{le-ltb}
 use Rattle.laws.specs.Tests.{choose, has}
 use Rattle.laws.specs.Lists.{choose-no}
 use Rattle.laws.specs.Bits.{bitIn}
-use Rattle.rules.specs.Text.{Bytes, accepted, maxBytes, maxPairs, textOf}
+use Rattle.rules.specs.Text.{Bytes, accepted, maxBytes, textOf}
 use Rattle.rules.specs.Graph.{Program, edgeCount, nodeCount}
 use Rattle.rules.specs.Closing.{dangers, pairs}
 use Rattle.rules.specs.SuiteFile.{TestListing, coverageAt, readTests, testCount, testName}
@@ -27,10 +27,10 @@ use Rattle.writer.specs.Texts.{shortName}
 unfoldable pub written : ℕ → Bytes → Outcome
 written room b = choose (ltb room (length b)) (refusal 16 0) (wrote b)
 
--- It is the rules' answer where 15 is not due.
-pub writing-written : (g : Given) (room : ℕ) (b : Bytes) → length (pairs (g .old) (g .new)) ≤ maxPairs → writing g room b ≡ written room b
+-- It is the rules' answer where the pairs are not too many.
+pub writing-written : (limit over : ℕ) (g : Given) (room : ℕ) (b : Bytes) → length (pairs (g .old) (g .new)) ≤ limit → writing limit over g room b ≡ written room b
 unfolding writing written
-writing-written g room b h = choose-no _ _ (le-ltb maxPairs (length (pairs (g .old) (g .new))) h)
+writing-written limit over g room b h = choose-no _ _ (le-ltb limit (length (pairs (g .old) (g .new))) h)
 
 -- ---- the sheet
 

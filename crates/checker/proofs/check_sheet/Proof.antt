@@ -18,6 +18,9 @@ returns c = search (all, needs)
 judge-requires : tie.Need-judge-requires
 judge-requires c κs = search needs
 
+verdict-requires : tie.Need-verdict-requires
+verdict-requires c κs = search needs
+
 same-length-3 : tie.Need-same-length-3
 same-length-3 c = search needs
 
@@ -26,15 +29,6 @@ same-length-4 c = search needs
 
 returns-2 : tie.Need-returns-2
 returns-2 c = search (all, needs)
-
-same-length-5 : tie.Need-same-length-5
-same-length-5 c = search needs
-
-same-length-6 : tie.Need-same-length-6
-same-length-6 c = search needs
-
-returns-3 : tie.Need-returns-3
-returns-3 c = search (all, needs)
 
 pub check-sheet-spec : {M : Type 1} → statement M
 check-sheet-spec =
@@ -45,9 +39,7 @@ check-sheet-spec =
     same-length-2
     returns
     judge-requires
+    verdict-requires
     same-length-3
     same-length-4
-    returns-2
-    same-length-5
-    same-length-6
-    returns-3)
+    returns-2)

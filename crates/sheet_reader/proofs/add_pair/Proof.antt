@@ -33,17 +33,8 @@ pair-fits-requires c κs = search needs
 append-requires : tie.Need-append-requires
 append-requires c κs = search needs
 
-add-t16 : tie.Need-add-t16
-add-t16 c = search needs
-
-mul-t17 : tie.Need-mul-t17
-mul-t17 c = search needs
-
-add-t18 : tie.Need-add-t18
-add-t18 c = search needs
-
-add-t19 : tie.Need-add-t19
-add-t19 c = search needs
+with-pair-requires : tie.Need-with-pair-requires
+with-pair-requires c κs = search needs
 
 same-length : tie.Need-same-length
 same-length c = search needs
@@ -71,10 +62,7 @@ add-pair-spec =
     returns-3
     pair-fits-requires
     append-requires
-    add-t16
-    mul-t17
-    add-t18
-    add-t19
+    with-pair-requires
     same-length
     returns-4
     refuse-requires-4

@@ -7,10 +7,10 @@ use Rattle.sheet_reader.proofs.read_lines.Statement.{statement}
 use Rattle.sheet_reader.proofs.read_lines.Tie as tie
 
 abbrev Inv-loop : tie.InvT-loop
-Inv-loop sheet olds news edges tt tests count w₀ sets₀ at₀ n₀ had₀ w sets at n had = Head olds news edges tt tests count sheet w₀ sets₀ at n had w sets
+Inv-loop bounds sheet tt tests w₀ sets₀ at₀ n₀ had₀ w sets at n had = Head bounds tt tests sheet w₀ sets₀ at n had w sets
 
 abbrev μ-loop : tie.MeasureT-loop
-μ-loop sheet olds news edges tt tests count w₀ sets₀ at₀ n₀ had₀ w sets at n had = length sheet - at
+μ-loop bounds sheet tt tests w₀ sets₀ at₀ n₀ had₀ w sets at n had = length sheet - at
 
 nothing-read-requires : tie.Need-nothing-read-requires Inv-loop μ-loop
 nothing-read-requires c κs = search (all, needs)
@@ -23,6 +23,9 @@ after-requires c κs = search (all, needs)
 
 find-short-requires : tie.Need-find-short-requires Inv-loop μ-loop
 find-short-requires c κs = search (all, needs)
+
+sheet-refused-requires : tie.Need-sheet-refused-requires Inv-loop μ-loop
+sheet-refused-requires c κs = search (all, needs)
 
 same-length : tie.Need-same-length Inv-loop μ-loop
 same-length c = search (all, needs)
@@ -38,6 +41,9 @@ front-requires c κs = search (all, needs)
 
 step-requires : tie.Need-step-requires Inv-loop μ-loop
 step-requires c κs = search (all, needs)
+
+sheet-refused-requires-2 : tie.Need-sheet-refused-requires-2 Inv-loop μ-loop
+sheet-refused-requires-2 c κs = search (all, needs)
 
 same-length-3 : tie.Need-same-length-3 Inv-loop μ-loop
 same-length-3 c = search (all, needs)
@@ -85,11 +91,13 @@ read-lines-spec =
     loop-holds
     after-requires
     find-short-requires
+    sheet-refused-requires
     same-length
     same-length-2
     returns
     front-requires
     step-requires
+    sheet-refused-requires-2
     same-length-3
     same-length-4
     returns-2

@@ -3,6 +3,9 @@ use Rattle.sheet_reader.proofs.All.{all}
 use Rattle.sheet_reader.proofs.read_sheet.Statement.{statement}
 use Rattle.sheet_reader.proofs.read_sheet.Tie as tie
 
+sheet-refused-requires : tie.Need-sheet-refused-requires
+sheet-refused-requires c κs = search needs
+
 returns : tie.Need-returns
 returns c = search (all, needs)
 
@@ -28,6 +31,7 @@ pub read-sheet-spec : {M : Type 1} → statement M
 read-sheet-spec =
     tie.close
     (tie.spec
+    sheet-refused-requires
     returns
     empty-requires
     clear-words-requires
