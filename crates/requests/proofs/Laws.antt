@@ -9,7 +9,7 @@ use lib.ListN.{length}
 use borrow.Author.Tests.{eq-eqb, ne-eqb, le-ltb, lt-ltb}
 use Rattle.laws.specs.Tests.{choose}
 use Rattle.laws.specs.Lists.{choose-no, choose-yes}
-use Rattle.rules.specs.Text.{Answer as Reading, Bytes, accepted, refused}
+use Rattle.rules.specs.Text.{Answer as Reading, Bytes, accepted, maxPairs, refused, tooMany}
 use Rattle.rules.specs.Graph.{nodeCount}
 use Rattle.rules.specs.Sheet.{Sheet as Claims, readSheet}
 use Rattle.rules.specs.Check.{broken}
@@ -96,9 +96,9 @@ unfolding outputAfter choose
 choice-still true k q out = refl
 choice-still false k q out = refl
 
-checks-still : (g : Given) (sheet out : Bytes) → outputAfter (checking g sheet) out ≡ out
+checks-still : (limit : ℕ) (g : Given) (sheet out : Bytes) → outputAfter (checking limit g sheet) out ≡ out
 unfolding outcome judged outputAfter
-checks-still g sheet out = read (readSheet (g .old) (g .new) (g .suite) sheet)
+checks-still limit g sheet out = read (readSheet limit (g .old) (g .new) (g .suite) sheet)
   where
     read : (x : Reading Claims) → outputAfter (outcome x (judged g)) out ≡ out
     read (refused k p) = refl
@@ -117,20 +117,20 @@ module _ (v v′ : Memory) (tt tests rows : List ℕ) (had : Texts) (input w w�
   abbrev Does : Request → Type 0
   Does q = Done w w′ out out′ (Served (asked q) v v′ tt tests rows had input out r out′)
 
-  sheet-served : 16912 ≤ length w → Done w w′ out out′ (SheetDone v v′ tt tests rows had w out r out′) → Does Sheet
+  sheet-served : 16912 ≤ length w → Done w w′ out out′ (SheetDone maxPairs tooMany v v′ tt tests rows had w out r out′) → Does Sheet
   unfolding SheetDone Served serving asked
   sheet-served room d = record { claim = λ g y. d .claim g y room; size = d .size; room = d .room }
 
-  record-served : (i : ℕ) → 16912 ≤ length w → Done w w′ out out′ (RecordDone v v′ tt tests rows had i w out r out′) → Does (Record i)
+  record-served : (i : ℕ) → 16912 ≤ length w → Done w w′ out out′ (RecordDone maxPairs tooMany v v′ tt tests rows had i w out r out′) → Does (Record i)
   unfolding RecordDone Served serving asked
   record-served i room d = record { claim = λ g y. d .claim g y room; size = d .size; room = d .room }
 
-  check-served : length w′ ≡ length w → out′ ≡ out → Checks v v′ (had .«old_nodes») (had .«new_nodes») (had .«old_edges») tt tests rows (had .tests) input r → Does Check
+  check-served : length w′ ≡ length w → out′ ≡ out → Checks maxPairs v v′ (had .«old_nodes») (had .«new_nodes») (had .«old_edges») tt tests rows (had .tests) input r → Does Check
   unfolding Checks Served serving asked
   check-served e eo d =
       record {
-        claim = λ g y. subst (λ (x : Given). Told (checking x input) r out out′) (sym (y .given-is))
-            (told-still _ r out out′ (checks-still _ input out) eo
+        claim = λ g y. subst (λ (x : Given). Told (checking maxPairs x input) r out out′) (sym (y .given-is))
+            (told-still _ r out out′ (checks-still maxPairs _ input out) eo
             (d (y .o) (y .p) (y .l) (y .old-in) (y .new-in) (y .tests-read) (y .tests-in) (y .old-nodes-n) (y .new-nodes-n) (y .old-edges-n)));
         size = e;
         room = ap length eo;
@@ -147,13 +147,13 @@ module _ (v v′ : Memory) (tt tests rows : List ℕ) (had : Texts) (input w w�
       record { claim = λ g y. subst (λ (x : Answer). Told (refusal 6 0) x out out′) (sym er) (subst (λ (o : Bytes). Told (refusal 6 0) (record { number = 6; place = 0 }) out o) (sym eo) (refusal-told 6 0 out)); size = ap length e; room = ap length eo }
 
   module _ (q : Request) where
-    pub sheet-asked : q ≡ Sheet → 16912 ≤ length w → Done w w′ out out′ (SheetDone v v′ tt tests rows had w out r out′) → Does q
+    pub sheet-asked : q ≡ Sheet → 16912 ≤ length w → Done w w′ out out′ (SheetDone maxPairs tooMany v v′ tt tests rows had w out r out′) → Does q
     sheet-asked e room d = subst Does (sym e) (sheet-served room d)
 
-    pub record-asked : (i : ℕ) → q ≡ Record i → 16912 ≤ length w → Done w w′ out out′ (RecordDone v v′ tt tests rows had i w out r out′) → Does q
+    pub record-asked : (i : ℕ) → q ≡ Record i → 16912 ≤ length w → Done w w′ out out′ (RecordDone maxPairs tooMany v v′ tt tests rows had i w out r out′) → Does q
     record-asked i e room d = subst Does (sym e) (record-served i room d)
 
-    pub check-asked : q ≡ Check → length w′ ≡ length w → out′ ≡ out → Checks v v′ (had .«old_nodes») (had .«new_nodes») (had .«old_edges») tt tests rows (had .tests) input r → Does q
+    pub check-asked : q ≡ Check → length w′ ≡ length w → out′ ≡ out → Checks maxPairs v v′ (had .«old_nodes») (had .«new_nodes») (had .«old_edges») tt tests rows (had .tests) input r → Does q
     check-asked e a b d = subst Does (sym e) (check-served a b d)
 
     pub label-asked : (side n : ℕ) → q ≡ Label side n → w′ ≡ w → out′ ≡ out → LabelTold had side n r → Does q

@@ -8,10 +8,16 @@ ghost use Prim.Native.Nat.{_≤_};
 ghost use lib.ListN.{length};
 ghost use Rattle.intake.specs.Ready.{Few};
 ghost use Rattle.versions.specs.Memory.{memory};
-ghost use Rattle.work.specs.Work.{Done};
+ghost use Rattle.work.specs.Work.{Done, RecordDone, SheetDone};
+ghost use Rattle.rules.specs.Text.{maxPairs, tooMany};
 ghost use Rattle.rules.specs.Job.{requestBy};
 ghost use Rattle.checker.specs.Checking.{Checks};
 ghost use Rattle.requests.specs.Requests.{LabelTold, Served, asked, nodesOn};
+
+// The limit on pairs, and the number of the refusal where more exist.
+const MAX_PAIRS: usize = 4096;
+
+const TOO_MANY: usize = 15;
 
 // What is asked: the sheet; the record line of a test; the check of the sheet that the request comes with; the label of a node, by side and
 // node number; nothing that there is.
@@ -71,6 +77,49 @@ fn label(had: Texts, side: usize, node: usize) -> Answer
     }
 }
 
+// Writes the sheet.
+fn sheet(
+    ot: &[u8],
+    on: &[usize],
+    ol: &[usize],
+    nt: &[u8],
+    nn: &[usize],
+    nl: &[usize],
+    tt: &[u8],
+    tests: &[usize],
+    rows: &[u64],
+    had: Texts,
+    w: &mut [usize],
+    out: &mut [u8],
+) -> Answer
+    requires { ⌜ Few had ⌝ }
+    ensures { λ r. ⌜ Done (now (w .entry)) (now (w .exit)) (now (out .entry)) (now (out .exit)) (SheetDone maxPairs tooMany (memory (now (ot .entry)) (now (on .entry)) (now (ol .entry))) (memory (now (nt .entry)) (now (nn .entry)) (now (nl .entry))) (now (tt .entry)) (now (tests .entry)) (now (rows .entry)) had (now (w .entry)) (now (out .entry)) r (now (out .exit))) ⌝ }
+{
+    work::write_sheet(MAX_PAIRS, TOO_MANY, ot, on, ol, nt, nn, nl, tt, tests, rows, had, w, out)
+}
+
+// Writes the record line of a test.
+fn record(
+    ot: &[u8],
+    on: &[usize],
+    ol: &[usize],
+    nt: &[u8],
+    nn: &[usize],
+    nl: &[usize],
+    tt: &[u8],
+    tests: &[usize],
+    rows: &[u64],
+    had: Texts,
+    test: usize,
+    w: &mut [usize],
+    out: &mut [u8],
+) -> Answer
+    requires { ⌜ Few had ⌝ }
+    ensures { λ r. ⌜ Done (now (w .entry)) (now (w .exit)) (now (out .entry)) (now (out .exit)) (RecordDone maxPairs tooMany (memory (now (ot .entry)) (now (on .entry)) (now (ol .entry))) (memory (now (nt .entry)) (now (nn .entry)) (now (nl .entry))) (now (tt .entry)) (now (tests .entry)) (now (rows .entry)) had test (now (w .entry)) (now (out .entry)) r (now (out .exit))) ⌝ }
+{
+    work::write_record(MAX_PAIRS, TOO_MANY, ot, on, ol, nt, nn, nl, tt, tests, rows, had, test, w, out)
+}
+
 // Checks a sheet.
 fn check(
     ot: &[u8],
@@ -88,31 +137,14 @@ fn check(
 ) -> Answer
     requires { ⌜ Few had ⌝ }
     requires { ⌜ 16912 ≤ length (now w) ⌝ }
-    ensures { λ r. ⌜ Checks (memory (now (ot .entry)) (now (on .entry)) (now (ol .entry))) (memory (now (nt .entry)) (now (nn .entry)) (now (nl .entry))) (had .«old_nodes») (had .«new_nodes») (had .«old_edges») (now (tt .entry)) (now (tests .entry)) (now (rows .entry)) (had .tests) (now (sheet .entry)) r ⌝ }
+    ensures { λ r. ⌜ Checks maxPairs (memory (now (ot .entry)) (now (on .entry)) (now (ol .entry))) (memory (now (nt .entry)) (now (nn .entry)) (now (nl .entry))) (had .«old_nodes») (had .«new_nodes») (had .«old_edges») (now (tt .entry)) (now (tests .entry)) (now (rows .entry)) (had .tests) (now (sheet .entry)) r ⌝ }
 {
     let olds = had.old_nodes;
     let news = had.new_nodes;
     let edges = had.old_edges;
     let n = had.tests;
     let mut sets = [0u64; 20];
-    checker::check_sheet(
-        ot,
-        on,
-        ol,
-        nt,
-        nn,
-        nl,
-        olds,
-        news,
-        edges,
-        tt,
-        tests,
-        rows,
-        n,
-        sheet,
-        w,
-        &mut sets,
-    )
+    checker::check_sheet(MAX_PAIRS, ot, on, ol, nt, nn, nl, olds, news, edges, tt, tests, rows, n, sheet, w, &mut sets)
 }
 
 // Does what is asked, of programs and tests in memory; `input` is the text that the request comes with, and `w` the table of the pairs.
@@ -138,10 +170,10 @@ pub fn serve(
 {
     match request {
         Request::Sheet => {
-            return work::write_sheet(ot, on, ol, nt, nn, nl, tt, tests, rows, had, w, out);
+            return sheet(ot, on, ol, nt, nn, nl, tt, tests, rows, had, w, out);
         }
         Request::Record(i) => {
-            return work::write_record(ot, on, ol, nt, nn, nl, tt, tests, rows, had, i, w, out);
+            return record(ot, on, ol, nt, nn, nl, tt, tests, rows, had, i, w, out);
         }
         Request::Check => {
             return check(ot, on, ol, nt, nn, nl, tt, tests, rows, had, input, w);
@@ -150,10 +182,7 @@ pub fn serve(
             return label(had, side, node);
         }
         Request::Unknown => {
-            return Answer {
-                number: 6,
-                place: 0,
-            };
+            return Answer { number: 6, place: 0 };
         }
     }
 }
