@@ -210,8 +210,8 @@ fn verdict(rule: usize) -> Answer
     }
 }
 
-// Checks a sheet of at most `limit` pairs, for the programs and the tests of a job: its refusal, or 12 with the first broken rule, or 0, which is to pass. What the tables
-// `w` and `sets` hold afterwards is left open.
+// Checks a sheet of at most `limit` pairs, for the programs and the tests of a job: its refusal, or 12 with the first broken rule, or 0,
+// which is to pass. What the tables `w` and `sets` hold afterwards is left open.
 pub fn check_sheet(
     limit: usize,
     ot: &[u8],

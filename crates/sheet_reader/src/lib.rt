@@ -524,8 +524,8 @@ fn read_lines(
     finish(n, had)
 }
 
-// Reads a sheet of at most `limit` pairs, for programs of so many old and new nodes and old edges, and the tests of a table. What the tables hold after a refusal is
-// left open.
+// Reads a sheet of at most `limit` pairs, for programs of so many old and new nodes and old edges, and the tests of a table. What the tables
+// hold after a refusal is left open.
 pub fn read_sheet(
     limit: usize,
     sheet: &[u8],
