@@ -24,13 +24,13 @@ use Rattle.versions.specs.Claims.{Alike, BothCall, Taken}
 use Rattle.versions.specs.Groups.{InGroups, Known}
 use Rattle.closure.specs.State.{CallDone, EdgeDone, EntriesDone, Formed, State, Step, Unfit}
 use Rattle.closure.specs.Step.{pair-inside, step-map, step-mark, step-more, step-none, step-over, step-shows}
-use Rattle.closure.specs.Claims.{Adds, AddsEntries, Enters, Grows, Sized, TriesEdge}
+use Rattle.closure.specs.Claims.{AddsEntries, Enters, Grows, Sized, TriesEdge}
 
 -- Programs in memory are well-formed, and their nodes and edges have heads and bits.
 pub formed-in : (a b : Memory) (o p : Listing) → InMemory a o → InMemory b p → Formed (o .program) (p .program)
 formed-in a b o p h g = record { old-formed = well-formed a o h; new-formed = well-formed b p g; few = sound a o h .fewNodes; few-new = sound b p g .fewNodes; few-edges = sound a o h .fewEdges }
 
--- ---- `grow`, `add`
+-- ---- `grow`
 
 module _ (limit : ℕ) (w : List ℕ) (c a b : ℕ) where
   pub grow-full : limit ≤ c → Sized w w (Grows limit w c a b w (limit + 1))
@@ -41,31 +41,29 @@ module _ (limit : ℕ) (w : List ℕ) (c a b : ℕ) where
   unfolding Grows
   grow-more v h x = record { size = x .size; claim = λ old new f s p n. step-more f s p n h x }
 
-  module _ (t : Bool) (is : Has w a b t) where
-    pub add-there : t ≡ true → Sized w w (Adds limit w c a b w c)
-    unfolding Has Adds
-    add-there y = record { size = refl; claim = λ old new f s p. step-none s (λ h. sym (is c (s .kept h .store)) ∙ y) }
-
-    pub add-new : (v : List ℕ) (r : ℕ) → t ≡ false → Sized w v (Grows limit w c a b v r) → Sized w v (Adds limit w c a b v r)
-    unfolding Has Adds Grows
-    add-new v r y x = record { size = x .size; claim = λ old new f s p. x .claim old new f s (λ _. p) (λ h. sym (is c (s .kept h .store)) ∙ y) }
-
-pub ruleset adds = (grow-full, grow-more, add-there, add-new)
+pub ruleset grows = (grow-full, grow-more)
 
 -- ---- `add_entries`, `enter`
 
-module _ (ol nl : List ℕ) (limit : ℕ) (w : List ℕ) (c : ℕ) (v : List ℕ) (r : ℕ) where
-  pub entries-add : (q k a b : ℕ) → a ≡ getD ol (procBase q + 5) 0 → b ≡ getD nl (procBase k + 5) 0 → Sized w v (Adds limit w c a b v r)
-      → Sized w v (AddsEntries ol nl limit w c q k v r)
-  unfolding Adds AddsEntries EntriesDone
-  entries-add q k a b d e x =
-      record {
-        size = x .size;
-        claim = λ ot on nt nn o p h g s i j y.
-            let m : a ≡ entry (o .program) q = d ∙ entry-is (memory ot on ol) o h q i in
-            let n : b ≡ entry (p .program) k = e ∙ entry-is (memory nt nn nl) p g k j in
-            step-map (λ t. rw (← m, ← n) t) (x .claim (o .program) (p .program) (formed-in _ _ o p h g) s (rw (m, n) y));
-      }
+module _ (ol nl : List ℕ) (limit : ℕ) (w : List ℕ) (c q k a b : ℕ) (d : a ≡ getD ol (procBase q + 5) 0) (e : b ≡ getD nl (procBase k + 5) 0) (t : Bool) (is : Has w a b t) where
+  -- The entries are a pair, by whatever step.
+  entries-listed : (v : List ℕ) (r : ℕ)
+      → ((old new : Program) → Formed old new → State old new limit w c → Pair old new a b → Step old new limit w c (λ M _. listed M a b ≡ true) v r)
+      → AddsEntries ol nl limit w c q k v r
+  unfolding AddsEntries EntriesDone
+  entries-listed v r x ot on nt nn o p h g s i j y =
+      let m : a ≡ entry (o .program) q = d ∙ entry-is (memory ot on ol) o h q i in
+      let n : b ≡ entry (p .program) k = e ∙ entry-is (memory nt nn nl) p g k j in
+      step-map (λ t. rw (← m, ← n) t) (x (o .program) (p .program) (formed-in _ _ o p h g) s (rw (m, n) y))
+
+  pub entries-there : t ≡ true → Sized w w (AddsEntries ol nl limit w c q k w c)
+  unfolding Has
+  entries-there y = record { size = refl; claim = entries-listed w c (λ old new f s p. step-none s (λ h. sym (is c (s .kept h .store)) ∙ y)) }
+
+  pub entries-new : (v : List ℕ) (r : ℕ) → t ≡ false → Sized w v (Grows limit w c a b v r) → Sized w v (AddsEntries ol nl limit w c q k v r)
+  unfolding Has Grows
+  entries-new v r y x =
+      record { size = x .size; claim = entries-listed v r (λ old new f s p. x .claim old new f s (λ _. p) (λ h. sym (is c (s .kept h .store)) ∙ y)) }
 
 module _ (on ol nn nl : List ℕ) (limit : ℕ) (w : List ℕ) (c n m : ℕ) (t : Bool) (is : BothCall on nn n m t) where
   pub enter-none : t ≡ false → Sized w w (Enters on ol nn nl limit w c n m w c)
@@ -99,7 +97,7 @@ module _ (on ol nn nl : List ℕ) (limit : ℕ) (w : List ℕ) (c n m : ℕ) (t 
             (rw (qn, qm) (callee-entries z kn km)));
       }
 
-pub ruleset enters = (entries-add, enter-none, enter-call)
+pub ruleset enters = (entries-there, entries-new, enter-none, enter-call)
 
 -- ---- `try_edge`
 

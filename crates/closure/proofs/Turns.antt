@@ -1,6 +1,6 @@
 -- The turns of the loops, and the returns of the functions over them, as `search` finds them: the premises are what the code holds there.
 use mathlib.Core.Path.{_≡_, refl, sym, ap, _∙_, subst, subst₂}
-use mathlib.Core.Bool.{Bool, true, false, false≢true}
+use mathlib.Core.Bool.{Bool, true, false, _&&_, false≢true}
 use mathlib.Core.List.{List}
 use Prim.Native.Nat.{ℕ, _+_, _-_, _*_, _≤_, _<_}
 use native.Mathlib.Numerals.{add-one}
@@ -26,7 +26,7 @@ use Rattle.versions.specs.Groups.{Groups, InGroups, Regrouped, grouped-none}
 use Rattle.closure.specs.State.{AllDone, Claim, EachDone, EdgeDone, EdgesDone, Lasts, OnDone, PairDone, PairFollowed, State, Step, Turn}
 use Rattle.closure.specs.Step.{call-lasts, done-lasts, edge-lasts, entries-lasts, followed-lasts, pair-inside, state-none, step-lasts, step-map, step-none, step-same, step-shows, step-then}
 use Rattle.closure.specs.Full.{all-counted, all-dangers, all-same}
-use Rattle.closure.specs.Claims.{AddsEntries, Closes, Enters, Finds, Follows, GoesOnWith, Passes, Sized, TriesEdge, Visits, VisitsAll}
+use Rattle.closure.specs.Claims.{AddsEntries, Closes, Enters, Finds, Follows, GoesOnWith, Passes, Sized, TriesEdge, Visits}
 use Rattle.closure.proofs.Laws.{formed-in}
 
 -- ---- `follow`
@@ -96,14 +96,14 @@ pub ruleset follows = (follow-less, follow-start, follow-on, follow-end)
 
 -- ---- `go_on`, `visit`
 
-module _ (ot on ol nt nn nl groups : List ℕ) (limit : ℕ) (w : List ℕ) (c : ℕ) (z : Bool) (n m : ℕ) where
-  pub go-over : limit < c → Sized w w (GoesOnWith (memory ot on ol) (memory nt nn nl) groups limit w c z n m w c z)
+module _ (ot on ol nt nn nl groups : List ℕ) (limit : ℕ) (w : List ℕ) (c n m : ℕ) where
+  pub go-over : limit < c → Sized w w (GoesOnWith (memory ot on ol) (memory nt nn nl) groups limit w c n m w c true)
   unfolding GoesOnWith
   go-over l =
       record {
         size = refl;
         claim = λ o p h g s y.
-            record { step = step-none s (λ k. absurd (let z : ⊥ = omega arith in z)); before = λ e. e; still = λ _ k. absurd (let z : ⊥ = omega arith in z) };
+            record { step = step-none s (λ k. absurd (let z : ⊥ = omega arith in z)); still = λ _ k. absurd (let z : ⊥ = omega arith in z) };
       }
 
   module _ (t : Bool) (few : c ≤ limit) (is : GoesOn on ol nn nl w n m t) where
@@ -113,7 +113,7 @@ module _ (ot on ol nt nn nl groups : List ℕ) (limit : ℕ) (w : List ℕ) (c :
     unfolding GoesOn
     test o p h g s y = let i = pair-inside (formed-in _ _ o p h (g .memory)) y in is ot nt o p c h (g .memory) (s .kept few .store) (i .0) (i .1)
 
-    pub go-wait : t ≡ false → Sized w w (GoesOnWith (memory ot on ol) (memory nt nn nl) groups limit w c z n m w c false)
+    pub go-wait : t ≡ false → Sized w w (GoesOnWith (memory ot on ol) (memory nt nn nl) groups limit w c n m w c false)
     unfolding GoesOnWith OnDone
     go-wait u =
         record {
@@ -121,13 +121,12 @@ module _ (ot on ol nt nn nl groups : List ℕ) (limit : ℕ) (w : List ℕ) (c :
           claim = λ o p h g s y.
               record {
                 step = step-none s (λ _ e. absurd (false≢true e));
-                before = λ e. absurd (false≢true e);
                 still = λ _ _ k. absurd (both-ways (test o p h g s y ∙ k) u);
               };
         }
 
     pub go-follow : (v : List ℕ) (r : ℕ) → t ≡ true → Sized w v (Follows (memory ot on ol) (memory nt nn nl) groups limit w c n m v r)
-        → Sized w v (GoesOnWith (memory ot on ol) (memory nt nn nl) groups limit w c z n m v r z)
+        → Sized w v (GoesOnWith (memory ot on ol) (memory nt nn nl) groups limit w c n m v r true)
     unfolding GoesOnWith Follows OnDone
     go-follow v r u x =
         record {
@@ -135,13 +134,13 @@ module _ (ot on ol nt nn nl groups : List ℕ) (limit : ℕ) (w : List ℕ) (c :
           claim = λ o p h g s y.
               let on : goesOn (o .program) (p .program) (pairsIn w c) n m ≡ true = sym (test o p h g s y) ∙ u in
               let d = x .claim o p h g s y (λ k. s .kept few .sound _ _ (goesOn-at (o .program) (p .program) (pairsIn w c) n m on k)) in
-              record { step = step-map (λ k _. k) d; before = λ e. e; still = λ _ l _. d .done l };
+              record { step = step-map (λ k _. k) d; still = λ _ l _. d .done l };
         }
 
-  pub visit-done : (x : ℕ) (u v : List ℕ) (k r : ℕ) (z′ : Bool) → n ≡ oldAt w x → m ≡ newAt w x → Sized w u (Enters on ol nn nl limit w c n m u k)
-      → Sized u v (GoesOnWith (memory ot on ol) (memory nt nn nl) groups limit u k z n m v r z′) → Sized w v (Visits (memory ot on ol) (memory nt nn nl) groups limit w c z x v r z′)
+  pub visit-done : (x : ℕ) (u v : List ℕ) (k r : ℕ) (z : Bool) → n ≡ oldAt w x → m ≡ newAt w x → Sized w u (Enters on ol nn nl limit w c n m u k)
+      → Sized u v (GoesOnWith (memory ot on ol) (memory nt nn nl) groups limit u k n m v r z) → Sized w v (Visits (memory ot on ol) (memory nt nn nl) groups limit w c x v r z)
   unfolding Enters GoesOnWith Visits
-  visit-done x u v k r z′ d e y q =
+  visit-done x u v k r z d e y q =
       record {
         size = q .size ∙ y .size;
         claim = λ o p h g s few l.
@@ -149,10 +148,9 @@ module _ (ot on ol nt nn nl groups : List ℕ) (limit : ℕ) (w : List ℕ) (c :
             let i = y .claim ot nt o p h (g .memory) s pair in
             let j = q .claim o p h g (i .state) pair in
             let lasts = call-lasts (o .program) (p .program) n m in
-            let t : Turn (o .program) (p .program) limit w c z (PairFollowed (o .program) (p .program) n m) (PairDone (o .program) (p .program) n m) v r z′
+            let t : Turn (o .program) (p .program) limit w c (PairFollowed (o .program) (p .program) n m) (PairDone (o .program) (p .program) n m) v r z
             = record {
               step = step-then lasts i (j .step) (λ a b f. record { call = a; edges = b f });
-              before = j .before;
               still = λ f b. record {
                 call = step-lasts (j .step) _ lasts b (i .done (omega (arith, j .step .more)));
                 on = j .still (omega (arith, i .more, j .step .more)) b;
@@ -163,7 +161,21 @@ module _ (ot on ol nt nn nl groups : List ℕ) (limit : ℕ) (w : List ℕ) (c :
 
 pub ruleset visits = (go-over, go-wait, go-follow, visit-done)
 
--- ---- `visit_all`, `pass`
+-- ---- `pass`
+
+both-left : (z z′ : Bool) → (z && z′) ≡ true → z ≡ true
+both-left true z′ e = refl
+both-left false z′ e = e
+
+both-right : (z z′ : Bool) → (z && z′) ≡ true → z′ ≡ true
+both-right true z′ e = e
+both-right false z′ e = absurd (false≢true e)
+
+-- Rules 2 and 3 for each pair of the table.
+unfoldable VisitsAll : Memory → Memory → List ℕ → ℕ → List ℕ → ℕ → List ℕ → ℕ → Bool → Type 0
+VisitsAll a b t limit w c v r settled =
+    (o p : Listing) → InMemory a o → InGroups b t p → State (o .program) (p .program) limit w c
+    → Turn (o .program) (p .program) limit w c (EachDone (o .program) (p .program)) (EachDone (o .program) (p .program)) v r settled
 
 -- The pairs before x have P.
 unfoldable pub Seen : (ℕ → ℕ → Claim) → List ℕ → ℕ → ℕ → Type 0
@@ -216,7 +228,7 @@ module _ (a b : Memory) (t : List ℕ) (limit : ℕ) (w₀ : List ℕ) (c₀ : �
       }
 
   module _ (w : List ℕ) (c : ℕ) (z : Bool) (x : ℕ) (inv : Sized w₀ w (Visiting a b t limit w₀ c₀ w c z x)) where
-    pub all-on : (v : List ℕ) (r : ℕ) (z′ : Bool) → x < c → c ≤ limit → Sized w v (Visits a b t limit w c z x v r z′) → Sized w₀ v (Visiting a b t limit w₀ c₀ v r z′ (x + 1))
+    pub all-on : (v : List ℕ) (r : ℕ) (z′ : Bool) → x < c → c ≤ limit → Sized w v (Visits a b t limit w c x v r z′) → Sized w₀ v (Visiting a b t limit w₀ c₀ v r (z && z′) (x + 1))
     unfolding Visiting Visits Lasts
     all-on v r z′ l few y =
         record {
@@ -229,7 +241,7 @@ module _ (a b : Memory) (t : List ℕ) (limit : ℕ) (w₀ : List ℕ) (c₀ : �
                 followed = λ e k.
                     seen-more (PairFollowed (o .program) (p .program)) w v c r x l (j .step .keeps k)
                     (λ n m. step-lasts (j .step) _ (followed-lasts (o .program) (p .program) n m) k)
-                    (i .followed (j .before e) few) (j .step .done k e);
+                    (i .followed (both-left z z′ e) few) (j .step .done k (both-right z z′ e));
                 still = λ e k.
                     let rc : r ≡ c = omega (arith, i .step .more, j .step .more) in
                     seen-more (PairDone (o .program) (p .program)) w v c r x l (j .step .keeps k)
@@ -240,7 +252,7 @@ module _ (a b : Memory) (t : List ℕ) (limit : ℕ) (w₀ : List ℕ) (c₀ : �
               };
         }
 
-    pub all-over : limit < c → Sized w₀ w (VisitsAll a b t limit w₀ c₀ w c z)
+    all-over : limit < c → Sized w₀ w (VisitsAll a b t limit w₀ c₀ w c z)
     unfolding Visiting VisitsAll
     all-over l =
         record {
@@ -249,12 +261,11 @@ module _ (a b : Memory) (t : List ℕ) (limit : ℕ) (w₀ : List ℕ) (c₀ : �
               let i = inv .claim o p h g s in
               record {
                 step = step-shows (i .step) (λ few. absurd (let z : ⊥ = omega arith in z));
-                before = λ _. refl;
                 still = λ _ few. absurd (let z : ⊥ = omega arith in z);
               };
         }
 
-    pub all-end : c ≤ x → Sized w₀ w (VisitsAll a b t limit w₀ c₀ w c z)
+    all-end : c ≤ x → Sized w₀ w (VisitsAll a b t limit w₀ c₀ w c z)
     unfolding Visiting VisitsAll
     all-end l =
         record {
@@ -263,12 +274,11 @@ module _ (a b : Memory) (t : List ℕ) (limit : ℕ) (w₀ : List ℕ) (c₀ : �
               let i = inv .claim o p h g s in
               record {
                 step = step-shows (i .step) (λ few e. seen-all (o .program) (p .program) w c x l (followed-done (o .program) (p .program) w c x (i .followed e few)));
-                before = λ _. refl;
                 still = λ e few. seen-all (o .program) (p .program) w c x l (i .still e few);
               };
         }
 
-pub pass-done : (ot on ol nt nn nl groups : List ℕ) (limit : ℕ) (w u v : List ℕ) (c k r : ℕ) (z : Bool) → Sized w u (AddsEntries ol nl limit w c 0 0 u k)
+pass-done : (ot on ol nt nn nl groups : List ℕ) (limit : ℕ) (w u v : List ℕ) (c k r : ℕ) (z : Bool) → Sized w u (AddsEntries ol nl limit w c 0 0 u k)
     → Sized u v (VisitsAll (memory ot on ol) (memory nt nn nl) groups limit u k v r z) → Sized w v (Passes (memory ot on ol) (memory nt nn nl) groups limit w c v r z)
 unfolding AddsEntries VisitsAll Passes
 pass-done ot on ol nt nn nl groups limit w u v c k r z x y =
@@ -281,7 +291,6 @@ pass-done ot on ol nt nn nl groups limit w u v c k r z x y =
           let lasts = entries-lasts (o .program) (p .program) 0 0 in
           record {
             step = step-then lasts i (j .step) (λ d t e. record { start = d; each = t e });
-            before = j .before;
             still = λ e l. record {
               start = step-lasts (j .step) _ lasts l (i .done (omega (arith, j .step .more)));
               each = j .still (omega (arith, i .more, j .step .more)) l;
@@ -289,7 +298,15 @@ pass-done ot on ol nt nn nl groups limit w u v c k r z x y =
           };
     }
 
-pub ruleset passes = (all-start, all-on, all-over, all-end, pass-done)
+module _ (ot on ol nt nn nl groups : List ℕ) (limit : ℕ) (w : List ℕ) (c : ℕ) (u : List ℕ) (k : ℕ) (start : Sized w u (AddsEntries ol nl limit w c 0 0 u k))
+    (v : List ℕ) (r : ℕ) (z : Bool) (x : ℕ) (inv : Sized u v (Visiting (memory ot on ol) (memory nt nn nl) groups limit u k v r z x)) where
+  pub pass-over : limit < r → Sized w v (Passes (memory ot on ol) (memory nt nn nl) groups limit w c v r z)
+  pass-over l = pass-done ot on ol nt nn nl groups limit w u v c k r z start (all-over _ _ groups limit u k v r z x inv l)
+
+  pub pass-end : r ≤ x → Sized w v (Passes (memory ot on ol) (memory nt nn nl) groups limit w c v r z)
+  pass-end l = pass-done ot on ol nt nn nl groups limit w u v c k r z start (all-end _ _ groups limit u k v r z x inv l)
+
+pub ruleset passes = (all-start, all-on, pass-over, pass-end)
 
 -- ---- `repeat`, `close`
 
@@ -323,7 +340,7 @@ module _ (a b : Memory) (t : List ℕ) (limit : ℕ) (w₀ w : List ℕ) (c : �
 
   -- Where the list has the three rules, the search is at its end.
   ended : r ≤ limit
-      → ((o p : Listing) → Turn (o .program) (p .program) limit w c true (AllDone (o .program) (p .program)) (AllDone (o .program) (p .program)) v r z
+      → ((o p : Listing) → Turn (o .program) (p .program) limit w c (AllDone (o .program) (p .program)) (AllDone (o .program) (p .program)) v r z
       → AllDone (o .program) (p .program) (pairsIn v r) (dangerIn v))
       → Sized w₀ v (Finds a b t limit w₀ v r)
   unfolding Repeating Passes Finds

@@ -21,15 +21,11 @@ pub record Sized (w v : List ℕ) (X : Type 0) : Type 0 where
   pub size : length v ≡ length w
   pub claim : X
 
--- `grow`: a pair that is not there; `add`: a pair.
+-- `grow`: a pair that is not there.
 unfoldable pub Grows : ℕ → List ℕ → ℕ → ℕ → ℕ → List ℕ → ℕ → Type 0
 Grows limit w c a b v r =
     (old new : Program) → Formed old new → State old new limit w c → (c ≤ limit → Pair old new a b) → (c ≤ limit → listed (pairsIn w c) a b ≡ false)
     → Step old new limit w c (λ M _. listed M a b ≡ true) v r
-
-unfoldable pub Adds : ℕ → List ℕ → ℕ → ℕ → ℕ → List ℕ → ℕ → Type 0
-Adds limit w c a b v r =
-    (old new : Program) → Formed old new → State old new limit w c → Pair old new a b → Step old new limit w c (λ M _. listed M a b ≡ true) v r
 
 -- `add_entries`: the entries of the old procedure q and the new procedure k.
 unfoldable pub AddsEntries : List ℕ → List ℕ → ℕ → List ℕ → ℕ → ℕ → ℕ → List ℕ → ℕ → Type 0
@@ -58,27 +54,22 @@ module _ (a b : Memory) (t : List ℕ) (limit : ℕ) (w : List ℕ) where
       (o p : Listing) → InMemory a o → InGroups b t p → State (o .program) (p .program) limit w c → Pair (o .program) (p .program) n m → MayGoOn (o .program) (p .program) n m
       → Step (o .program) (p .program) limit w c (EdgesDone (o .program) (p .program) n m) v r
 
-  unfoldable pub GoesOnWith : ℕ → Bool → ℕ → ℕ → List ℕ → ℕ → Bool → Type 0
-  GoesOnWith c was n m v r settled =
+  unfoldable pub GoesOnWith : ℕ → ℕ → ℕ → List ℕ → ℕ → Bool → Type 0
+  GoesOnWith c n m v r settled =
       (o p : Listing) → InMemory a o → InGroups b t p → State (o .program) (p .program) limit w c → Pair (o .program) (p .program) n m
-      → Turn (o .program) (p .program) limit w c was (EdgesDone (o .program) (p .program) n m) (OnDone (o .program) (p .program) n m) v r settled
+      → Turn (o .program) (p .program) limit w c (EdgesDone (o .program) (p .program) n m) (OnDone (o .program) (p .program) n m) v r settled
 
   -- `visit`: rules 2 and 3 for the pair x of the table.
-  unfoldable pub Visits : ℕ → Bool → ℕ → List ℕ → ℕ → Bool → Type 0
-  Visits c was x v r settled =
+  unfoldable pub Visits : ℕ → ℕ → List ℕ → ℕ → Bool → Type 0
+  Visits c x v r settled =
       (o p : Listing) → InMemory a o → InGroups b t p → State (o .program) (p .program) limit w c → c ≤ limit → x < c
-      → Turn (o .program) (p .program) limit w c was (PairFollowed (o .program) (p .program) (oldAt w x) (newAt w x)) (PairDone (o .program) (p .program) (oldAt w x) (newAt w x)) v r settled
+      → Turn (o .program) (p .program) limit w c (PairFollowed (o .program) (p .program) (oldAt w x) (newAt w x)) (PairDone (o .program) (p .program) (oldAt w x) (newAt w x)) v r settled
 
-  -- `visit_all`: rules 2 and 3 for each pair of the table; `pass`: the three rules.
-  unfoldable pub VisitsAll : ℕ → List ℕ → ℕ → Bool → Type 0
-  VisitsAll c v r settled =
-      (o p : Listing) → InMemory a o → InGroups b t p → State (o .program) (p .program) limit w c
-      → Turn (o .program) (p .program) limit w c true (EachDone (o .program) (p .program)) (EachDone (o .program) (p .program)) v r settled
-
+  -- `pass`: the three rules.
   unfoldable pub Passes : ℕ → List ℕ → ℕ → Bool → Type 0
   Passes c v r settled =
       (o p : Listing) → InMemory a o → InGroups b t p → State (o .program) (p .program) limit w c
-      → Turn (o .program) (p .program) limit w c true (AllDone (o .program) (p .program)) (AllDone (o .program) (p .program)) v r settled
+      → Turn (o .program) (p .program) limit w c (AllDone (o .program) (p .program)) (AllDone (o .program) (p .program)) v r settled
 
 -- The number of pairs, or one more than the limit where there are more; within the limit, the table holds them and the dangerous edges. What it holds behind them is left
 -- open, and all that it holds where there are more.

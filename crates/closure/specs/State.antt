@@ -56,11 +56,9 @@ module _ (old new : Program) where
     pub stays : r ≤ limit → (e : ℕ) → dangerIn w e ≡ true → dangerIn v e ≡ true
     pub done : r ≤ limit → D (pairsIn v r) (dangerIn v)
 
-  -- A step of a pass, where `was` and `settled` say that no pair had to wait, before it and after it: if none had to, list and set then have D; if it added no pair,
-  -- they have E.
-  pub record Turn (limit : ℕ) (w : List ℕ) (c : ℕ) (was : Bool) (D E : Claim) (v : List ℕ) (r : ℕ) (settled : Bool) : Type 0 where
+  -- A step of a pass, where `settled` says that no pair had to wait in it: if none had to, list and set then have D; if it added no pair, they have E.
+  pub record Turn (limit : ℕ) (w : List ℕ) (c : ℕ) (D E : Claim) (v : List ℕ) (r : ℕ) (settled : Bool) : Type 0 where
     pub step : Step limit w c (λ M S. settled ≡ true → D M S) v r
-    pub before : settled ≡ true → was ≡ true
     pub still : r ≡ c → r ≤ limit → E (pairsIn v r) (dangerIn v)
 
   -- ---- the rules within a list M, and the dangerous edges within a set S

@@ -5,7 +5,6 @@
 ghost use Prim.Native.Nat.{_≤_};
 ghost use Rattle.versions.specs.Memory.{memory};
 ghost use Rattle.closure.specs.Claims.{
-  Adds,
   AddsEntries,
   Closes,
   Enters,
@@ -17,7 +16,6 @@ ghost use Rattle.closure.specs.Claims.{
   Sized,
   TriesEdge,
   Visits,
-  VisitsAll,
 };
 
 // How far a pass has come: how many pairs there are, and whether it is settled: no pair had to wait for the exits of its callees.
@@ -38,18 +36,7 @@ fn grow(limit: usize, w: &mut [usize], count: usize, a: usize, b: usize) -> usiz
     count + 1
 }
 
-// Adds the pair (a, b), where it is not there.
-fn add(limit: usize, w: &mut [usize], count: usize, a: usize, b: usize) -> usize
-    requires { ⌜ limit ≤ 4096 ⌝ }
-    ensures { λ r. ⌜ Sized (now (w .entry)) (now (w .exit)) (Adds limit (now (w .entry)) count a b (now (w .exit)) r) ⌝ }
-{
-    if pairset::has(w, a, b) {
-        return count;
-    }
-    grow(limit, w, count, a, b)
-}
-
-// Adds the entries of the old procedure q and the new procedure k.
+// Adds the entries of the old procedure q and the new procedure k, where they are no pair.
 fn add_entries(
     ol: &[usize],
     nl: &[usize],
@@ -66,7 +53,10 @@ fn add_entries(
 {
     let a = versions::entry(ol, q);
     let b = versions::entry(nl, k);
-    add(limit, w, count, a, b)
+    if pairset::has(w, a, b) {
+        return count;
+    }
+    grow(limit, w, count, a, b)
 }
 
 // Rule 2 for the pair (n, m).
@@ -182,7 +172,6 @@ fn go_on(
     limit: usize,
     w: &mut [usize],
     count: usize,
-    settled: bool,
     n: usize,
     m: usize,
 ) -> Growth
@@ -191,16 +180,19 @@ fn go_on(
         (GoesOnWith
         (memory (now (ot .entry)) (now (on .entry)) (now (ol .entry)))
         (memory (now (nt .entry)) (now (nn .entry)) (now (nl .entry)))
-        (now (groups .entry)) limit (now (w .entry)) count settled n m (now (w .exit)) (r .count) (r .settled)) ⌝ }
+        (now (groups .entry)) limit (now (w .entry)) count n m (now (w .exit)) (r .count) (r .settled)) ⌝ }
 {
     if limit < count {
-        return Growth { count, settled };
+        return Growth {
+            count,
+            settled: true,
+        };
     }
     if versions::goes_on(on, ol, nn, nl, w, n, m) {
         let total = follow(ot, on, ol, nt, nn, nl, groups, limit, w, count, n, m);
         return Growth {
             count: total,
-            settled,
+            settled: true,
         };
     }
     Growth {
@@ -221,7 +213,6 @@ fn visit(
     limit: usize,
     w: &mut [usize],
     count: usize,
-    settled: bool,
     x: usize,
 ) -> Growth
     requires { ⌜ limit ≤ 4096 ⌝ }
@@ -229,70 +220,15 @@ fn visit(
         (Visits
         (memory (now (ot .entry)) (now (on .entry)) (now (ol .entry)))
         (memory (now (nt .entry)) (now (nn .entry)) (now (nl .entry)))
-        (now (groups .entry)) limit (now (w .entry)) count settled x (now (w .exit)) (r .count) (r .settled)) ⌝ }
+        (now (groups .entry)) limit (now (w .entry)) count x (now (w .exit)) (r .count) (r .settled)) ⌝ }
 {
     let n = pairset::old_of(w, x);
     let m = pairset::new_of(w, x);
     let entered = enter(on, ol, nn, nl, limit, w, count, n, m);
-    go_on(
-        ot,
-        on,
-        ol,
-        nt,
-        nn,
-        nl,
-        groups,
-        limit,
-        w,
-        entered,
-        settled,
-        n,
-        m,
-    )
+    go_on(ot, on, ol, nt, nn, nl, groups, limit, w, entered, n, m)
 }
 
-// Rules 2 and 3 for each pair of the table, with those that are added on the way.
-fn visit_all(
-    ot: &[u8],
-    on: &[usize],
-    ol: &[usize],
-    nt: &[u8],
-    nn: &[usize],
-    nl: &[usize],
-    groups: &[usize],
-    limit: usize,
-    w: &mut [usize],
-    count: usize,
-) -> Growth
-    requires { ⌜ limit ≤ 4096 ⌝ }
-    ensures { λ r. ⌜ Sized (now (w .entry)) (now (w .exit))
-        (VisitsAll
-        (memory (now (ot .entry)) (now (on .entry)) (now (ol .entry)))
-        (memory (now (nt .entry)) (now (nn .entry)) (now (nl .entry)))
-        (now (groups .entry)) limit (now (w .entry)) count (now (w .exit)) (r .count) (r .settled)) ⌝ }
-{
-    let mut total = count;
-    let mut settled = true;
-    let mut x = 0;
-    while x < total {
-        if limit < total {
-            return Growth {
-                count: total,
-                settled,
-            };
-        }
-        let next = visit(ot, on, ol, nt, nn, nl, groups, limit, w, total, settled, x);
-        total = next.count;
-        settled = next.settled;
-        x += 1;
-    }
-    Growth {
-        count: total,
-        settled,
-    }
-}
-
-// One pass over the three rules: the entries of the first procedures, then each pair.
+// One pass over the three rules: the entries of the first procedures, then each pair of the table, with those that are added on the way.
 fn pass(
     ot: &[u8],
     on: &[usize],
@@ -312,8 +248,25 @@ fn pass(
         (memory (now (nt .entry)) (now (nn .entry)) (now (nl .entry)))
         (now (groups .entry)) limit (now (w .entry)) count (now (w .exit)) (r .count) (r .settled)) ⌝ }
 {
-    let total = add_entries(ol, nl, limit, w, count, 0, 0);
-    visit_all(ot, on, ol, nt, nn, nl, groups, limit, w, total)
+    let mut total = add_entries(ol, nl, limit, w, count, 0, 0);
+    let mut settled = true;
+    let mut x = 0;
+    while x < total {
+        if limit < total {
+            return Growth {
+                count: total,
+                settled,
+            };
+        }
+        let next = visit(ot, on, ol, nt, nn, nl, groups, limit, w, total, x);
+        total = next.count;
+        settled = settled & next.settled;
+        x += 1;
+    }
+    Growth {
+        count: total,
+        settled,
+    }
 }
 
 // Passes until one is settled or adds nothing.

@@ -9,8 +9,8 @@ entry-requires c κs = search needs
 entry-requires-2 : tie.Need-entry-requires-2
 entry-requires-2 c κs = search needs
 
-add-requires : tie.Need-add-requires
-add-requires c κs = search needs
+has-requires : tie.Need-has-requires
+has-requires c κs = search needs
 
 same-length : tie.Need-same-length
 same-length c = search needs
@@ -18,6 +18,24 @@ same-length c = search needs
 returns : tie.Need-returns
 returns c = search (all, needs)
 
+grow-requires : tie.Need-grow-requires
+grow-requires c κs = search needs
+
+same-length-2 : tie.Need-same-length-2
+same-length-2 c = search needs
+
+returns-2 : tie.Need-returns-2
+returns-2 c = search (all, needs)
+
 pub add-entries-spec : {M : Type 1} → statement M
 add-entries-spec =
-    tie.close (tie.spec entry-requires entry-requires-2 add-requires same-length returns)
+    tie.close
+    (tie.spec
+    entry-requires
+    entry-requires-2
+    has-requires
+    same-length
+    returns
+    grow-requires
+    same-length-2
+    returns-2)
