@@ -26,7 +26,7 @@ use Rattle.versions.specs.Groups.{Groups, InGroups, Regrouped, grouped-none}
 use Rattle.closure.specs.State.{AllDone, Claim, EachDone, EdgeDone, EdgesDone, Lasts, OnDone, PairDone, PairFollowed, State, Step, Turn}
 use Rattle.closure.specs.Step.{call-lasts, done-lasts, edge-lasts, entries-lasts, followed-lasts, pair-inside, state-none, step-lasts, step-map, step-none, step-same, step-shows, step-then}
 use Rattle.closure.specs.Full.{all-counted, all-dangers, all-same}
-use Rattle.closure.specs.Claims.{AddsEntries, Closes, Enters, Finds, Follows, GoesOnWith, Passes, Sized, TriesEdge, Visits}
+use Rattle.closure.specs.Claims.{AddsEntries, Closes, Enters, Finds, Follows, Passes, Sized, TriesEdge, Visits}
 use Rattle.closure.proofs.Laws.{formed-in}
 
 -- ---- `follow`
@@ -82,71 +82,72 @@ module _ (ot on ol nt nn nl groups : List ℕ) (limit : ℕ) (w₀ : List ℕ) (
               };
         }
 
-    pub follow-end : place ≤ 0 → Sized w₀ w (Follows (memory ot on ol) (memory nt nn nl) groups limit w₀ c₀ n m w c)
-    unfolding Following Follows EdgesDone
-    follow-end l =
-        record {
-          size = inv .size;
-          claim = λ o p h g s y z.
-              let i = inv .claim o p h g s y z in
-              step-shows (i .step) (λ b e k own. walk-end (i .walk) l e k own b);
-        }
+    -- Every edge was tried.
+    walked : place ≤ 0 → (o p : Listing) → InMemory (memory ot on ol) o → InGroups (memory nt nn nl) groups p → State (o .program) (p .program) limit w₀ c₀
+        → Pair (o .program) (p .program) n m → MayGoOn (o .program) (p .program) n m → Step (o .program) (p .program) limit w₀ c₀ (EdgesDone (o .program) (p .program) n m) w c
+    unfolding Following EdgesDone
+    walked l o p h g s y z = let i = inv .claim o p h g s y z in step-shows (i .step) (λ b e k own. walk-end (i .walk) l e k own b)
 
-pub ruleset follows = (follow-less, follow-start, follow-on, follow-end)
+module _ (ot on ol nt nn nl groups : List ℕ) (limit : ℕ) (w : List ℕ) (c n m : ℕ) (t : Bool) (is : GoesOn on ol nn nl w n m t) where
+  -- What the test says of the list.
+  test : (o p : Listing) → InMemory (memory ot on ol) o → InGroups (memory nt nn nl) groups p → State (o .program) (p .program) limit w c → c ≤ limit → Pair (o .program) (p .program) n m
+      → t ≡ goesOn (o .program) (p .program) (pairsIn w c) n m
+  unfolding GoesOn
+  test o p h g s few y = let i = pair-inside (formed-in _ _ o p h (g .memory)) y in is ot nt o p c h (g .memory) (s .kept few .store) (i .0) (i .1)
 
--- ---- `go_on`, `visit`
-
-module _ (ot on ol nt nn nl groups : List ℕ) (limit : ℕ) (w : List ℕ) (c n m : ℕ) where
-  pub go-over : limit < c → Sized w w (GoesOnWith (memory ot on ol) (memory nt nn nl) groups limit w c n m w c true)
-  unfolding GoesOnWith
-  go-over l =
+  pub follow-wait : t ≡ false → Sized w w (Follows (memory ot on ol) (memory nt nn nl) groups limit w c n m w c false)
+  unfolding Follows OnDone
+  follow-wait u =
       record {
         size = refl;
-        claim = λ o p h g s y.
-            record { step = step-none s (λ k. absurd (let z : ⊥ = omega arith in z)); still = λ _ k. absurd (let z : ⊥ = omega arith in z) };
+        claim = λ o p h g s few y.
+            record {
+              step = step-none s (λ _ e. absurd (false≢true e));
+              still = λ _ _ k. absurd (both-ways (test o p h g s few y ∙ k) u);
+            };
       }
 
-  module _ (t : Bool) (few : c ≤ limit) (is : GoesOn on ol nn nl w n m t) where
-    -- What the test says of the list.
-    test : (o p : Listing) → InMemory (memory ot on ol) o → InGroups (memory nt nn nl) groups p → State (o .program) (p .program) limit w c → Pair (o .program) (p .program) n m
-        → t ≡ goesOn (o .program) (p .program) (pairsIn w c) n m
-    unfolding GoesOn
-    test o p h g s y = let i = pair-inside (formed-in _ _ o p h (g .memory)) y in is ot nt o p c h (g .memory) (s .kept few .store) (i .0) (i .1)
-
-    pub go-wait : t ≡ false → Sized w w (GoesOnWith (memory ot on ol) (memory nt nn nl) groups limit w c n m w c false)
-    unfolding GoesOnWith OnDone
-    go-wait u =
-        record {
-          size = refl;
-          claim = λ o p h g s y.
-              record {
-                step = step-none s (λ _ e. absurd (false≢true e));
-                still = λ _ _ k. absurd (both-ways (test o p h g s y ∙ k) u);
-              };
-        }
-
-    pub go-follow : (v : List ℕ) (r : ℕ) → t ≡ true → Sized w v (Follows (memory ot on ol) (memory nt nn nl) groups limit w c n m v r)
-        → Sized w v (GoesOnWith (memory ot on ol) (memory nt nn nl) groups limit w c n m v r true)
-    unfolding GoesOnWith Follows OnDone
-    go-follow v r u x =
-        record {
-          size = x .size;
-          claim = λ o p h g s y.
-              let on : goesOn (o .program) (p .program) (pairsIn w c) n m ≡ true = sym (test o p h g s y) ∙ u in
-              let d = x .claim o p h g s y (λ k. s .kept few .sound _ _ (goesOn-at (o .program) (p .program) (pairsIn w c) n m on k)) in
-              record { step = step-map (λ k _. k) d; still = λ _ l _. d .done l };
-        }
-
-  pub visit-done : (x : ℕ) (u v : List ℕ) (k r : ℕ) (z : Bool) → n ≡ oldAt w x → m ≡ newAt w x → Sized w u (Enters on ol nn nl limit w c n m u k)
-      → Sized u v (GoesOnWith (memory ot on ol) (memory nt nn nl) groups limit u k n m v r z) → Sized w v (Visits (memory ot on ol) (memory nt nn nl) groups limit w c x v r z)
-  unfolding Enters GoesOnWith Visits
-  visit-done x u v k r z d e y q =
+  pub follow-end : (v : List ℕ) (r place : ℕ) → t ≡ true → Sized w v (Following (memory ot on ol) (memory nt nn nl) groups limit w c n m v r place) → place ≤ 0
+      → Sized w v (Follows (memory ot on ol) (memory nt nn nl) groups limit w c n m v r true)
+  unfolding Follows OnDone
+  follow-end v r place u inv l =
       record {
-        size = q .size ∙ y .size;
+        size = inv .size;
+        claim = λ o p h g s few y.
+            let goes : goesOn (o .program) (p .program) (pairsIn w c) n m ≡ true = sym (test o p h g s few y) ∙ u in
+            let d = walked ot on ol nt nn nl groups limit w c n m v r place inv l o p h g s y (λ k. s .kept few .sound _ _ (goesOn-at (o .program) (p .program) (pairsIn w c) n m goes k)) in
+            record { step = step-map (λ k _. k) d; still = λ _ b _. d .done b };
+      }
+
+pub ruleset follows = (follow-less, follow-start, follow-on, follow-wait, follow-end)
+
+-- ---- `visit`
+
+module _ (ot on ol nt nn nl groups : List ℕ) (limit : ℕ) (w : List ℕ) (c n m : ℕ) (x : ℕ) (u : List ℕ) (k : ℕ) (d : n ≡ oldAt w x) (e : m ≡ newAt w x)
+    (entered : Sized w u (Enters on ol nn nl limit w c n m u k)) where
+  pub visit-over : limit < k → Sized w u (Visits (memory ot on ol) (memory nt nn nl) groups limit w c x u k true)
+  unfolding Enters Visits
+  visit-over l =
+      record {
+        size = entered .size;
+        claim = λ o p h g s few i.
+            let pair : Pair (o .program) (p .program) n m = s .kept few .sound n m (listed-of w n m c x i (sym d) (sym e)) in
+            record {
+              step = step-shows (entered .claim ot nt o p h (g .memory) s pair) (λ b. absurd (let z : ⊥ = omega arith in z));
+              still = λ _ b. absurd (let z : ⊥ = omega arith in z);
+            };
+      }
+
+  pub visit-done : (v : List ℕ) (r : ℕ) (z : Bool) → k ≤ limit → Sized u v (Follows (memory ot on ol) (memory nt nn nl) groups limit u k n m v r z)
+      → Sized w v (Visits (memory ot on ol) (memory nt nn nl) groups limit w c x v r z)
+  unfolding Enters Follows Visits
+  visit-done v r z room q =
+      record {
+        size = q .size ∙ entered .size;
         claim = λ o p h g s few l.
             let pair : Pair (o .program) (p .program) n m = s .kept few .sound n m (listed-of w n m c x l (sym d) (sym e)) in
-            let i = y .claim ot nt o p h (g .memory) s pair in
-            let j = q .claim o p h g (i .state) pair in
+            let i = entered .claim ot nt o p h (g .memory) s pair in
+            let j = q .claim o p h g (i .state) room pair in
             let lasts = call-lasts (o .program) (p .program) n m in
             let t : Turn (o .program) (p .program) limit w c (PairFollowed (o .program) (p .program) n m) (PairDone (o .program) (p .program) n m) v r z
             = record {
@@ -159,7 +160,7 @@ module _ (ot on ol nt nn nl groups : List ℕ) (limit : ℕ) (w : List ℕ) (c n
             rw (← d, ← e) t;
       }
 
-pub ruleset visits = (go-over, go-wait, go-follow, visit-done)
+pub ruleset visits = (visit-over, visit-done)
 
 -- ---- `pass`
 

@@ -48,15 +48,10 @@ module _ (a b : Memory) (t : List ℕ) (limit : ℕ) (w : List ℕ) where
       → Pair (o .program) (p .program) (sourceAt (o .program) e) m → MayGoOn (o .program) (p .program) (sourceAt (o .program) e) m
       → Step (o .program) (p .program) limit w c (EdgeDone (o .program) (p .program) e m) v r
 
-  -- `follow`: rule 3 for the pair (n, m), which may go on; `go_on`: where it may.
-  unfoldable pub Follows : ℕ → ℕ → ℕ → List ℕ → ℕ → Type 0
-  Follows c n m v r =
-      (o p : Listing) → InMemory a o → InGroups b t p → State (o .program) (p .program) limit w c → Pair (o .program) (p .program) n m → MayGoOn (o .program) (p .program) n m
-      → Step (o .program) (p .program) limit w c (EdgesDone (o .program) (p .program) n m) v r
-
-  unfoldable pub GoesOnWith : ℕ → ℕ → ℕ → List ℕ → ℕ → Bool → Type 0
-  GoesOnWith c n m v r settled =
-      (o p : Listing) → InMemory a o → InGroups b t p → State (o .program) (p .program) limit w c → Pair (o .program) (p .program) n m
+  -- `follow`: rule 3 for the pair (n, m), where it may go on.
+  unfoldable pub Follows : ℕ → ℕ → ℕ → List ℕ → ℕ → Bool → Type 0
+  Follows c n m v r settled =
+      (o p : Listing) → InMemory a o → InGroups b t p → State (o .program) (p .program) limit w c → c ≤ limit → Pair (o .program) (p .program) n m
       → Turn (o .program) (p .program) limit w c (EdgesDone (o .program) (p .program) n m) (OnDone (o .program) (p .program) n m) v r settled
 
   -- `visit`: rules 2 and 3 for the pair x of the table.

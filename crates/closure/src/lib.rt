@@ -10,7 +10,6 @@ ghost use Rattle.closure.specs.Claims.{
   Enters,
   Finds,
   Follows,
-  GoesOnWith,
   Grows,
   Passes,
   Sized,
@@ -128,40 +127,8 @@ fn try_edge(
     count
 }
 
-// Rule 3 for the pair (n, m), which may go on: each edge of the old node.
+// Rule 3 for the pair (n, m), each edge of the old node, where it may go on by the pairs found so far; otherwise it waits.
 fn follow(
-    ot: &[u8],
-    on: &[usize],
-    ol: &[usize],
-    nt: &[u8],
-    nn: &[usize],
-    nl: &[usize],
-    groups: &[usize],
-    limit: usize,
-    w: &mut [usize],
-    count: usize,
-    n: usize,
-    m: usize,
-) -> usize
-    requires { ⌜ limit ≤ 4096 ⌝ }
-    ensures { λ r. ⌜ Sized (now (w .entry)) (now (w .exit))
-        (Follows
-        (memory (now (ot .entry)) (now (on .entry)) (now (ol .entry)))
-        (memory (now (nt .entry)) (now (nn .entry)) (now (nl .entry)))
-        (now (groups .entry)) limit (now (w .entry)) count n m (now (w .exit)) r) ⌝ }
-{
-    let mut total = count;
-    let mut place = versions::last_edge(ol, n);
-    while 0 < place {
-        let e = place - 1;
-        total = try_edge(ot, on, ol, nt, nn, nl, groups, limit, w, total, e, m);
-        place = versions::edge_before(ol, e);
-    }
-    total
-}
-
-// Rule 3 for the pair (n, m), where it may go on by the pairs found so far; otherwise it waits.
-fn go_on(
     ot: &[u8],
     on: &[usize],
     ol: &[usize],
@@ -177,19 +144,19 @@ fn go_on(
 ) -> Growth
     requires { ⌜ limit ≤ 4096 ⌝ }
     ensures { λ r. ⌜ Sized (now (w .entry)) (now (w .exit))
-        (GoesOnWith
+        (Follows
         (memory (now (ot .entry)) (now (on .entry)) (now (ol .entry)))
         (memory (now (nt .entry)) (now (nn .entry)) (now (nl .entry)))
         (now (groups .entry)) limit (now (w .entry)) count n m (now (w .exit)) (r .count) (r .settled)) ⌝ }
 {
-    if limit < count {
-        return Growth {
-            count,
-            settled: true,
-        };
-    }
     if versions::goes_on(on, ol, nn, nl, w, n, m) {
-        let total = follow(ot, on, ol, nt, nn, nl, groups, limit, w, count, n, m);
+        let mut total = count;
+        let mut place = versions::last_edge(ol, n);
+        while 0 < place {
+            let e = place - 1;
+            total = try_edge(ot, on, ol, nt, nn, nl, groups, limit, w, total, e, m);
+            place = versions::edge_before(ol, e);
+        }
         return Growth {
             count: total,
             settled: true,
@@ -225,7 +192,13 @@ fn visit(
     let n = pairset::old_of(w, x);
     let m = pairset::new_of(w, x);
     let entered = enter(on, ol, nn, nl, limit, w, count, n, m);
-    go_on(ot, on, ol, nt, nn, nl, groups, limit, w, entered, n, m)
+    if limit < entered {
+        return Growth {
+            count: entered,
+            settled: true,
+        };
+    }
+    follow(ot, on, ol, nt, nn, nl, groups, limit, w, entered, n, m)
 }
 
 // One pass over the three rules: the entries of the first procedures, then each pair of the table, with those that are added on the way.

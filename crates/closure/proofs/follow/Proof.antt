@@ -12,6 +12,9 @@ Inv-loop ot on ol nt nn nl groups limit w₀ count n m total₀ place₀ w total
 abbrev μ-loop : tie.MeasureT-loop
 μ-loop ot on ol nt nn nl groups limit w₀ count n m total₀ place₀ w total place = place
 
+goes-on-requires : tie.Need-goes-on-requires Inv-loop μ-loop
+goes-on-requires c κs = search (all, needs)
+
 last-edge-requires : tie.Need-last-edge-requires Inv-loop μ-loop
 last-edge-requires c κs = search (all, needs)
 
@@ -39,12 +42,19 @@ same-length c = search (all, needs)
 returns : tie.Need-returns Inv-loop μ-loop
 returns c = search (all, needs)
 
+same-length-2 : tie.Need-same-length-2 Inv-loop μ-loop
+same-length-2 c = search (all, needs)
+
+returns-2 : tie.Need-returns-2 Inv-loop μ-loop
+returns-2 c = search (all, needs)
+
 pub follow-spec : {M : Type 1} → statement M
 follow-spec =
     tie.close
     (tie.spec
     Inv-loop
     μ-loop
+    goes-on-requires
     last-edge-requires
     loop-holds
     sub-e
@@ -53,4 +63,6 @@ follow-spec =
     loop-less
     loop-again
     same-length
-    returns)
+    returns
+    same-length-2
+    returns-2)

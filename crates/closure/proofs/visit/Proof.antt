@@ -12,16 +12,30 @@ new-of-requires c κs = search needs
 enter-requires : tie.Need-enter-requires
 enter-requires c κs = search needs
 
-go-on-requires : tie.Need-go-on-requires
-go-on-requires c κs = search needs
-
 same-length : tie.Need-same-length
 same-length c = search needs
 
 returns : tie.Need-returns
 returns c = search (all, needs)
 
+follow-requires : tie.Need-follow-requires
+follow-requires c κs = search needs
+
+same-length-2 : tie.Need-same-length-2
+same-length-2 c = search needs
+
+returns-2 : tie.Need-returns-2
+returns-2 c = search (all, needs)
+
 pub visit-spec : {M : Type 1} → statement M
 visit-spec =
     tie.close
-    (tie.spec old-of-requires new-of-requires enter-requires go-on-requires same-length returns)
+    (tie.spec
+    old-of-requires
+    new-of-requires
+    enter-requires
+    same-length
+    returns
+    follow-requires
+    same-length-2
+    returns-2)
