@@ -65,20 +65,24 @@ module _ (m : ℕ) (text a b t w : List ℕ) (c : Read) (h : TestsRead m text c 
   unfolding Reads
   read = h .reads
 
-  stops : (x : Answer TestListing) → After m x c a b → (c .number ≡ 0 → ⊥) → Leaves x (record { number = c .number; place = c .place; count = 0 }) t t w w
-  stops (refused k p) y z = (y .0, y .1, refl, y .2, refl, refl)
-  stops (accepted l) y z = absurd (z (y .0))
+  stops : (x : Answer TestListing) → After m x c a b → (c .number ≡ 0 → ⊥) → (r : Read) → (r .number ≡ c .number) × (r .place ≡ c .place) × (r .count ≡ 0) → Leaves x r t t w w
+  stops (refused k p) y z r e = (e .0 ∙ y .0, e .1 ∙ y .1, e .2, y .2, refl, refl)
+  stops (accepted l) y z r e = absurd (z (y .0))
 
-  pub lent-stop : (c .number ≡ 0 → ⊥) → ReadLent m text (record { number = c .number; place = c .place; count = 0 }) t t w w
-  lent-stop z = record { leaves = stops (readTests m text) read z; few = omega arith }
+  pub lent-stop : (r : Read) → (c .number ≡ 0 → ⊥) → (r .number ≡ c .number) × (r .place ≡ c .place) × (r .count ≡ 0) → ReadLent m text r t t w w
+  lent-stop r z e = record { leaves = stops (readTests m text) read z r e; few = omega (arith, e .2) }
+
+  -- 14, by the definition.
+  left-not : (r : Read) → (14 ≡ leftNumber (readTests m text) t w) × (0 ≡ leftCount (readTests m text) t w) → (r .number ≡ 14) × (r .place ≡ 0) × (r .count ≡ 0) → TestsLeft m text t w r
+  left-not r u e = record { number-is = e .0 ∙ u .0; place-is = e .1; count-is = e .2 ∙ u .1; few = omega (arith, e .2) }
 
   unread : (x : Answer TestListing) → After m x c a b → (c .number ≡ 0 → ⊥) → (14 ≡ leftNumber x t w) × (0 ≡ leftCount x t w)
   unfolding leftNumber leftCount
   unread (refused k p) y z = (refl, refl)
   unread (accepted l) y z = absurd (z (y .0))
 
-  pub left-refused : (c .number ≡ 0 → ⊥) → TestsLeft m text t w (record { number = 14; place = 0; count = 0 })
-  left-refused z = let u = unread (readTests m text) read z in record { number-is = u .0; place-is = refl; count-is = u .1; few = omega arith }
+  pub left-refused : (r : Read) → (c .number ≡ 0 → ⊥) → (r .number ≡ 14) × (r .place ≡ 0) × (r .count ≡ 0) → TestsLeft m text t w r
+  left-refused r z e = left-not r (unread (readTests m text) read z) e
 
   module _ (long : 400 ≤ length a) (wide : 3200 ≤ length b) (z : c .number ≡ 0) where
     goes : (x : Answer TestListing) → After m x c a b → Leaves x c t (copiedTests a (c .count) t) w (copiedRows b (c .count) w)
@@ -99,18 +103,14 @@ module _ (m : ℕ) (text a b t w : List ℕ) (c : Read) (h : TestsRead m text c 
         = q ∙ ap₂ (λ (x z : List ℕ). same x t and same z w) (tests-copied m a b (c .count) l (y .2) (h .few) long wide t) (rows-copied m a b (c .count) l (y .2) (h .few) long wide w) in
         (ap (λ (v : Bool). choose v 0 14) e, ap₂ (λ (v : Bool) (n : ℕ). choose v n 0) e (y .2 .counted))
 
-    pub left-names : (u : Bool) → u ≡ same (copiedTests a (c .count) t) t → u ≡ false → TestsLeft m text t w (record { number = 14; place = 0; count = 0 })
+    pub left-names : (u : Bool) → u ≡ same (copiedTests a (c .count) t) t → u ≡ false → (r : Read) → (r .number ≡ 14) × (r .place ≡ 0) × (r .count ≡ 0) → TestsLeft m text t w r
     unfolding _and_ choose
-    left-names u q y =
-        let d = tells (readTests m text) read false (sym (ap (λ (v : Bool). v and same (copiedRows b (c .count) w) w) (sym q ∙ y))) in
-        record { number-is = d .0; place-is = refl; count-is = d .1; few = omega arith }
+    left-names u q y r e = left-not r (tells (readTests m text) read false (sym (ap (λ (v : Bool). v and same (copiedRows b (c .count) w) w) (sym q ∙ y)))) e
 
     module _ (u : Bool) (q : u ≡ same (copiedTests a (c .count) t) t) (y : u ≡ true) where
-      pub left-rows : (v : Bool) → v ≡ same (copiedRows b (c .count) w) w → v ≡ false → TestsLeft m text t w (record { number = 14; place = 0; count = 0 })
+      pub left-rows : (v : Bool) → v ≡ same (copiedRows b (c .count) w) w → v ≡ false → (r : Read) → (r .number ≡ 14) × (r .place ≡ 0) × (r .count ≡ 0) → TestsLeft m text t w r
       unfolding _and_ choose
-      left-rows v q′ y′ =
-          let d = tells (readTests m text) read false (sym (ap₂ (λ (f g : Bool). f and g) (sym q ∙ y) (sym q′ ∙ y′))) in
-          record { number-is = d .0; place-is = refl; count-is = d .1; few = omega arith }
+      left-rows v q′ y′ r e = left-not r (tells (readTests m text) read false (sym (ap₂ (λ (f g : Bool). f and g) (sym q ∙ y) (sym q′ ∙ y′)))) e
 
       pub left-done : (v : Bool) → v ≡ same (copiedRows b (c .count) w) w → v ≡ true → TestsLeft m text t w (record { number = 0; place = 0; count = c .count })
       unfolding _and_ choose

@@ -46,11 +46,7 @@ pub fn read_lent_tests(
     let number = r.number;
     let place = r.place;
     if number != 0 {
-        return Read {
-            number,
-            place,
-            count: 0,
-        };
+        return suite::refused(number, place);
     }
     copy_tests(work, r.count, tests);
     copy_rows(words, r.count, rows);
@@ -91,11 +87,7 @@ pub fn tests_left(
     let number = r.number;
     let count = r.count;
     if number != 0 {
-        return Read {
-            number: 14,
-            place: 0,
-            count: 0,
-        };
+        return suite::refused(14, 0);
     }
     if same_tests(work, count, tests) {
         if same_rows(words, count, rows) {
@@ -105,15 +97,7 @@ pub fn tests_left(
                 count,
             };
         }
-        return Read {
-            number: 14,
-            place: 0,
-            count: 0,
-        };
+        return suite::refused(14, 0);
     }
-    Read {
-        number: 14,
-        place: 0,
-        count: 0,
-    }
+    suite::refused(14, 0)
 }

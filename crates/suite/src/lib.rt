@@ -21,6 +21,17 @@ pub struct Read {
     pub count: usize,
 }
 
+// A refusal. Its count is 0.
+pub fn refused(number: usize, place: usize) -> Read
+    ensures { λ r. ⌜ (r .number ≡ number) × (r .place ≡ place) × (r .count ≡ 0) ⌝ }
+{
+    Read {
+        number,
+        place,
+        count: 0,
+    }
+}
+
 // ---- words and bits
 
 // The word at i, or 0 past the end.
@@ -283,19 +294,11 @@ fn add_test(
     ensures { λ r. ⌜ Added (now (text .entry)) edges n at (now (name .entry)) (now (row .entry)) count (now (filter .entry)) (now (tests .entry)) (now (rows .entry)) r (now (filter .exit)) (now (tests .exit)) (now (rows .exit)) ⌝ }
 {
     if 200 <= count {
-        return Read {
-            number: 4,
-            place: n,
-            count: 0,
-        };
+        return refused(4, n);
     }
     let seen = name_met(text, tests, count, name, filter);
     if seen {
-        return Read {
-            number: 5,
-            place: n,
-            count: 0,
-        };
+        return refused(5, n);
     }
     if fine {
         put_test(tests, count, at + 2, name.len());
@@ -306,22 +309,7 @@ fn add_test(
             count: count + 1,
         };
     }
-    Read {
-        number: 10,
-        place: n,
-        count: 0,
-    }
-}
-
-// The refusal of a malformed line.
-fn malformed(n: usize) -> Read
-    ensures { λ r. ⌜ (r .number ≡ 2) × (r .place ≡ n) × (r .count ≡ 0) ⌝ }
-{
-    Read {
-        number: 2,
-        place: n,
-        count: 0,
-    }
+    refused(10, n)
 }
 
 // Takes a line, numbered n, that begins at the offset `at`, after `count` tests. What the filter and the tables hold after a refusal is left open.
@@ -345,7 +333,7 @@ fn step(
         let row = text::after(rest, name.len() + 1);
         let fine = row_fine(edges, row);
         if comma_in(fine, row) {
-            return malformed(n);
+            return refused(2, n);
         }
         return add_test(
             text,
@@ -361,7 +349,7 @@ fn step(
             rows,
         );
     }
-    malformed(n)
+    refused(2, n)
 }
 
 // ---- a text
@@ -384,11 +372,7 @@ fn read_lines(
         let rest = text::after(text, at);
         let len = text::find(rest, 10);
         if rest.len() <= len {
-            return Read {
-                number: 2,
-                place: n,
-                count: 0,
-            };
+            return refused(2, n);
         }
         let line = text::front(rest, len);
         let r = step(text, edges, n, at, line, count, filter, tests, rows);
@@ -414,11 +398,7 @@ pub fn read_tests(text: &[u8], edges: usize, tests: &mut [usize], rows: &mut [u6
     ensures { λ r. ⌜ TestsRead edges (now (text .entry)) r (now (tests .exit)) (now (rows .exit)) ⌝ }
 {
     if 65536 < text.len() {
-        return Read {
-            number: 1,
-            place: 0,
-            count: 0,
-        };
+        return refused(1, 0);
     }
     let mut filter = [0usize; 64];
     read_lines(text, edges, &mut filter, tests, rows)

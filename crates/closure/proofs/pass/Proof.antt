@@ -14,22 +14,22 @@ abbrev μ-loop : tie.MeasureT-loop
 μ-loop ot on ol nt nn nl groups limit w₀ count total₀ settled₀ x₀ w total settled x = limit - x
 
 add-entries-requires : tie.Need-add-entries-requires Inv-loop μ-loop
-add-entries-requires c κs = search (all, needs)
+add-entries-requires c κs = search needs
 
 loop-holds : tie.Need-loop-holds Inv-loop μ-loop
 loop-holds c = search (all, needs)
 
 same-length : tie.Need-same-length Inv-loop μ-loop
-same-length c = search (all, needs)
+same-length c = search needs
 
 returns : tie.Need-returns Inv-loop μ-loop
 returns c = search (all, needs)
 
 visit-requires : tie.Need-visit-requires Inv-loop μ-loop
-visit-requires c κs = search (all, needs)
+visit-requires c κs = search needs
 
 add-x : tie.Need-add-x Inv-loop μ-loop
-add-x c = search (all, needs)
+add-x c = search needs
 
 loop-less : tie.Need-loop-less Inv-loop μ-loop
 loop-less c = search (all, needs)
@@ -38,7 +38,7 @@ loop-again : tie.Need-loop-again Inv-loop μ-loop
 loop-again c = search (all, needs)
 
 same-length-2 : tie.Need-same-length-2 Inv-loop μ-loop
-same-length-2 c = search (all, needs)
+same-length-2 c = search needs
 
 returns-2 : tie.Need-returns-2 Inv-loop μ-loop
 returns-2 c = search (all, needs)

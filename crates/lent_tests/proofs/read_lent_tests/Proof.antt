@@ -6,6 +6,9 @@ use Rattle.lent_tests.proofs.read_lent_tests.Tie as tie
 read-tests-requires : tie.Need-read-tests-requires
 read-tests-requires c κs = search needs
 
+refused-requires : tie.Need-refused-requires
+refused-requires c κs = search needs
+
 same-length : tie.Need-same-length
 same-length c = search needs
 
@@ -41,6 +44,7 @@ read-lent-tests-spec =
     tie.close
     (tie.spec
     read-tests-requires
+    refused-requires
     same-length
     same-length-2
     returns

@@ -3,11 +3,17 @@ use Rattle.suite.proofs.All.{all}
 use Rattle.suite.proofs.add_test.Statement.{statement}
 use Rattle.suite.proofs.add_test.Tie as tie
 
+refused-requires : tie.Need-refused-requires
+refused-requires c κs = search needs
+
 returns : tie.Need-returns
 returns c = search (all, needs)
 
 name-met-requires : tie.Need-name-met-requires
 name-met-requires c κs = search needs
+
+refused-requires-2 : tie.Need-refused-requires-2
+refused-requires-2 c κs = search needs
 
 same-length : tie.Need-same-length
 same-length c = search needs
@@ -42,6 +48,9 @@ same-length-5 c = search needs
 returns-3 : tie.Need-returns-3
 returns-3 c = search (all, needs)
 
+refused-requires-3 : tie.Need-refused-requires-3
+refused-requires-3 c κs = search needs
+
 same-length-6 : tie.Need-same-length-6
 same-length-6 c = search needs
 
@@ -55,8 +64,10 @@ pub add-test-spec : {M : Type 1} → statement M
 add-test-spec =
     tie.close
     (tie.spec
+    refused-requires
     returns
     name-met-requires
+    refused-requires-2
     same-length
     same-length-2
     returns-2
@@ -68,6 +79,7 @@ add-test-spec =
     same-length-4
     same-length-5
     returns-3
+    refused-requires-3
     same-length-6
     same-length-7
     returns-4)

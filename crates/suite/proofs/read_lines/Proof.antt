@@ -21,6 +21,9 @@ after-requires c κs = search (all, needs)
 find-requires : tie.Need-find-requires Inv-loop μ-loop
 find-requires c κs = search (all, needs)
 
+refused-requires : tie.Need-refused-requires Inv-loop μ-loop
+refused-requires c κs = search (all, needs)
+
 same-length : tie.Need-same-length Inv-loop μ-loop
 same-length c = search (all, needs)
 
@@ -87,6 +90,7 @@ read-lines-spec =
     loop-holds
     after-requires
     find-requires
+    refused-requires
     same-length
     same-length-2
     same-length-3

@@ -3,6 +3,9 @@ use Rattle.suite.proofs.All.{all}
 use Rattle.suite.proofs.read_tests.Statement.{statement}
 use Rattle.suite.proofs.read_tests.Tie as tie
 
+refused-requires : tie.Need-refused-requires
+refused-requires c κs = search needs
+
 returns : tie.Need-returns
 returns c = search (all, needs)
 
@@ -25,6 +28,7 @@ pub read-tests-spec : {M : Type 1} → statement M
 read-tests-spec =
     tie.close
     (tie.spec
+    refused-requires
     returns
     slice-aggregate-read-lines
     read-lines-requires

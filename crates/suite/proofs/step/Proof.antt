@@ -24,8 +24,8 @@ row-fine-requires c κs = search needs
 comma-in-requires : tie.Need-comma-in-requires
 comma-in-requires c κs = search needs
 
-malformed-requires : tie.Need-malformed-requires
-malformed-requires c κs = search needs
+refused-requires : tie.Need-refused-requires
+refused-requires c κs = search needs
 
 returns : tie.Need-returns
 returns c = search (all, needs)
@@ -45,8 +45,8 @@ same-length-3 c = search needs
 returns-2 : tie.Need-returns-2
 returns-2 c = search (all, needs)
 
-malformed-requires-2 : tie.Need-malformed-requires-2
-malformed-requires-2 c κs = search needs
+refused-requires-2 : tie.Need-refused-requires-2
+refused-requires-2 c κs = search needs
 
 returns-3 : tie.Need-returns-3
 returns-3 c = search (all, needs)
@@ -62,12 +62,12 @@ step-spec =
     after-requires-2
     row-fine-requires
     comma-in-requires
-    malformed-requires
+    refused-requires
     returns
     add-test-requires
     same-length
     same-length-2
     same-length-3
     returns-2
-    malformed-requires-2
+    refused-requires-2
     returns-3)
