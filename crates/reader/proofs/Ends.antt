@@ -24,7 +24,7 @@ use Rattle.graph.specs.Lookups.{in-table, Procs, ProcNamed}
 use Rattle.lines.specs.Known.{Known}
 use Rattle.reader.specs.declared.Count.{Count}
 use Rattle.reader.specs.Result.{linksOf, Small, InTable, Told, ReadInto}
-use Rattle.reader.specs.Reading.{Holds, Completes, ofCurrent, wholeText, LinesRead, Partly, ResolvedNode, ResolvedTo, Resolved, calleeBytes, Finished, Refusal}
+use Rattle.reader.specs.Reading.{Holds, Completes, ofCurrent, wholeText, LinesRead, Partly, ResolvedNode, ResolvedTo, Resolved, calleeBytes, Finished, Refusal, counts}
 use Rattle.reader.proofs.Completeness.{procs-of, some-procs, number-kind, current-row}
 use Rattle.reader.proofs.Steps.{found-none}
 
@@ -317,18 +317,18 @@ module _ (text w : List ℕ) (c : Count) (sm : Small c) where
             small = q .small;
           }
 
-      pub finish-done : line ≡ 0 → Finished text c w (record { number = 0; place = 0; procs = c .procs; nodes = c .nodes; edges = c .edges }) w′
+      pub finish-done : (r : Count) → line ≡ 0 → r ≡ counts (c .procs) (c .nodes) (c .edges) → Finished text c w r w′
       unfolding Resolved Completes
-      finish-done z =
-          record {
+      finish-done r z er =
+          rw er (record {
             told = λ s n k h.
                 let a : Partly w w′ s (nodeCount (s .program)) = rs s c k h (h .procs-n) (h .nodes-n) .0 z in
-                let held : InTable w′ (record { number = 0; place = 0; procs = c .procs; nodes = c .nodes; edges = c .edges }) s
-                = table-held text w w′ c s k h (some-of s h) (sym (q s (k .sound) h (some-of s h)) ∙ t) a (record { number = 0; place = 0; procs = c .procs; nodes = c .nodes; edges = c .edges }) refl refl refl in
-                subst (λ (x : Answer Listing). Told x (record { number = 0; place = 0; procs = c .procs; nodes = c .nodes; edges = c .edges }) w′)
+                let held : InTable w′ (counts (c .procs) (c .nodes) (c .edges)) s
+                = table-held text w w′ c s k h (some-of s h) (sym (q s (k .sound) h (some-of s h)) ∙ t) a (counts (c .procs) (c .nodes) (c .edges)) refl refl refl in
+                subst (λ (x : Answer Listing). Told x (counts (c .procs) (c .nodes) (c .edges)) w′)
                 (sym (finish-is s n k h ∙ ap (λ (o : Option ℕ). after o (accepted s) (λ m. refused 9 (getD (s .places .nodeLines) m 0))) (a .none-lost))) (refl, refl, held);
             small = record { few-procs = sm .few-procs; few-nodes = sm .few-nodes; few-edges = sm .few-edges };
-          }
+          })
 
 pub ruleset finishes = (finish-empty, finish-open, finish-lost, finish-done)
 

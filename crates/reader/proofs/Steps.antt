@@ -22,7 +22,7 @@ use Rattle.graph.specs.Lookups.{in-table, Procs, Edges, ProcNamed, EdgeTaken}
 use Rattle.lines.specs.Known.{Known}
 use Rattle.reader.specs.declared.Count.{Count}
 use Rattle.reader.specs.Result.{linksOf, Small}
-use Rattle.reader.specs.Reading.{Holds, After, Stepped, Took, Refusal, OpenedProc, AddedNode, AddedEdge, LinkedEdge, inProcedure, ofCurrent, Completes, storedProc, storedNode, storedEdge}
+use Rattle.reader.specs.Reading.{Holds, After, Stepped, Took, Refusal, OpenedProc, AddedNode, AddedEdge, LinkedEdge, inProcedure, ofCurrent, Completes, storedProc, storedNode, storedEdge, counts}
 use Rattle.reader.proofs.Programs.{has-edge, node-of}
 use Rattle.reader.proofs.Stores.{push-proc, push-node, push-edge}
 use Rattle.reader.proofs.Completeness.{edges-of, procs-of, some-procs, current-row}
@@ -44,13 +44,13 @@ found-none (some i) h = absurd (let z : ⊥ = omega arith in z)
 
 -- ---- counts that stay within their limits
 
-small-proc : (c : Count) → Small c → c .procs < 64 → Small (record { number = 0; place = 0; procs = c .procs + 1; nodes = c .nodes; edges = c .edges })
+small-proc : (c : Count) → Small c → c .procs < 64 → Small (counts (c .procs + 1) (c .nodes) (c .edges))
 small-proc c s h = record { few-procs = omega arith; few-nodes = s .few-nodes; few-edges = s .few-edges }
 
-small-node : (c : Count) → Small c → c .nodes < 512 → Small (record { number = 0; place = 0; procs = c .procs; nodes = c .nodes + 1; edges = c .edges })
+small-node : (c : Count) → Small c → c .nodes < 512 → Small (counts (c .procs) (c .nodes + 1) (c .edges))
 small-node c s h = record { few-procs = s .few-procs; few-nodes = omega arith; few-edges = s .few-edges }
 
-small-edge : (c : Count) → Small c → c .edges < 1024 → Small (record { number = 0; place = 0; procs = c .procs; nodes = c .nodes; edges = c .edges + 1 })
+small-edge : (c : Count) → Small c → c .edges < 1024 → Small (counts (c .procs) (c .nodes) (c .edges + 1))
 small-edge c s h = record { few-procs = s .few-procs; few-nodes = s .few-nodes; few-edges = omega arith }
 
 -- ---- a P line
@@ -83,21 +83,21 @@ module _ (text w : List ℕ) (n at : ℕ) (name : Bytes) (c : Count) where
           small = a .small;
         }
 
-    pub proc-new : (w′ : List ℕ) → Small c → f ≤ 0 → 8128 ≤ length w → w′ ≡ sets w (2048 + 7 * c .procs) ((at + 2) ∷ length name ∷ n ∷ c .nodes ∷ c .edges ∷ [])
-        → OpenedProc text n at name c w (record { number = 0; place = 0; procs = c .procs + 1; nodes = c .nodes; edges = c .edges }) w′
+    pub proc-new : (r : Count) (w′ : List ℕ) → Small c → f ≤ 0 → 8128 ≤ length w → w′ ≡ sets w (2048 + 7 * c .procs) ((at + 2) ∷ length name ∷ n ∷ c .nodes ∷ c .edges ∷ [])
+        → r ≡ counts (c .procs + 1) (c .nodes) (c .edges) → OpenedProc text n at name c w r w′
     unfolding named storedProc
-    proc-new w′ sm z room ew =
-        record {
+    proc-new r w′ sm z room ew er =
+        rw er (record {
           opened = λ s k h.
               let o = found-none _ (subst (λ (m : ℕ). m ≤ 0) (named-is s k h) z) in
               let fresh : any (procCount (s .program)) (λ q. same (nameAt (s .program) q) name) ≡ false
               = fails _ (λ t. let y = any-at (λ q. same (nameAt (s .program) q) name) (procCount (s .program)) t in first-none (λ q. same (nameAt (s .program) q) name) (procCount (s .program)) o (y .0) (y .1) (y .2)) in
               after-same _ _ _ _ (unless-passes _ _ _ _ (room-procs s h) ∙ unless-passes _ _ _ _ fresh) (
                 refl,
-                subst (λ (v : List ℕ). Holds v (record { number = 0; place = 0; procs = c .procs + 1; nodes = c .nodes; edges = c .edges }) (withProc n at name s)) (sym ew) (push-proc text w c s k h room few name n at),
+                subst (λ (v : List ℕ). Holds v (counts (c .procs + 1) (c .nodes) (c .edges)) (withProc n at name s)) (sym ew) (push-proc text w c s k h room few name n at),
               );
           small = small-proc c sm few;
-        }
+        })
 
   pub first-proc : (r : Count) (w′ : List ℕ) → c .procs ≡ 0 → OpenedProc text n at name c w r w′ → Took text n at (proc-line name) c w r w′
   unfolding Stepped takeLine
@@ -185,20 +185,20 @@ module _ (w : List ℕ) (n at kind : ℕ) (label callee : Bytes) (c : Count) whe
             small = a .small;
           }
 
-      pub node-new : (w′ : List ℕ) → Small c → c .nodes < 512 → 8128 ≤ length w → w′ ≡ storedNode w (c .procs - 1) (c .nodes) kind (at + 4) (length label) (n * 16 + length callee)
-          → AddedNode n at kind label callee c w (record { number = 0; place = 0; procs = c .procs; nodes = c .nodes + 1; edges = c .edges }) w′
+      pub node-new : (r : Count) (w′ : List ℕ) → Small c → c .nodes < 512 → 8128 ≤ length w → w′ ≡ storedNode w (c .procs - 1) (c .nodes) kind (at + 4) (length label) (n * 16 + length callee)
+          → r ≡ counts (c .procs) (c .nodes + 1) (c .edges) → AddedNode n at kind label callee c w r w′
       unfolding Stepped takeLine
-      node-new w′ sm few room ew =
-          record {
+      node-new r w′ sm few room ew er =
+          rw er (record {
             stepped = λ text k e s ks h.
                 after-same _ _ _ _ (unless-passes _ _ _ _ (in-place text s ks h) ∙ unless-passes _ _ _ _ (lt-leb 512 (nodeCount (s .program)) (omega (arith, h .nodes-n)))) (
                   refl,
-                  subst (λ (v : List ℕ). Holds v (record { number = 0; place = 0; procs = c .procs; nodes = c .nodes + 1; edges = c .edges }) (withNode n at k label callee s))
+                  subst (λ (v : List ℕ). Holds v (counts (c .procs) (c .nodes + 1) (c .edges)) (withNode n at k label callee s))
                       (sym (ew ∙ ap (λ (m : ℕ). storedNode w (c .procs - 1) (c .nodes) m (at + 4) (length label) (n * 16 + length callee)) e))
                       (push-node text w c s ks h room (omega (arith, begun-of s h some-proc, h .procs-n)) few k label callee n at),
                 );
             small = small-node c sm few;
-          }
+          })
 
 pub ruleset node-lines = (node-first, node-late, node-full, node-new)
 
@@ -232,11 +232,11 @@ module _ (w : List ℕ) (n f start : ℕ) (word : Bytes) (t : ℕ) (c : Count) (
         small = a .small;
       }
 
-  pub edge-new : (w′ : List ℕ) → Small c → y ≤ 0 → c .edges < 1024 → 8128 ≤ length w → w′ ≡ storedEdge w (c .edges) f start i t
-      → LinkedEdge n f start word t c w (record { number = 0; place = 0; procs = c .procs; nodes = c .nodes; edges = c .edges + 1 }) w′
+  pub edge-new : (r : Count) (w′ : List ℕ) → Small c → y ≤ 0 → c .edges < 1024 → 8128 ≤ length w → w′ ≡ storedEdge w (c .edges) f start i t
+      → r ≡ counts (c .procs) (c .nodes) (c .edges + 1) → LinkedEdge n f start word t c w r w′
   unfolding hasWord edgeTaken
-  edge-new w′ sm z few room ew =
-      record {
+  edge-new r w′ sm z few room ew er =
+      rw er (record {
         linked = λ text s at from to k h ef et es v m o.
             let g = found-none _ (subst (λ (m : ℕ). m ≤ 0) (taken-is text s k h v m) z) in
             let fresh : any (edgeCount (s .program)) (leaves (s .program) (value from) word) ≡ false
@@ -244,13 +244,13 @@ module _ (w : List ℕ) (n f start : ℕ) (word : Bytes) (t : ℕ) (c : Count) (
             ∙ fails _ (λ t. let u = any-at (leaves (s .program) f word) (edgeCount (s .program)) t in first-none (leaves (s .program) f word) (edgeCount (s .program)) g (u .0) (u .1) (u .2)) in
             after-same _ _ _ _ (unless-passes _ _ _ _ fresh) (
               refl,
-              subst (λ (v : List ℕ). Holds v (record { number = 0; place = 0; procs = c .procs; nodes = c .nodes; edges = c .edges + 1 }) (withEdge at from word to s))
+              subst (λ (v : List ℕ). Holds v (counts (c .procs) (c .nodes) (c .edges + 1)) (withEdge at from word to s))
                   (sym (ew ∙ ap (λ (x : ℕ). storedEdge w (c .edges) x start i t) ef ∙ ap (λ (x : ℕ). storedEdge w (c .edges) (value from) x i t) es ∙ ap (λ (x : ℕ). storedEdge w (c .edges) (value from) (at + length from + 3) x t) (key-is v)
                   ∙ ap (storedEdge w (c .edges) (value from) (at + length from + 3) (wordKey word)) et))
                   (push-edge text w c s k h room few from word to at (subst (λ (i : ℕ). ownerAt (s .program) i ≡ current (s .program)) ef o) (subst (λ (i : ℕ). i < nodeCount (s .program)) ef m)),
             );
         small = small-edge c sm few;
-      }
+      })
 
 pub ruleset links-lines = (edge-twice, edge-new)
 

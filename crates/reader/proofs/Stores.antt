@@ -25,7 +25,7 @@ use Rattle.graph.specs.Lookups.{in-table}
 use Rattle.lines.specs.Known.{Known}
 use Rattle.reader.specs.declared.Count.{Count}
 use Rattle.reader.specs.Result.{linksOf}
-use Rattle.reader.specs.Reading.{readingRow, Reading, Holds, storedProc, marked, storedNode, storedEdge}
+use Rattle.reader.specs.Reading.{readingRow, Reading, Holds, storedProc, marked, storedNode, storedEdge, counts}
 use Rattle.reader.proofs.Programs.{new-first-node, new-first-edge, node-first-node, node-first-edge, other-count, other-first, own-first, edge-source-old, edge-source-new, edge-first-edge}
 
 -- ---- rows and stores
@@ -114,7 +114,7 @@ module _ (text w : List ℕ) (c : Count) (s : Listing) (k : Known text s) (h : H
   exit-at q (inl l) one = link-other (7 * q + 6) (inl (omega (arith, h .procs-n))) ∙ h .reading .exits q l one
   exit-at q (inr l) one = absurd (let z : ⊥ = omega (arith, sym one ∙ ap (λ (m : ℕ). count (nodeCount (more .program)) (isOf (more .program) m X)) l ∙ none-of X) in z)
 
-  pub push-proc : Holds (storedProc w (c .procs) (at + 2) (length name) n (c .nodes) (c .edges)) (record { number = 0; place = 0; procs = c .procs + 1; nodes = c .nodes; edges = c .edges }) (withProc n at name s)
+  pub push-proc : Holds (storedProc w (c .procs) (at + 2) (length name) n (c .nodes) (c .edges)) (counts (c .procs + 1) (c .nodes) (c .edges)) (withProc n at name s)
   unfolding more row storedProc
   push-proc =
       let cases : (q : ℕ) → q < procCount (more .program) → (q < procCount (s .program)) ⊎ (q ≡ procCount (s .program)) = λ q l. snoc-cases [] (s .program .procs) name q l in
@@ -305,7 +305,7 @@ module _ (text w : List ℕ) (c : Count) (s : Listing) (k : Known text s) (h : H
       ∙ sym (latest-none (sourceAt (s .program)) i (edgeCount (s .program)) (λ j b (y : sourceAt (s .program) j ≡ i). let z : ⊥ = omega (arith, k .sound .sources j b) in z))
 
   pub push-node : Holds (storedNode w (c .procs - 1) (c .nodes) (kindNumber kind) (at + 4) (length label) (n * 16 + length callee))
-      (record { number = 0; place = 0; procs = c .procs; nodes = c .nodes + 1; edges = c .edges }) (withNode n at kind label callee s)
+      (counts (c .procs) (c .nodes + 1) (c .edges)) (withNode n at kind label callee s)
   unfolding storedNode after-rows node-row with-node entry exit
   push-node =
       let most-procs : c .procs ≤ 64 = omega (arith, k .sound .fewProcs, h .procs-n) in
@@ -411,7 +411,7 @@ module _ (text w : List ℕ) (c : Count) (s : Listing) (k : Known text s) (h : H
       (λ j b. kept-before (7 * i + j) (omega (arith, k .sound .fewProcs)) ∙ h .reading .procs i l j b)
 
   pub push-edge : Holds (storedEdge w (c .edges) (value from) (at + length from + 3) (wordKey word) (value to))
-      (record { number = 0; place = 0; procs = c .procs; nodes = c .nodes; edges = c .edges + 1 }) (withEdge at from word to s)
+      (counts (c .procs) (c .nodes) (c .edges + 1)) (withEdge at from word to s)
   unfolding storedEdge entry exit isOf
   push-edge =
       record {

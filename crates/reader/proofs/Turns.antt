@@ -17,7 +17,7 @@ use Rattle.lines.specs.Stands.{Stands, line-stands}
 use Rattle.lines.specs.Known.{Known, known-none, known-line}
 use Rattle.reader.specs.declared.Count.{Count}
 use Rattle.reader.specs.Result.{Small}
-use Rattle.reader.specs.Reading.{Holds, After, Stepped, Refusal, wholeText, LinesRead}
+use Rattle.reader.specs.Reading.{Holds, After, Stepped, Refusal, wholeText, LinesRead, counts}
 
 -- ---- a line is no longer than the text
 
@@ -32,7 +32,7 @@ pub record So (text : Bytes) (at n : ℕ) (c : Count) (w : List ℕ) : Type 0 wh
   pub holds : Holds w c listing
   pub goes : wholeText text ≡ readLines stepProgram finishProgram n at listing (split 10 (drop at text))
 
-so-start : (text w : Bytes) → So text 0 1 (record { number = 0; place = 0; procs = 0; nodes = 0; edges = 0 }) w
+so-start : (text w : Bytes) → So text 0 1 (counts 0 0 0) w
 unfolding wholeText
 so-start text w =
     record {
@@ -125,9 +125,9 @@ pub record Head (text w₀ : List ℕ) (at n : ℕ) (c : Count) (w : List ℕ) :
   pub long : length w ≡ length w₀
   pub so : So text at n c w
 
-pub head-start : (text w : List ℕ) → Head text w 0 1 (record { number = 0; place = 0; procs = 0; nodes = 0; edges = 0 }) w
-head-start text w =
-    record { in-text = omega arith; some = omega arith; few = omega arith; going = refl; small = record { few-procs = omega arith; few-nodes = omega arith; few-edges = omega arith }; long = refl; so = so-start text w }
+pub head-start : (text w : List ℕ) (c : Count) → c ≡ counts 0 0 0 → Head text w 0 1 c w
+head-start text w c e =
+    rw e (record { in-text = omega arith; some = omega arith; few = omega arith; going = refl; small = record { few-procs = omega arith; few-nodes = omega arith; few-edges = omega arith }; long = refl; so = so-start text w })
 
 pub head-on : (text w₀ w : List ℕ) (at n : ℕ) (c : Count) → Head text w₀ at n c w → (rest : List ℕ) → rest ≡ drop at text → (len : ℕ) → len ≡ span 10 rest → len < length rest
     → (line : List ℕ) → line ≡ take len rest → (r : Count) (w′ : List ℕ) → Stepped text n at (formOf (fieldsOf line)) c w r w′ → r .number ≡ 0 → Small r → length w′ ≡ length w

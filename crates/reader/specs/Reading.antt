@@ -55,6 +55,10 @@ pub record Refusal (number place : ℕ) (r : Count) : Type 0 where
   pub place-is : r .place ≡ place
   pub small : Small r
 
+-- `counted`: no refusal, and the numbers of procedures, nodes and edges.
+abbrev pub counts : ℕ → ℕ → ℕ → Count
+counts p n e = record { number = 0; place = 0; procs = p; nodes = n; edges = e }
+
 -- Whatever listing the work table holds, the answer to the line, numbered n, that begins at the offset `at` and says x is the definition's.
 unfoldable pub Stepped : Bytes → ℕ → ℕ → Line → Count → List ℕ → Count → List ℕ → Type 0
 Stepped text n at x c w r w′ = (s : Listing) → Known text s → Holds w c s → After (takeLine n at s x) r w′

@@ -10,7 +10,7 @@ ghost use Prim.Native.Nat.{_+_, _-_, _*_, _≤_, _<_};
 ghost use lib.ListN.{length};
 ghost use lib.Seq.{sets};
 ghost use Rattle.rules.specs.Text.{bytes, fieldsOf, split};
-ghost use Rattle.rules.specs.ProgramFile.{formOf, proc-line};
+ghost use Rattle.rules.specs.ProgramFile.{formOf};
 ghost use Rattle.reader.specs.Reading.{
   Added,
   AddedEdge,
@@ -27,6 +27,7 @@ ghost use Rattle.reader.specs.Reading.{
   ResolvedNode,
   Took,
   calleeBytes,
+  counts,
   inProcedure,
   kindCount,
   marked,
@@ -251,6 +252,19 @@ fn refused(number: usize, place: usize) -> Count
     }
 }
 
+// What was read so far, with no refusal.
+fn counted(procs: usize, nodes: usize, edges: usize) -> Count
+    ensures { λ r. ⌜ r ≡ counts procs nodes edges ⌝ }
+{
+    Count {
+        number: 0,
+        place: 0,
+        procs,
+        nodes,
+        edges,
+    }
+}
+
 // A P line, where the procedure before it is complete. After a refusal the work table may hold anything.
 fn new_proc(
     text: &[u8],
@@ -283,39 +297,11 @@ fn new_proc(
         nodes,
         edges,
     );
-    Count {
-        number: 0,
-        place: 0,
-        procs: procs + 1,
-        nodes,
-        edges,
-    }
+    counted(procs + 1, nodes, edges)
 }
 
-// A P line of this name. After a refusal the work table may hold anything.
-fn add_proc(
-    text: &[u8],
-    line: usize,
-    at: usize,
-    name: &[u8],
-    had: Count,
-    work: &mut [usize],
-) -> Count
-    requires { ⌜ Small had ⌝ }
-    requires { ⌜ (at ≤ 65536) × (8128 ≤ length (now work)) ⌝ }
-    ensures { λ r. ⌜ Took (now (text .entry)) line at (proc-line (now (name .entry))) had (now (work .entry)) r (now (work .exit)) ⌝ }
-{
-    let procs = had.procs;
-    if procs == 0 {
-        return new_proc(text, line, at, name, had, work);
-    }
-    if complete(work, had) {
-        return new_proc(text, line, at, name, had, work);
-    }
-    refused(8, of_current(work, procs, 2))
-}
-
-// A P line, by what stands behind its first comma: a name has no comma, so it is all of that. After a refusal the work table may hold anything.
+// A P line, by what stands behind its first comma: a name has no comma, so it is all of that. The procedure before it is to be complete. After a
+// refusal the work table may hold anything.
 fn proc_line(
     text: &[u8],
     line: usize,
@@ -328,8 +314,15 @@ fn proc_line(
     requires { ⌜ (at ≤ 65536) × (8128 ≤ length (now work)) ⌝ }
     ensures { λ r. ⌜ Took (now (text .entry)) line at (formOf (bytes "P" ∷ split 44 (now (name .entry)))) had (now (work .entry)) r (now (work .exit)) ⌝ }
 {
+    let procs = had.procs;
     if text::is_name(name) {
-        return add_proc(text, line, at, name, had, work);
+        if procs == 0 {
+            return new_proc(text, line, at, name, had, work);
+        }
+        if complete(work, had) {
+            return new_proc(text, line, at, name, had, work);
+        }
+        return refused(8, of_current(work, procs, 2));
     }
     refused(2, line)
 }
@@ -370,13 +363,7 @@ fn add_node(
         label.len(),
         line * 16 + callee.len(),
     );
-    Count {
-        number: 0,
-        place: 0,
-        procs,
-        nodes: nodes + 1,
-        edges,
-    }
+    counted(procs, nodes + 1, edges)
 }
 
 // An N line, by what stands behind its first comma: kind, label, and the callee, which has no comma, so that it is all the rest. After a
@@ -436,13 +423,7 @@ fn new_edge(
         return refused(7, line);
     }
     store_edge(work, edges, from, start, key, to);
-    Count {
-        number: 0,
-        place: 0,
-        procs,
-        nodes,
-        edges: edges + 1,
-    }
+    counted(procs, nodes, edges + 1)
 }
 
 // A B line of this word, which begins at `start`: its ends, then the word. After a refusal the work table may hold anything.
@@ -538,13 +519,7 @@ fn read_lines(text: &[u8], work: &mut [usize]) -> Count
 {
     let mut at = 0;
     let mut line = 1;
-    let mut had = Count {
-        number: 0,
-        place: 0,
-        procs: 0,
-        nodes: 0,
-        edges: 0,
-    };
+    let mut had = counted(0, 0, 0);
     while at < text.len() {
         let rest = after(text, at);
         let len = find(rest, 10);
@@ -630,13 +605,7 @@ fn finish(text: &[u8], had: Count, work: &mut [usize]) -> Count
         if line != 0 {
             return refused(9, line - 1);
         }
-        return Count {
-            number: 0,
-            place: 0,
-            procs,
-            nodes,
-            edges,
-        };
+        return counted(procs, nodes, edges);
     }
     refused(8, of_current(work, procs, 2))
 }

@@ -45,8 +45,11 @@ add-store-node-2 c = search needs
 store-node-requires : tie.Need-store-node-requires
 store-node-requires c κs = search needs
 
-add-t18 : tie.Need-add-t18
-add-t18 c = search needs
+add-counted : tie.Need-add-counted
+add-counted c = search needs
+
+counted-requires : tie.Need-counted-requires
+counted-requires c κs = search needs
 
 same-length-3 : tie.Need-same-length-3
 same-length-3 c = search needs
@@ -72,6 +75,7 @@ add-node-spec =
     mul-store-node
     add-store-node-2
     store-node-requires
-    add-t18
+    add-counted
+    counted-requires
     same-length-3
     returns-4)

@@ -27,6 +27,9 @@ same-length c = search needs
 returns-2 : tie.Need-returns-2
 returns-2 c = search (all, needs)
 
+counted-requires : tie.Need-counted-requires
+counted-requires c κs = search needs
+
 same-length-2 : tie.Need-same-length-2
 same-length-2 c = search needs
 
@@ -57,6 +60,7 @@ finish-spec =
     refused-requires-2
     same-length
     returns-2
+    counted-requires
     same-length-2
     returns-3
     of-current-requires

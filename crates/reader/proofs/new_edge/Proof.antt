@@ -24,8 +24,11 @@ returns c = search (all, needs)
 store-edge-requires : tie.Need-store-edge-requires
 store-edge-requires c κs = search needs
 
-add-t20 : tie.Need-add-t20
-add-t20 c = search needs
+add-counted : tie.Need-add-counted
+add-counted c = search needs
+
+counted-requires : tie.Need-counted-requires
+counted-requires c κs = search needs
 
 same-length-2 : tie.Need-same-length-2
 same-length-2 c = search needs
@@ -44,6 +47,7 @@ new-edge-spec =
     same-length
     returns
     store-edge-requires
-    add-t20
+    add-counted
+    counted-requires
     same-length-2
     returns-2)

@@ -36,8 +36,11 @@ add-put5-2 c = search needs
 put5-requires : tie.Need-put5-requires
 put5-requires c κs = search needs
 
-add-t18 : tie.Need-add-t18
-add-t18 c = search needs
+add-counted : tie.Need-add-counted
+add-counted c = search needs
+
+counted-requires : tie.Need-counted-requires
+counted-requires c κs = search needs
 
 same-length-2 : tie.Need-same-length-2
 same-length-2 c = search needs
@@ -60,6 +63,7 @@ new-proc-spec =
     add-put5
     add-put5-2
     put5-requires
-    add-t18
+    add-counted
+    counted-requires
     same-length-2
     returns-3)

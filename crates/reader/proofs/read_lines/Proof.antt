@@ -12,6 +12,9 @@ Inv-loop text work₀ at₀ line₀ had₀ work at line had = Head text work₀ 
 abbrev μ-loop : tie.MeasureT-loop
 μ-loop text work₀ at₀ line₀ had₀ work at line had = length text - at
 
+counted-requires : tie.Need-counted-requires Inv-loop μ-loop
+counted-requires c κs = search (all, needs)
+
 loop-holds : tie.Need-loop-holds Inv-loop μ-loop
 loop-holds c = search (all, needs)
 
@@ -69,6 +72,7 @@ read-lines-spec =
     (tie.spec
     Inv-loop
     μ-loop
+    counted-requires
     loop-holds
     after-requires
     find-requires
