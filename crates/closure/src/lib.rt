@@ -17,7 +17,7 @@ ghost use Rattle.closure.specs.Claims.{
   Visits,
 };
 
-// How far a pass has come: how many pairs there are, and whether it is settled: no pair had to wait for the exits of its callees.
+// What a pass, or a step of it, came to: how many pairs there are, and whether it is settled: no pair had to wait in it for the exits of its callees.
 pub struct Growth {
     pub count: usize,
     pub settled: bool,

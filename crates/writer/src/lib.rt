@@ -231,86 +231,39 @@ fn put_repeats(
 
 // ---- the sheet
 
+// How many pairs, old nodes, new nodes, old edges and tests there are.
+struct Sizes {
+    pairs: usize,
+    olds: usize,
+    news: usize,
+    edges: usize,
+    count: usize,
+}
+
 // The sheet: its first line, the pairs, the dangerous edges, the tests to repeat, and the three counts.
 fn put_sheet(
     out: &mut [u8],
     w: &[usize],
-    pairs: usize,
-    olds: usize,
-    news: usize,
     set: &[u64],
-    edges: usize,
     text: &[u8],
     tests: &[usize],
     rows: &[u64],
-    count: usize,
+    n: Sizes,
 ) -> usize
-    requires { ⌜ (olds ≤ 512) × (news ≤ 512) × (edges ≤ 1024) × (count ≤ 200) ⌝ }
-    ensures { λ r. ⌜ SheetPut (selection (now (w .entry)) pairs olds news (now (set .entry)) edges (now (text .entry)) (now (tests .entry)) (now (rows .entry)) count) (now (out .entry)) r (now (out .exit)) ⌝ }
+    requires { ⌜ (n .olds ≤ 512) × (n .news ≤ 512) × (n .edges ≤ 1024) × (n .count ≤ 200) ⌝ }
+    ensures { λ r. ⌜ SheetPut (selection (now (w .entry)) (n .pairs) (n .olds) (n .news) (now (set .entry)) (n .edges) (now (text .entry)) (now (tests .entry)) (now (rows .entry)) (n .count)) (now (out .entry)) r (now (out .exit)) ⌝ }
 {
-    let dangers = count_dangers(set, edges);
-    let repeats = count_repeats(rows, count, set);
+    let dangers = count_dangers(set, n.edges);
+    let repeats = count_repeats(rows, n.count, set);
     let a = put_head(out, 0);
-    let b = put_pairs(out, a, w, olds, news);
-    let c = put_dangers(out, b, set, edges);
-    let d = put_repeats(out, c, text, tests, rows, count, set);
-    put_end(out, d, pairs, dangers, repeats)
+    let b = put_pairs(out, a, w, n.olds, n.news);
+    let c = put_dangers(out, b, set, n.edges);
+    let d = put_repeats(out, c, text, tests, rows, n.count, set);
+    put_end(out, d, n.pairs, dangers, repeats)
 }
 
-// Measures the sheet, refuses with 16 where the output is shorter, and else writes it.
-fn write_measured(
-    w: &[usize],
-    pairs: usize,
-    olds: usize,
-    news: usize,
-    set: &[u64],
-    edges: usize,
-    text: &[u8],
-    tests: &[usize],
-    rows: &[u64],
-    count: usize,
-    out: &mut [u8],
-) -> Answer
-    requires { ⌜ (olds ≤ 512) × (news ≤ 512) × (edges ≤ 1024) × (count ≤ 200) ⌝ }
-    ensures { λ r. ⌜ SheetWritten (selection (now (w .entry)) pairs olds news (now (set .entry)) edges (now (text .entry)) (now (tests .entry)) (now (rows .entry)) count) (now (out .entry)) r (now (out .exit)) ⌝ }
-{
-    let n = put_sheet(
-        &mut out[..0],
-        w,
-        pairs,
-        olds,
-        news,
-        set,
-        edges,
-        text,
-        tests,
-        rows,
-        count,
-    );
-    if out.len() < n {
-        return Answer {
-            number: 16,
-            place: 0,
-        };
-    }
-    let place = put_sheet(
-        out,
-        w,
-        pairs,
-        olds,
-        news,
-        set,
-        edges,
-        text,
-        tests,
-        rows,
-        count,
-    );
-    Answer { number: 0, place }
-}
-
-// Writes the sheet of a selection, or refuses with 16 where the output is shorter. No sheet has more than 65,536 bytes, so that into so many
-// it is written without being measured.
+// Writes the sheet of a selection, or refuses with 16 where the output is shorter: measures it first. No sheet has more than 65,536 bytes, so that
+// into so many it is written without being measured.
 pub fn write_sheet(
     w: &[usize],
     pairs: usize,
@@ -327,35 +280,26 @@ pub fn write_sheet(
     requires { ⌜ (olds ≤ 512) × (news ≤ 512) × (edges ≤ 1024) × (count ≤ 200) ⌝ }
     ensures { λ r. ⌜ SheetWritten (selection (now (w .entry)) pairs olds news (now (set .entry)) edges (now (text .entry)) (now (tests .entry)) (now (rows .entry)) count) (now (out .entry)) r (now (out .exit)) ⌝ }
 {
-    if 65536 <= out.len() {
-        let place = put_sheet(
-            out,
-            w,
-            pairs,
-            olds,
-            news,
-            set,
-            edges,
-            text,
-            tests,
-            rows,
-            count,
-        );
-        return Answer { number: 0, place };
-    }
-    write_measured(
-        w,
+    let n = Sizes {
         pairs,
         olds,
         news,
-        set,
         edges,
-        text,
-        tests,
-        rows,
         count,
-        out,
-    )
+    };
+    if 65536 <= out.len() {
+        let place = put_sheet(out, w, set, text, tests, rows, n);
+        return Answer { number: 0, place };
+    }
+    let len = put_sheet(&mut out[..0], w, set, text, tests, rows, n);
+    if out.len() < len {
+        return Answer {
+            number: 16,
+            place: 0,
+        };
+    }
+    let place = put_sheet(out, w, set, text, tests, rows, n);
+    Answer { number: 0, place }
 }
 
 // ---- record lines
