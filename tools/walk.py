@@ -188,9 +188,9 @@ def assign(s):
         w(f'assigns ! (of-opd ! (load ! (from ! (hop ! (look ! {at(L(job + 1))} refl) (stop !))) (look-raw ! {at("cell")} refl))) {dst} {write(k, "(" + typed(T, jobnow, jobis) + ")")} $')
         value[k] = (('val', T), jobnow, val(T, jobnow), jobis); return
     if st == [('*',)]:
-        T = params[job][1][1]; m = meaning(r[1])
-        w(f'assigns ! (of-opd ! ({operand(r[1])})) (from ! (hop ! (look ! {at(L(job + 1))} refl) (stop !))) (store-raw ! {at("cell")} refl ({typed(T, m[1], paren(m[3]))})) $')
-        jobnow, jobis, written = m[1], paren(m[3]), True; return
+        T = params[job][1][1]; m = meaning(r[1]); q = re.sub(r'^fields(?=\d+$)', 'is', m[3])
+        w(f'assigns ! (of-opd ! ({operand(r[1])})) (from ! (hop ! (look ! {at(L(job + 1))} refl) (stop !))) (store-raw ! {at("cell")} refl ({typed(T, m[1], paren(q))})) $')
+        jobnow, jobis, written = m[1], paren(q), True; return
     if r[0] == 'repeat':
         m = meaning(r[1]); T = m[0][1]; n_ = int(r[2]); R = row(S(T)); arr = f'(Array {R} {n_})'; xs, vs = f'(replicate {n_} {m[1]})', f'(arrayVal (replicate {n_} ({m[2]})) ∷ [])'
         w(f'owned ! {R} (Is {R}) (LL.makes {T}-type.the-type {T}-laws.the-plain 𝓤 H A) {m[1]} _ {m[3]} $')

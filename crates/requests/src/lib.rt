@@ -95,7 +95,22 @@ fn sheet(
     requires { ⌜ Few had ⌝ }
     ensures { λ r. ⌜ Done (now (w .entry)) (now (w .exit)) (now (out .entry)) (now (out .exit)) (SheetDone maxPairs tooMany (memory (now (ot .entry)) (now (on .entry)) (now (ol .entry))) (memory (now (nt .entry)) (now (nn .entry)) (now (nl .entry))) (now (tt .entry)) (now (tests .entry)) (now (rows .entry)) had (now (w .entry)) (now (out .entry)) r (now (out .exit))) ⌝ }
 {
-    work::write_sheet(MAX_PAIRS, TOO_MANY, ot, on, ol, nt, nn, nl, tt, tests, rows, had, w, out)
+    work::write_sheet(
+        MAX_PAIRS,
+        TOO_MANY,
+        ot,
+        on,
+        ol,
+        nt,
+        nn,
+        nl,
+        tt,
+        tests,
+        rows,
+        had,
+        w,
+        out,
+    )
 }
 
 // Writes the record line of a test.
@@ -117,7 +132,23 @@ fn record(
     requires { ⌜ Few had ⌝ }
     ensures { λ r. ⌜ Done (now (w .entry)) (now (w .exit)) (now (out .entry)) (now (out .exit)) (RecordDone maxPairs tooMany (memory (now (ot .entry)) (now (on .entry)) (now (ol .entry))) (memory (now (nt .entry)) (now (nn .entry)) (now (nl .entry))) (now (tt .entry)) (now (tests .entry)) (now (rows .entry)) had test (now (w .entry)) (now (out .entry)) r (now (out .exit))) ⌝ }
 {
-    work::write_record(MAX_PAIRS, TOO_MANY, ot, on, ol, nt, nn, nl, tt, tests, rows, had, test, w, out)
+    work::write_record(
+        MAX_PAIRS,
+        TOO_MANY,
+        ot,
+        on,
+        ol,
+        nt,
+        nn,
+        nl,
+        tt,
+        tests,
+        rows,
+        had,
+        test,
+        w,
+        out,
+    )
 }
 
 // Checks a sheet.
@@ -144,7 +175,25 @@ fn check(
     let edges = had.old_edges;
     let n = had.tests;
     let mut sets = [0u64; 20];
-    checker::check_sheet(MAX_PAIRS, ot, on, ol, nt, nn, nl, olds, news, edges, tt, tests, rows, n, sheet, w, &mut sets)
+    checker::check_sheet(
+        MAX_PAIRS,
+        ot,
+        on,
+        ol,
+        nt,
+        nn,
+        nl,
+        olds,
+        news,
+        edges,
+        tt,
+        tests,
+        rows,
+        n,
+        sheet,
+        w,
+        &mut sets,
+    )
 }
 
 // Does what is asked, of programs and tests in memory; `input` is the text that the request comes with, and `w` the table of the pairs.
@@ -182,7 +231,10 @@ pub fn serve(
             return label(had, side, node);
         }
         Request::Unknown => {
-            return Answer { number: 6, place: 0 };
+            return Answer {
+                number: 6,
+                place: 0,
+            };
         }
     }
 }

@@ -6,8 +6,8 @@ use Rattle.requests.proofs.serve.Tie as tie
 enum-told : tie.Need-enum-told
 enum-told c = search needs
 
-write-sheet-requires : tie.Need-write-sheet-requires
-write-sheet-requires c κs = search needs
+sheet-requires : tie.Need-sheet-requires
+sheet-requires c κs = search needs
 
 same-length : tie.Need-same-length
 same-length c = search needs
@@ -21,8 +21,8 @@ returns c = search (all, needs)
 enum-known-request : tie.Need-enum-known-request
 enum-known-request c = search needs
 
-write-record-requires : tie.Need-write-record-requires
-write-record-requires c κs = search needs
+record-requires : tie.Need-record-requires
+record-requires c κs = search needs
 
 same-length-3 : tie.Need-same-length-3
 same-length-3 c = search needs
@@ -65,12 +65,12 @@ serve-spec =
     tie.close
     (tie.spec
     enum-told
-    write-sheet-requires
+    sheet-requires
     same-length
     same-length-2
     returns
     enum-known-request
-    write-record-requires
+    record-requires
     same-length-3
     same-length-4
     returns-2
