@@ -373,7 +373,7 @@ module _ (j : Job) (olds : ℕ) (ot on ol : List ℕ) (news : ℕ) (nt nn nl tt 
       (version-memory (label-job .new) (h .new) (p .1) (wide-new j olds ot on ol news nt nn nl tt tests rows w eo en)) n side
       ∙ sym (ap (λ (x : Reading AllRead). spanBy x label-job side n) e)))
 
--- ---- `shown_on`: the part that stands there
+-- ---- the part that stands there
 
 module _ (k : LentJob) (side n : ℕ) where
   part-nowhere : partShown (k .old .text) (k .new .text) side 0 0 ≡ []
@@ -407,7 +407,7 @@ module _ (k : LentJob) (side n : ℕ) where
   part-by (refused q p) = part-nowhere
   part-by (accepted h) = part-shown (h .old) (h .new) side refl
 
-  pub part-found : (r : Label) (part : Bytes) → SpanIs (labelSpanCall k side n) r → part ≡ partShown (k .old .text) (k .new .text) side (r .start) (r .len) → part ≡ labelPartCall k side n
+  part-found : (r : Label) (part : Bytes) → SpanIs (labelSpanCall k side n) r → part ≡ partShown (k .old .text) (k .new .text) side (r .start) (r .len) → part ≡ labelPartCall k side n
   unfolding labelSpanCall labelPartCall
   part-found r part e ep = ep ∙ ap₂ (λ (a b : ℕ). partShown (k .old .text) (k .new .text) side a b) (e .start-is) (e .len-is) ∙ part-by (goesBy k)
 
@@ -529,9 +529,10 @@ module _ (j : Job) (ot : Bytes) (on : List Node) (ol nt : List ℕ) (nn : List N
       go (accepted h) = refl
 
   -- `label_shown`
-  pub shown-is : (side n : ℕ) (r w₂ : List ℕ) → r ≡ labelPartCall job-loaded side n → w₂ ≡ replicate (length w₁) 0 → Shown (labelPartCall job-lent side n) r j j w w₂
-  shown-is side n r w₂ e q = record { part-is = e ∙ part-same side n; kept = kept w₂ q }
+  pub shown-is : (side n : ℕ) (a : Label) (r w₂ : List ℕ) → SpanIs (labelSpanCall job-loaded side n) a → w₂ ≡ replicate (length w₁) 0 → r ≡ partShown ot nt side (a .start) (a .len)
+      → Shown (labelPartCall job-lent side n) r j j w w₂
+  shown-is side n a r w₂ h ew er = record { part-is = part-found job-loaded side n a r h er ∙ part-same side n; kept = kept w₂ ew }
 
-pub ruleset calls = (unloads, due-few, call-stop, call-goes, on-called, part-found)
+pub ruleset calls = (unloads, due-few, call-stop, call-goes, on-called)
 
 pub ruleset all = (dues, labels, calls)

@@ -1,5 +1,5 @@
-// The calls of a job at stage 3, on values: one for every request, and one that finds a label. The scratch holds the numbers of the nodes before,
-// and is zero afterwards. `label_shown` takes job and nodes out of what is lent.
+// The calls of a job at stage 3, on values: one for every request, and one that finds a label. The scratch `w` holds the numbers of the nodes
+// before, and is zero afterwards. `label_shown` takes job and nodes out of what is lent.
 use answer::Answer;
 use intake::Texts;
 use intake::refused;
@@ -73,21 +73,21 @@ fn due(
     tt: &[u8],
     tests: &[usize],
     rows: &[u64],
-    scratch: &mut [usize],
+    w: &mut [usize],
 ) -> Texts
-    ensures { λ r. ⌜ r ≡ dueTexts (goesBy (lentJob job (numbers olds (now (ot .entry)) (now (on .entry)) (now (ol .entry))) (numbers news (now (nt .entry)) (now (nn .entry)) (now (nl .entry))) (now (tt .entry)) (now (tests .entry)) (now (rows .entry)) (length (now (scratch .entry))))) ⌝ }
+    ensures { λ r. ⌜ r ≡ dueTexts (goesBy (lentJob job (numbers olds (now (ot .entry)) (now (on .entry)) (now (ol .entry))) (numbers news (now (nt .entry)) (now (nn .entry)) (now (nl .entry))) (now (tt .entry)) (now (tests .entry)) (now (rows .entry)) (length (now (w .entry))))) ⌝ }
 {
     if job.stage != 3 {
         return refused(13, 0);
     }
-    if scratch.len() < 16912 {
+    if w.len() < 16912 {
         return refused(14, 0);
     }
-    let o = held::version_left(olds, ot, on, ol, scratch);
+    let o = held::version_left(olds, ot, on, ol, w);
     if o.number != 0 {
         return refused(14, 0);
     }
-    let p = held::version_left(news, nt, nn, nl, scratch);
+    let p = held::version_left(news, nt, nn, nl, w);
     if p.number != 0 {
         return refused(14, 0);
     }
@@ -110,15 +110,15 @@ fn call_in(
     rows: &[u64],
     request: Request,
     input: &[u8],
-    scratch: &mut [usize],
+    w: &mut [usize],
     out: &mut [u8],
 ) -> Answer
-    ensures { λ r. ⌜ Told (lentCall (asked request) (loadedJob job olds (now (ot .entry)) (now (ol .entry)) news (now (nt .entry)) (now (nl .entry)) (now (tt .entry)) (now (tests .entry)) (now (rows .entry)) (now (scratch .entry))) (now (input .entry)) (length (now (out .entry)))) r (now (out .entry)) (now (out .exit)) ⌝ }
+    ensures { λ r. ⌜ Told (lentCall (asked request) (loadedJob job olds (now (ot .entry)) (now (ol .entry)) news (now (nt .entry)) (now (nl .entry)) (now (tt .entry)) (now (tests .entry)) (now (rows .entry)) (now (w .entry))) (now (input .entry)) (length (now (out .entry)))) r (now (out .entry)) (now (out .exit)) ⌝ }
 {
     let mut on = [0usize; 2048];
     let mut nn = [0usize; 2048];
-    copy(&mut on, 0, run(scratch, 0, 2048));
-    copy(&mut nn, 0, run(scratch, 2048, 2048));
+    copy(&mut on, 0, run(w, 0, 2048));
+    copy(&mut nn, 0, run(w, 2048, 2048));
     let had = due(
         job,
         olds,
@@ -132,7 +132,7 @@ fn call_in(
         tt,
         tests,
         rows,
-        scratch,
+        w,
     );
     if had.number != 0 {
         return Answer {
@@ -153,7 +153,7 @@ fn call_in(
         had,
         request,
         input,
-        scratch,
+        w,
         out,
     )
 }
@@ -174,10 +174,10 @@ pub fn call_on(
     a: usize,
     b: usize,
     input: &[u8],
-    scratch: &mut [usize],
+    w: &mut [usize],
     out: &mut [u8],
 ) -> Answer
-    ensures { λ r. ⌜ CalledOn (lentCall (requestBy number a b) (loadedJob job olds (now (ot .entry)) (now (ol .entry)) news (now (nt .entry)) (now (nl .entry)) (now (tt .entry)) (now (tests .entry)) (now (rows .entry)) (now (scratch .entry))) (now (input .entry)) (length (now (out .entry)))) r (now (scratch .entry)) (now (scratch .exit)) (now (out .entry)) (now (out .exit)) ⌝ }
+    ensures { λ r. ⌜ CalledOn (lentCall (requestBy number a b) (loadedJob job olds (now (ot .entry)) (now (ol .entry)) news (now (nt .entry)) (now (nl .entry)) (now (tt .entry)) (now (tests .entry)) (now (rows .entry)) (now (w .entry))) (now (input .entry)) (length (now (out .entry)))) r (now (w .entry)) (now (w .exit)) (now (out .entry)) (now (out .exit)) ⌝ }
 {
     let request = requests::by_number(number, a, b);
     let answer = call_in(
@@ -193,10 +193,10 @@ pub fn call_on(
         rows,
         request,
         input,
-        scratch,
+        w,
         out,
     );
-    clear(scratch);
+    clear(w);
     answer
 }
 
@@ -235,28 +235,28 @@ fn label_of(side: usize, olds: usize, on: &[usize], news: usize, nn: &[usize], n
     Label { start: 0, len: 0 }
 }
 
-// Finds a label. What the scratch holds afterwards is left open.
-fn label_in(
+// Finds a label, by side and node number. The two texts have one lifetime, since a caller shows a part of either.
+pub fn label_on<'a>(
     job: Job,
     olds: usize,
     news: usize,
-    ot: &[u8],
+    ot: &'a [u8],
     ol: &[usize],
-    nt: &[u8],
+    nt: &'a [u8],
     nl: &[usize],
     tt: &[u8],
     tests: &[usize],
     rows: &[u64],
     side: usize,
     node: usize,
-    scratch: &mut [usize],
+    w: &mut [usize],
 ) -> Label
-    ensures { λ r. ⌜ SpanIs (labelSpanCall (loadedJob job olds (now (ot .entry)) (now (ol .entry)) news (now (nt .entry)) (now (nl .entry)) (now (tt .entry)) (now (tests .entry)) (now (rows .entry)) (now (scratch .entry))) side node) r ⌝ }
+    ensures { λ r. ⌜ SpanIs (labelSpanCall (loadedJob job olds (now (ot .entry)) (now (ol .entry)) news (now (nt .entry)) (now (nl .entry)) (now (tt .entry)) (now (tests .entry)) (now (rows .entry)) (now (w .entry))) side node) r × (now (w .exit) ≡ replicate (length (now (w .entry))) 0) ⌝ }
 {
     let mut on = [0usize; 2048];
     let mut nn = [0usize; 2048];
-    copy(&mut on, 0, run(scratch, 0, 2048));
-    copy(&mut nn, 0, run(scratch, 2048, 2048));
+    copy(&mut on, 0, run(w, 0, 2048));
+    copy(&mut nn, 0, run(w, 2048, 2048));
     let had = due(
         job,
         olds,
@@ -270,85 +270,13 @@ fn label_in(
         tt,
         tests,
         rows,
-        scratch,
+        w,
     );
+    clear(w);
     if had.number != 0 {
         return Label { start: 0, len: 0 };
     }
     label_of(side, had.old_nodes, &on, had.new_nodes, &nn, node)
-}
-
-// Finds a label, by side and node number.
-pub fn label_on(
-    job: Job,
-    olds: usize,
-    news: usize,
-    ot: &[u8],
-    ol: &[usize],
-    nt: &[u8],
-    nl: &[usize],
-    tt: &[u8],
-    tests: &[usize],
-    rows: &[u64],
-    side: usize,
-    node: usize,
-    scratch: &mut [usize],
-) -> Label
-    ensures { λ r. ⌜ SpanIs (labelSpanCall (loadedJob job olds (now (ot .entry)) (now (ol .entry)) news (now (nt .entry)) (now (nl .entry)) (now (tt .entry)) (now (tests .entry)) (now (rows .entry)) (now (scratch .entry))) side node) r × (now (scratch .exit) ≡ replicate (length (now (scratch .entry))) 0) ⌝ }
-{
-    let found = label_in(
-        job,
-        olds,
-        news,
-        ot,
-        ol,
-        nt,
-        nl,
-        tt,
-        tests,
-        rows,
-        side,
-        node,
-        scratch,
-    );
-    clear(scratch);
-    found
-}
-
-// The part of its text that holds a label.
-fn shown_on<'a>(
-    job: Job,
-    olds: usize,
-    news: usize,
-    ot: &'a [u8],
-    ol: &[usize],
-    nt: &'a [u8],
-    nl: &[usize],
-    tt: &[u8],
-    tests: &[usize],
-    rows: &[u64],
-    side: usize,
-    node: usize,
-    scratch: &mut [usize],
-) -> &'a [u8]
-    ensures { λ r. ⌜ (now r ≡ labelPartCall (loadedJob job olds (now (ot .entry)) (now (ol .entry)) news (now (nt .entry)) (now (nl .entry)) (now (tt .entry)) (now (tests .entry)) (now (rows .entry)) (now (scratch .entry))) side node) × (now (scratch .exit) ≡ replicate (length (now (scratch .entry))) 0) ⌝ }
-{
-    let found = label_on(
-        job,
-        olds,
-        news,
-        ot,
-        ol,
-        nt,
-        nl,
-        tt,
-        tests,
-        rows,
-        side,
-        node,
-        scratch,
-    );
-    records::shown_part(ot, nt, side, found.start, found.len)
 }
 
 // The part of the old text (side 0) or of the new one (side 1) that holds the label of a node: no bytes when refused.
@@ -370,7 +298,7 @@ pub fn label_shown<'a>(
     ensures { λ r. ⌜ Shown (labelPartCall (lentJob (now (job .entry)) (lent (now (ot .entry)) (now (on .entry)) (now (ol .entry))) (lent (now (nt .entry)) (now (nn .entry)) (now (nl .entry))) (now (tt .entry)) (now (tests .entry)) (now (rows .entry)) (length (now (scratch .entry)))) side node) (now r) (now (job .entry)) (now (job .exit)) (now (scratch .entry)) (now (scratch .exit)) ⌝ }
 {
     records::load_both(on, nn, scratch);
-    shown_on(
+    let found = label_on(
         *job,
         on.len(),
         nn.len(),
@@ -384,5 +312,6 @@ pub fn label_shown<'a>(
         side,
         node,
         scratch,
-    )
+    );
+    records::shown_part(ot, nt, side, found.start, found.len)
 }

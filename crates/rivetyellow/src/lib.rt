@@ -274,12 +274,12 @@ pub extern "C" fn ry_job_call(
 
 // Where the label of a node stands in the old text (side 0) or in the new one (side 1): start * 4,294,967,296 + length, 0 when refused.
 #[no_mangle]
-pub extern "C" fn ry_job_label(
+pub extern "C" fn ry_job_label<'a>(
     job: &mut Job,
-    old: &[u8],
+    old: &'a [u8],
     old_nodes: &[Node],
     old_links: &[usize],
-    new: &[u8],
+    new: &'a [u8],
     new_nodes: &[Node],
     new_links: &[usize],
     text: &[u8],

@@ -44,7 +44,7 @@ slice-aggregate-serve-2 : tie.Need-slice-aggregate-serve-2
 slice-aggregate-serve-2 c = search needs
 
 serve-requires : tie.Need-serve-requires
-serve-requires c κs = (due-few _ _ (c .before .before .before .before .before .before .before .before .due .ensures), wide _ _ _ (due-asks _ _ (c .before .before .before .before .before .before .before .before .due .ensures) (c .before .before .before .before .if1 .left) .4) (c .before .before .before .before .before .before .before .scratch .given))
+serve-requires c κs = (due-few _ _ (c .before .before .before .before .before .before .before .before .due .ensures), wide _ _ _ (due-asks _ _ (c .before .before .before .before .before .before .before .before .due .ensures) (c .before .before .before .before .if1 .left) .4) (c .before .before .before .before .before .before .before .w .given))
 
 same-length-2 : tie.Need-same-length-2
 same-length-2 c = search needs

@@ -19,7 +19,7 @@ same-length-2 : tie.Need-same-length-2
 same-length-2 c = search needs
 
 returns : tie.Need-returns
-returns c = on-called _ _ _ _ _ _ _ _ _ _ (c .before .before .before .before .before .before .before .before .before .before .before .by-number .ensures) (c .before .before .before .before .before .before .before .before .call-in .ensures) (c .before .before .before .before .before .before .before .scratch .given) (c .before .before .clear .ensures)
+returns c = on-called _ _ _ _ _ _ _ _ _ _ (c .before .before .before .before .before .before .before .before .before .before .before .by-number .ensures) (c .before .before .before .before .before .before .before .before .call-in .ensures) (c .before .before .before .before .before .before .before .w .given) (c .before .before .clear .ensures)
 
 pub call-on-spec : {M : Type 1} → statement M
 call-on-spec =

@@ -1,32 +1,40 @@
--- `label_shown` meets its contract: a walk of its code, written by tools/walk.py. All that it knows of `load_both` and of `shown_on` is that they meet their contracts.
+-- `label_shown` meets its contract: a walk of its code, written by tools/walk.py. All that it knows of `load_both`, `label_on` and `shown_part` is that they meet their contracts.
 -- The borrow of the job is opened, the job is copied out, and the borrow is closed at the same job.
-use mathlib.Core.Path.{_≡_, refl, _∙_}
+use mathlib.Core.Path.{_≡_, refl, _∙_, ap, subst}
 use Prim.Native.Nat.{ℕ, _<_, _^_}
 use mathlib.Core.List.{[], _∷_, List}
 use lib.ListN.{length, replicate, take}
 use lib.Seq.{sets}
-use Rattle.records.specs.Walking.Names.{URA, fullShare, named, w64, Val, vint, vptr, SProp, ent, emp, id⊢, via, fst∗, GName, Lft, Share, Memory, Routine, Heap, WpFn, Tables, Atoms, Fun, factI, givenOf, tables, tablesOf, Given, raw, _$_, _∵_, !, qed, move, keep, drop, fsplit, feqI, feqL, fsplit3, fjoin3, look, look-raw, init, forget, stop, hop, fld, from, load, of-opd, addr, and-then, no-more, assigns, land, returns, enter, alloc1, alloc0, params1, pass1, pass0, agg, whole, sub, look-in, FmC, fmOf, WpFn-mono, Is, shows, uint-vals, uint-tells, nothing-lawful, unit, usize, u8, u64, RefT, ptr-vals, mut-tells, sliceVal, ShrSlice, Room, slice-vals, shr-slice-tells, mut-slice-tells, shr-slice-lawful, plain, owned, peeks, heard, opens, closes, onEntry, Meets, tripleOf, Triple, entered, cited, Stays, stay-dropped, walkOf, walked, walk-meets, gave-slice, goes-gave-slice, stay-ref, goes-ref, spelt}
+use Rattle.records.specs.Walking.Names.{URA, fullShare, named, w64, Val, vint, vptr, SProp, ent, emp, id⊢, via, fst∗, GName, Lft, Share, Fml, fat, Memory, Routine, Heap, WpFn, Tables, Atoms, Fun, factI, givenOf, tables, tablesOf, Given, ‵, raw, _$_, _∵_, !, qed, move, keep, drop, rewrite, fsplit, feqI, _⊛_, use1, split, feqL, fsplit3, fjoin3, look, look-raw, init, forget, stop, hop, fld, from, load, of-opd, addr, and-then, no-more, assigns, land, returns, enter, alloc1, alloc0, params1, pass1, pass0, agg, whole, sub, look-in, FmC, fmOf, WpFn-mono, Is, shows, uint-vals, uint-tells, nothing-lawful, unit, usize, u8, u64, RefT, ptr-vals, mut-tells, sliceVal, ShrSlice, Room, slice-vals, shr-slice-tells, mut-slice-tells, shr-slice-copy, shr-slice-lawful, plain, only, owned, peeks, heard, opens, closes, onEntry, Meets, tripleOf, Triple, entered, cited, Stays, stay-dropped, walkOf, walked, walk-meets, gave-slice, goes-gave-slice, stay-ref, goes-ref, spelt}
 use denote.Struct.Laws as LL
 use Rattle.records.specs.Walking.Again.{lends, comes}
 use Rattle.records.specs.Walking.Calls.{Chosen, begins, asks, answers, ends, number}
-use Rattle.records.specs.Walking.Walk.{free-all}
+use Rattle.records.specs.Walking.Walk.{tyAt, free-all}
 use Rattle.records.specs.declared.Job.{Job}
 use Rattle.records.proofs.Job as Job-type
 use Rattle.records.proofs.Job.Laws as Job-laws
+use Rattle.job_calls.specs.declared.Label.{Label}
+use Rattle.job_calls.proofs.Label as Label-type
+use Rattle.job_calls.proofs.Label.Laws as Label-laws
 use Rattle.records.specs.declared.Node.{Node}
 use Rattle.records.proofs.Node as Node-type
 use Rattle.records.specs.Nodes.{flat}
-use Rattle.job_calls.specs.Loaded.{loadedJob}
-use Rattle.lent_job.specs.Calls.{labelPartCall}
+use Rattle.records.specs.Shown.{partShown}
+use Rattle.lent_job.specs.Calls.{labelSpanCall}
+use Rattle.job_calls.specs.Loaded.{SpanIs, loadedJob}
 use Rattle.job_calls.proofs.Laws.{shown-is}
 use Rattle.records.proofs.load_both as g₁
 use Rattle.records.proofs.load_both.Symbol as g₁-def
 use Rattle.records.proofs.load_both.Symbol.{name as #records·load-both}
 use Rattle.records.proofs.load_both.Met as g₁-thm
-use Rattle.job_calls.proofs.shown_on as g₂
-use Rattle.job_calls.proofs.shown_on.Symbol as g₂-def
-use Rattle.job_calls.proofs.shown_on.Symbol.{name as #job_calls·shown-on}
-use Rattle.job_calls.proofs.shown_on.Met as g₂-thm
+use Rattle.job_calls.proofs.label_on as g₂
+use Rattle.job_calls.proofs.label_on.Symbol as g₂-def
+use Rattle.job_calls.proofs.label_on.Symbol.{name as #job_calls·label-on}
+use Rattle.job_calls.proofs.label_on.Met as g₂-thm
+use Rattle.records.proofs.shown_part as g₃
+use Rattle.records.proofs.shown_part.Symbol as g₃-def
+use Rattle.records.proofs.shown_part.Symbol.{name as #records·shown-part}
+use Rattle.records.proofs.shown_part.Met as g₃-thm
 use Rattle.job_calls.proofs.label_shown.Key.{name as #job_calls·label-shown}
 use Rattle.job_calls.proofs.label_shown as f
 use Rattle.job_calls.proofs.label_shown.Statement as stated
@@ -37,7 +45,7 @@ abbrev stayed : Stays (f.ended .signature .params) (f.ended .kept)
 stayed = (stay-ref (0 ∷ []) tt (plain (λ _. Job-type.the-row)), (stay-dropped _ _, (stay-dropped _ _, (stay-dropped _ _, (stay-dropped _ _, (stay-dropped _ _, (stay-dropped _ _, (stay-dropped _ _, (stay-dropped _ _, (stay-dropped _ _, (stay-dropped _ _, (stay-dropped _ _, (gave-slice (9 ∷ []) tt (plain (λ _. usize)), tt)))))))))))))
 
 module _ {M : Type 1} (𝓤 : URA M) (H : Heap 𝓤) (A : Atoms 𝓤) (W : Given 𝓤 H A) (mem : Memory → SProp 𝓤) (run : Routine → Fun 𝓤) (𝓣 : Tables 𝓤 H)
-    (known₁ : Triple 𝓤 (𝓣 .C #records·load-both) (tripleOf 𝓤 H A g₁.signature (g₁.spec 𝓤 H A mem run))) (known₂ : Triple 𝓤 (𝓣 .C #job_calls·shown-on) (tripleOf 𝓤 H A g₂.signature (g₂.spec 𝓤 H A mem run))) where
+    (known₁ : Triple 𝓤 (𝓣 .C #records·load-both) (tripleOf 𝓤 H A g₁.signature (g₁.spec 𝓤 H A mem run))) (known₂ : Triple 𝓤 (𝓣 .C #job_calls·label-on) (tripleOf 𝓤 H A g₂.signature (g₂.spec 𝓤 H A mem run))) (known₃ : Triple 𝓤 (𝓣 .C #records·shown-part) (tripleOf 𝓤 H A g₃.signature (g₃.spec 𝓤 H A mem run))) where
   module _ (κ₀ κ₁ κ₂ κ₃ κ₄ κ₅ κ₆ κ₇ κ₈ κ₉ : Lft) (q₀ q₁ q₂ q₃ q₄ q₅ q₆ q₇ q₈ q₉ : Share) (b₀ o₀ : ℕ) (γ₀ : GName) (job : Job) (b₁ o₁ : ℕ) (γ₁ : GName) (ot : List ℕ) (b₂ o₂ : ℕ) (γ₂ : GName) (on : List Node) (b₃ o₃ : ℕ) (γ₃ : GName) (ol : List ℕ) (b₄ o₄ : ℕ) (γ₄ : GName) (nt : List ℕ) (b₅ o₅ : ℕ) (γ₅ : GName) (nn : List Node) (b₆ o₆ : ℕ) (γ₆ : GName) (nl : List ℕ) (b₇ o₇ : ℕ) (γ₇ : GName) (tt-text : List ℕ) (b₈ o₈ : ℕ) (γ₈ : GName) (tests : List ℕ) (b₉ o₉ : ℕ) (γ₉ : GName) (rows : List ℕ) (side : ℕ) (node : ℕ) (b₁₂ o₁₂ : ℕ) (γ₁₂ : GName) (scratch : List ℕ)
       (room-ot : Room u8 (length ot)) (room-on : Room Node-type.the-row (length on)) (room-ol : Room usize (length ol)) (room-nt : Room u8 (length nt)) (room-nn : Room Node-type.the-row (length nn)) (room-nl : Room usize (length nl)) (room-tt-text : Room u8 (length tt-text)) (room-tests : Room usize (length tests)) (room-rows : Room u64 (length rows)) (side-fits : side < 2 ^ 64) (node-fits : node < 2 ^ 64) (room-scratch : Room usize (length scratch)) where
     abbrev the-ot : RefT (List ℕ)
@@ -45,6 +53,9 @@ module _ {M : Type 1} (𝓤 : URA M) (H : Heap 𝓤) (A : Atoms 𝓤) (W : Given
 
     abbrev s-ot : Val
     s-ot = sliceVal (b₁, o₁) (length ot)
+
+    abbrev Own-ot : Fml
+    Own-ot = ShrSlice (named 1) κ₁ u8 .own the-ot (s-ot ∷ [])
 
     abbrev the-on : RefT (List Node)
     the-on = record { ptr = (b₂, o₂); name = γ₂; now = on }
@@ -63,6 +74,9 @@ module _ {M : Type 1} (𝓤 : URA M) (H : Heap 𝓤) (A : Atoms 𝓤) (W : Given
 
     abbrev s-nt : Val
     s-nt = sliceVal (b₄, o₄) (length nt)
+
+    abbrev Own-nt : Fml
+    Own-nt = ShrSlice (named 1) κ₁ u8 .own the-nt (s-nt ∷ [])
 
     abbrev the-nn : RefT (List Node)
     the-nn = record { ptr = (b₅, o₅); name = γ₅; now = nn }
@@ -110,44 +124,56 @@ module _ {M : Type 1} (𝓤 : URA M) (H : Heap 𝓤) (A : Atoms 𝓤) (W : Given
     abbrev to-2 : List ℕ → Chosen 𝓤 H A g₂.ended (g₂.clauses 𝓤 H A mem run)
     to-2 scratch1 = (((κ₁, (κ₃, (κ₅, (κ₆, (κ₇, (κ₈, (κ₉, tt))))))), (q₁, (q₃, (q₅, (q₆, (q₇, (q₈, (q₉, tt))))))), tt, (job, ((length on), ((length nn), (the-ot, (the-ol, (the-nt, (the-nl, (the-tt-text, (the-tests, (the-rows, (side, (node, ((the-scratch γ₁₂ scratch1), tt))))))))))))), (LL.val Job-type.the-type Job-laws.the-laws job ∷ [], (vint w64 (length on) ∷ [], (vint w64 (length nn) ∷ [], (s-ot ∷ [], (s-ol ∷ [], (s-nt ∷ [], (s-nl ∷ [], (s-tt-text ∷ [], (s-tests ∷ [], (s-rows ∷ [], (vint w64 side ∷ [], (vint w64 node ∷ [], (s-scratch ∷ [], tt)))))))))))))), tt)
 
+    abbrev to-3 : Label → Chosen 𝓤 H A g₃.ended (g₃.clauses 𝓤 H A mem run)
+    to-3 r2 = (((κ₁, tt), (q₁, tt), tt, (the-ot, (the-nt, (side, ((r2 .start), ((r2 .len), tt))))), (s-ot ∷ [], (s-nt ∷ [], (vint w64 side ∷ [], (vint w64 (r2 .start) ∷ [], (vint w64 (r2 .len) ∷ [], tt)))))), tt)
+
     walk : ent 𝓤 (onEntry 𝓤 H A f.signature (here .0 .0) (here .0 .1) (here .0 .3) (here .0 .4)) (WpFn 𝓤 H (𝓣 .C) (𝓣 .Λ) code.function (vptr b₀ o₀ ∷ s-ot ∷ s-on ∷ s-ol ∷ s-nt ∷ s-nn ∷ s-nl ∷ s-tt-text ∷ s-tests ∷ s-rows ∷ vint w64 side ∷ vint w64 node ∷ s-scratch ∷ []) (walkOf 𝓤 H A f.ended stayed (f.clauses 𝓤 H A mem run) .post here))
     walk =
         let fm : FmC 𝓤 H (W .laws) (𝓣 .C) = fmOf 𝓤 H (W .laws) 𝓣 in
         qed W (raw (onEntry 𝓤 H A f.signature (here .0 .0) (here .0 .1) (here .0 .3) (here .0 .4)) ∷ []) ∵
         begins W f.signature (here .0 .0) (here .0 .1) (here .0 .3) (here .0 .4) $ move ! (10 ∷ []) $ fsplit3 ! $ drop ! $ keep ! (0 ∷ 1 ∷ 2 ∷ 3 ∷ 4 ∷ 5 ∷ 6 ∷ 7 ∷ 8 ∷ 9 ∷ 10 ∷ 11 ∷ 12 ∷ 13 ∷ 14 ∷ 15 ∷ 16 ∷ 17 ∷ 18 ∷ 19 ∷ 20 ∷ 23 ∷ []) $
         enter ! (𝓣 .C) (𝓣 .Λ) code.function (vptr b₀ o₀ ∷ s-ot ∷ s-on ∷ s-ol ∷ s-nt ∷ s-nn ∷ s-nl ∷ s-tt-text ∷ s-tests ∷ s-rows ∷ vint w64 side ∷ vint w64 node ∷ s-scratch ∷ []) _ $
-        alloc1 ! (λ l₀. alloc1 ! (λ l₁. alloc1 ! (λ l₂. alloc1 ! (λ l₃. alloc1 ! (λ l₄. alloc1 ! (λ l₅. alloc1 ! (λ l₆. alloc1 ! (λ l₇. alloc1 ! (λ l₈. alloc1 ! (λ l₉. alloc1 ! (λ l₁₀. alloc1 ! (λ l₁₁. alloc1 ! (λ l₁₂. alloc1 ! (λ l₁₃. alloc1 ! (λ l₁₄. alloc1 ! (λ l₁₅. alloc1 ! (λ l₁₆. alloc1 ! (λ l₁₇. alloc1 ! (λ l₁₈. alloc1 ! (λ l₁₉. alloc1 ! (λ l₂₀. alloc1 ! (λ l₂₁. alloc0 ! $ params1 ! $
-        pass1 ! (init ! 40 refl (tt, tt)) $ pass1 ! (init ! 38 refl (tt, (tt, (record { fits = room-ot .0 }, tt)))) $ pass1 ! (init ! 36 refl (tt, (tt, (record { fits = room-on .0 }, tt)))) $ pass1 ! (init ! 34 refl (tt, (tt, (record { fits = room-ol .0 }, tt)))) $ pass1 ! (init ! 32 refl (tt, (tt, (record { fits = room-nt .0 }, tt)))) $ pass1 ! (init ! 30 refl (tt, (tt, (record { fits = room-nn .0 }, tt)))) $ pass1 ! (init ! 28 refl (tt, (tt, (record { fits = room-nl .0 }, tt)))) $ pass1 ! (init ! 26 refl (tt, (tt, (record { fits = room-tt-text .0 }, tt)))) $ pass1 ! (init ! 24 refl (tt, (tt, (record { fits = room-tests .0 }, tt)))) $ pass1 ! (init ! 22 refl (tt, (tt, (record { fits = room-rows .0 }, tt)))) $ pass1 ! (init ! 20 refl (tt, record { fits = side-fits })) $ pass1 ! (init ! 18 refl (tt, record { fits = node-fits })) $ pass1 ! (init ! 16 refl (tt, (tt, (record { fits = room-scratch .0 }, tt)))) $ pass0 ! $
-        move ! (44 ∷ 45 ∷ 46 ∷ []) $ opens ! tt Job-type.the-row {h = job} b₀ o₀ (λ vs. spelt ! Job-type.the-row (Is Job-type.the-row) (shows 𝓤 H A Job-type.the-row) (LL.vals Job-type.the-type Job-laws.the-laws) (LL.tells Job-type.the-type Job-laws.the-laws) fullShare job vs b₀ o₀ $ move ! (1 ∷ []) $
-        peeks ! Job-type.the-row (Is Job-type.the-row) (shows 𝓤 H A Job-type.the-row) job (LL.val Job-type.the-type Job-laws.the-laws job ∷ []) (λ was. move ! (1 ∷ 0 ∷ []) $ assigns ! (addr ! (from ! (fld ! refl (hop ! (look-in ! 21 (sub ! 0 refl (whole !))) (stop !))))) (from ! (stop !)) (init ! 17 refl (tt, tt)) $
-        assigns ! (agg ! (and-then ! (load ! (from ! (stop !)) (look ! 17 refl)) (and-then ! (load ! (from ! (fld ! refl (stop !))) (look-in ! 21 (sub ! 1 refl (whole !)))) (no-more !)))) (from ! (stop !)) (init ! 15 refl (tt, (tt, (record { fits = room-scratch .0 }, tt)))) $
-        -- [the record's cell; what it owns; the open borrow; obs; auth; _21; …; _0; …; the token of ot, nt; the token of on; the token of ol; the token of nn; the token of nl; the token of tt-text; the token of tests; the token of rows; the token of scratch; ot; on; ol; nt; nn; nl; tt-text; tests; rows; scratch]
+        alloc1 ! (λ l₀. alloc1 ! (λ l₁. alloc1 ! (λ l₂. alloc1 ! (λ l₃. alloc1 ! (λ l₄. alloc1 ! (λ l₅. alloc1 ! (λ l₆. alloc1 ! (λ l₇. alloc1 ! (λ l₈. alloc1 ! (λ l₉. alloc1 ! (λ l₁₀. alloc1 ! (λ l₁₁. alloc1 ! (λ l₁₂. alloc1 ! (λ l₁₃. alloc1 ! (λ l₁₄. alloc1 ! (λ l₁₅. alloc1 ! (λ l₁₆. alloc1 ! (λ l₁₇. alloc1 ! (λ l₁₈. alloc1 ! (λ l₁₉. alloc1 ! (λ l₂₀. alloc1 ! (λ l₂₁. alloc1 ! (λ l₂₂. alloc0 ! $ params1 ! $
+        pass1 ! (init ! 42 refl (tt, tt)) $ pass1 ! (init ! 40 refl (tt, (tt, (record { fits = room-ot .0 }, tt)))) $ pass1 ! (init ! 38 refl (tt, (tt, (record { fits = room-on .0 }, tt)))) $ pass1 ! (init ! 36 refl (tt, (tt, (record { fits = room-ol .0 }, tt)))) $ pass1 ! (init ! 34 refl (tt, (tt, (record { fits = room-nt .0 }, tt)))) $ pass1 ! (init ! 32 refl (tt, (tt, (record { fits = room-nn .0 }, tt)))) $ pass1 ! (init ! 30 refl (tt, (tt, (record { fits = room-nl .0 }, tt)))) $ pass1 ! (init ! 28 refl (tt, (tt, (record { fits = room-tt-text .0 }, tt)))) $ pass1 ! (init ! 26 refl (tt, (tt, (record { fits = room-tests .0 }, tt)))) $ pass1 ! (init ! 24 refl (tt, (tt, (record { fits = room-rows .0 }, tt)))) $ pass1 ! (init ! 22 refl (tt, record { fits = side-fits })) $ pass1 ! (init ! 20 refl (tt, record { fits = node-fits })) $ pass1 ! (init ! 18 refl (tt, (tt, (record { fits = room-scratch .0 }, tt)))) $ pass0 ! $
+        move ! (46 ∷ 47 ∷ 48 ∷ []) $ opens ! tt Job-type.the-row {h = job} b₀ o₀ (λ vs. spelt ! Job-type.the-row (Is Job-type.the-row) (shows 𝓤 H A Job-type.the-row) (LL.vals Job-type.the-type Job-laws.the-laws) (LL.tells Job-type.the-type Job-laws.the-laws) fullShare job vs b₀ o₀ $ move ! (1 ∷ []) $
+        peeks ! Job-type.the-row (Is Job-type.the-row) (shows 𝓤 H A Job-type.the-row) job (LL.val Job-type.the-type Job-laws.the-laws job ∷ []) (λ was. move ! (1 ∷ 0 ∷ []) $ assigns ! (addr ! (from ! (fld ! refl (hop ! (look-in ! 23 (sub ! 0 refl (whole !))) (stop !))))) (from ! (stop !)) (init ! 17 refl (tt, tt)) $
+        assigns ! (agg ! (and-then ! (load ! (from ! (stop !)) (look ! 17 refl)) (and-then ! (load ! (from ! (fld ! refl (stop !))) (look-in ! 23 (sub ! 1 refl (whole !)))) (no-more !)))) (from ! (stop !)) (init ! 15 refl (tt, (tt, (record { fits = room-scratch .0 }, tt)))) $
+        -- [the record's cell; what it owns; the open borrow; obs; auth; _22; …; _0; …; the token of ot, nt; the token of on; the token of ol; the token of nn; the token of nl; the token of tt-text; the token of tests; the token of rows; the token of scratch; ot; on; ol; nt; nn; nl; tt-text; tests; rows; scratch]
         -- `load_both`
-        move ! (67 ∷ 57 ∷ []) $ lends ! tt usize (named 9) (named 2) κ₉ q₉ γ₁₂ b₁₂ o₁₂ scratch (length scratch) refl (λ ν1-2 δ1-2. move ! (53 ∷ 55 ∷ 2 ∷ 61 ∷ 64 ∷ 0 ∷ []) $ asks W g₁.ended (g₁.clauses 𝓤 H A mem run) (to-1 ν1-2 δ1-2) (id⊢ 𝓤 (emp 𝓤)) $
-        answers ! fm g₁.ended (g₁.clauses 𝓤 H A mem run) known₁ (to-1 ν1-2 δ1-2) (and-then ! (load ! (from ! (stop !)) (look ! 43 refl)) (and-then ! (load ! (from ! (stop !)) (look ! 37 refl)) (and-then ! (load ! (from ! (stop !)) (look ! 17 refl)) (no-more !)))) (λ w1 r1 zs1.
+        move ! (69 ∷ 59 ∷ []) $ lends ! tt usize (named 9) (named 2) κ₉ q₉ γ₁₂ b₁₂ o₁₂ scratch (length scratch) refl (λ ν1-2 δ1-2. move ! (55 ∷ 57 ∷ 2 ∷ 63 ∷ 66 ∷ 0 ∷ []) $ asks W g₁.ended (g₁.clauses 𝓤 H A mem run) (to-1 ν1-2 δ1-2) (id⊢ 𝓤 (emp 𝓤)) $
+        answers ! fm g₁.ended (g₁.clauses 𝓤 H A mem run) known₁ (to-1 ν1-2 δ1-2) (and-then ! (load ! (from ! (stop !)) (look ! 45 refl)) (and-then ! (load ! (from ! (stop !)) (look ! 39 refl)) (and-then ! (load ! (from ! (stop !)) (look ! 17 refl)) (no-more !)))) (λ w1 r1 zs1.
         let scratch1 : List ℕ = zs1 .1 .1 .0 in
         move ! (1 ∷ []) $ heard ! (scratch1 ≡ sets (sets scratch 0 (flat (take 512 on))) 2048 (flat (take 512 nn))) (λ e1. move ! (1 ∷ []) $ peeks ! unit (Is unit) (shows 𝓤 H A unit) r1 (w1 ∷ []) (λ is1. land ! (from ! (stop !)) (init ! 25 refl (nothing-lawful 𝓤 H A W .typed r1 _ is1 .0)) $ drop ! $ move ! (3 ∷ 4 ∷ 0 ∷ []) $
         comes ! tt usize (named 9) (named 2) κ₉ q₉ γ₁₂ b₁₂ o₁₂ scratch (length scratch) refl room-scratch ν1-2 δ1-2 scratch1 (λ same1-scratch.
-        assigns ! (of-opd ! (load ! (from ! (hop ! (look ! 49 refl) (stop !))) (look-raw ! 4 refl))) (from ! (stop !)) (init ! 17 refl (LL.lawful Job-type.the-type Job-laws.the-laws 𝓤 H A W .typed job _ was .0)) $
-        assigns ! (of-opd ! (load ! (from ! (fld ! refl (stop !))) (look-in ! 45 (sub ! 1 refl (whole !))))) (from ! (stop !)) (init ! 15 refl (tt, record { fits = room-on .0 })) $
-        assigns ! (of-opd ! (load ! (from ! (fld ! refl (stop !))) (look-in ! 39 (sub ! 1 refl (whole !))))) (from ! (stop !)) (init ! 13 refl (tt, record { fits = room-nn .0 })) $ assigns ! (addr ! (from ! (fld ! refl (hop ! (look-in ! 25 (sub ! 0 refl (whole !))) (stop !))))) (from ! (stop !)) (init ! 11 refl (tt, tt)) $
-        assigns ! (agg ! (and-then ! (load ! (from ! (stop !)) (look ! 11 refl)) (and-then ! (load ! (from ! (fld ! refl (stop !))) (look-in ! 25 (sub ! 1 refl (whole !)))) (no-more !)))) (from ! (stop !)) (init ! 9 refl (tt, (tt, (record { fits = room-scratch .0 }, tt)))) $
-        -- [scratch; the token of scratch; the token of on; the token of nn; the record's cell; what it owns; the open borrow; obs; auth; _21; …; _0; …; the token of ot, nt; the token of ol; the token of nl; the token of tt-text; the token of tests; the token of rows; ot; ol; nt; nl; tt-text; tests; rows]
-        -- `shown_on`
-        number ! node node-fits $ number ! side side-fits $ number ! (length nn) (room-nn .0) $ number ! (length on) (room-on .0) $ owned ! Job-type.the-row (Is Job-type.the-row) (LL.makes Job-type.the-type Job-laws.the-plain 𝓤 H A) job _ was $
-        move ! (58 ∷ 59 ∷ 60 ∷ 61 ∷ 62 ∷ 63 ∷ 6 ∷ 0 ∷ 1 ∷ 2 ∷ 64 ∷ 65 ∷ 66 ∷ 67 ∷ 68 ∷ 69 ∷ 70 ∷ 3 ∷ 4 ∷ 5 ∷ []) $ asks W g₂.ended (g₂.clauses 𝓤 H A mem run) (to-2 scratch1) (id⊢ 𝓤 (emp 𝓤)) $
-        answers ! fm g₂.ended (g₂.clauses 𝓤 H A mem run) known₂ (to-2 scratch1) (and-then ! (load ! (from ! (stop !)) (look ! 16 refl)) (and-then ! (load ! (from ! (stop !)) (look ! 14 refl)) (and-then ! (load ! (from ! (stop !)) (look ! 12 refl)) (and-then ! (load ! (from ! (stop !)) (look ! 46 refl)) (and-then ! (load ! (from ! (stop !)) (look ! 42 refl)) (and-then ! (load ! (from ! (stop !)) (look ! 40 refl)) (and-then ! (load ! (from ! (stop !)) (look ! 36 refl)) (and-then ! (load ! (from ! (stop !)) (look ! 34 refl)) (and-then ! (load ! (from ! (stop !)) (look ! 32 refl)) (and-then ! (load ! (from ! (stop !)) (look ! 30 refl)) (and-then ! (load ! (from ! (stop !)) (look ! 28 refl)) (and-then ! (load ! (from ! (stop !)) (look ! 26 refl)) (and-then ! (load ! (from ! (stop !)) (look ! 8 refl)) (no-more !)))))))))))))) (λ w2 r2 zs2.
+        assigns ! (of-opd ! (load ! (from ! (hop ! (look ! 51 refl) (stop !))) (look-raw ! 4 refl))) (from ! (stop !)) (init ! 17 refl (LL.lawful Job-type.the-type Job-laws.the-laws 𝓤 H A W .typed job _ was .0)) $
+        assigns ! (of-opd ! (load ! (from ! (fld ! refl (stop !))) (look-in ! 47 (sub ! 1 refl (whole !))))) (from ! (stop !)) (init ! 15 refl (tt, record { fits = room-on .0 })) $
+        assigns ! (of-opd ! (load ! (from ! (fld ! refl (stop !))) (look-in ! 41 (sub ! 1 refl (whole !))))) (from ! (stop !)) (init ! 13 refl (tt, record { fits = room-nn .0 })) $ assigns ! (addr ! (from ! (fld ! refl (hop ! (look-in ! 27 (sub ! 0 refl (whole !))) (stop !))))) (from ! (stop !)) (init ! 11 refl (tt, tt)) $
+        assigns ! (agg ! (and-then ! (load ! (from ! (stop !)) (look ! 11 refl)) (and-then ! (load ! (from ! (fld ! refl (stop !))) (look-in ! 27 (sub ! 1 refl (whole !)))) (no-more !)))) (from ! (stop !)) (init ! 9 refl (tt, (tt, (record { fits = room-scratch .0 }, tt)))) $
+        -- [scratch; the token of scratch; the token of on; the token of nn; the record's cell; what it owns; the open borrow; obs; auth; _22; …; _0; …; the token of ot, nt; the token of ol; the token of nl; the token of tt-text; the token of tests; the token of rows; ot; ol; nt; nl; tt-text; tests; rows]
+        -- `label_on`
+        move ! (61 ∷ []) $ use1 W (‵ (Own-ot) ⊛ ‵ (Own-ot)) (shr-slice-copy 𝓤 H A W (named 1) κ₁ u8 .twice the-ot (s-ot ∷ [])) $ split ! $ move ! (64 ∷ []) $ use1 W (‵ (Own-nt) ⊛ ‵ (Own-nt)) (shr-slice-copy 𝓤 H A W (named 1) κ₁ u8 .twice the-nt (s-nt ∷ [])) $ split ! $ number ! node node-fits $ number ! side side-fits $
+        number ! (length nn) (room-nn .0) $ number ! (length on) (room-on .0) $ owned ! Job-type.the-row (Is Job-type.the-row) (LL.makes Job-type.the-type Job-laws.the-plain 𝓤 H A) job _ was $ move ! (64 ∷ 65 ∷ 66 ∷ 67 ∷ 68 ∷ 69 ∷ 10 ∷ 0 ∷ 1 ∷ 2 ∷ 7 ∷ 70 ∷ 5 ∷ 71 ∷ 72 ∷ 73 ∷ 74 ∷ 3 ∷ 4 ∷ 9 ∷ []) $
+        asks W g₂.ended (g₂.clauses 𝓤 H A mem run) (to-2 scratch1) (id⊢ 𝓤 (emp 𝓤)) $
+        answers ! fm g₂.ended (g₂.clauses 𝓤 H A mem run) known₂ (to-2 scratch1) (and-then ! (load ! (from ! (stop !)) (look ! 18 refl)) (and-then ! (load ! (from ! (stop !)) (look ! 16 refl)) (and-then ! (load ! (from ! (stop !)) (look ! 14 refl)) (and-then ! (load ! (from ! (stop !)) (look ! 50 refl)) (and-then ! (load ! (from ! (stop !)) (look ! 46 refl)) (and-then ! (load ! (from ! (stop !)) (look ! 44 refl)) (and-then ! (load ! (from ! (stop !)) (look ! 40 refl)) (and-then ! (load ! (from ! (stop !)) (look ! 38 refl)) (and-then ! (load ! (from ! (stop !)) (look ! 36 refl)) (and-then ! (load ! (from ! (stop !)) (look ! 34 refl)) (and-then ! (load ! (from ! (stop !)) (look ! 32 refl)) (and-then ! (load ! (from ! (stop !)) (look ! 30 refl)) (and-then ! (load ! (from ! (stop !)) (look ! 10 refl)) (no-more !)))))))))))))) (λ w2 r2 zs2.
         let scratch2 : List ℕ = zs2 .1 .1 .1 .1 .1 .1 .1 .1 .1 .1 .1 .1 .0 in
-        move ! (1 ∷ []) $ heard ! ((r2 .now ≡ labelPartCall (loadedJob job (length on) ot ol (length nn) nt nl tt-text tests rows scratch1) side node) × (scratch2 ≡ replicate (length scratch1) 0)) (λ e2. move ! (1 ∷ []) $
-        peeks ! (ShrSlice (named 1) κ₁ u8) (Is (ShrSlice (named 1) κ₁ u8)) (shows 𝓤 H A (ShrSlice (named 1) κ₁ u8)) r2 (w2 ∷ []) (λ is2. land ! (from ! (stop !)) (init ! 58 refl (shr-slice-lawful 𝓤 H A W (named 1) κ₁ u8 .typed r2 _ is2 .0)) $ move ! (1 ∷ []) $ fsplit ! $ move ! (1 ∷ []) $ feqL ! (λ same2-scratch.
-        -- [scratch, left; part; the token of ot, nt; the token of ol; the token of nl; the token of tt-text; the token of tests; the token of rows; the token of scratch; the token of on; the token of nn; the record's cell; what it owns; the open borrow; obs; auth; _21; …; _0; …]
+        move ! (1 ∷ []) $ heard ! (SpanIs (labelSpanCall (loadedJob job (length on) ot ol (length nn) nt nl tt-text tests rows scratch1) side node) r2 × (scratch2 ≡ replicate (length scratch1) 0)) (λ e2. move ! (1 ∷ []) $ peeks ! Label-type.the-row (Is Label-type.the-row) (shows 𝓤 H A Label-type.the-row) r2 (w2 ∷ []) (λ at2.
+        let tells2 : w2 ∷ [] ≡ LL.val Label-type.the-type Label-laws.the-laws r2 ∷ [] = LL.tells Label-type.the-type Label-laws.the-laws r2 _ at2 in
+        let is2 : Is Label-type.the-row r2 (LL.val Label-type.the-type Label-laws.the-laws r2 ∷ []) = subst (λ (us : List Val). Is Label-type.the-row r2 us) tells2 at2 in
+        let fields2 = LL.owed Label-type.the-type Label-laws.the-laws r2 _ is2 in
+        land ! (from ! (stop !)) (init ! 34 refl (LL.lawful Label-type.the-type Label-laws.the-laws 𝓤 H A W .typed r2 _ at2 .0)) $ rewrite ! 34 (λ (u : Val). ‵ (fat fullShare (tyAt (code.function .locals) 14) l₁₄ 0 u)) (ap only tells2) refl $ drop ! $ fsplit ! $ move ! (1 ∷ []) $ feqL ! (λ same2-scratch.
+        -- [scratch, left; the token of ot, nt; the token of ol; the token of nl; the token of tt-text; the token of tests; the token of rows; the token of scratch; nt; ot; the token of on; the token of nn; the record's cell; what it owns; the open borrow; obs; auth; _22; …; _0; …]
+        -- `shown_part`
+        number ! (r2 .len) (fields2 .1 .0 .1) $ number ! (r2 .start) (fields2 .0 .1) $ number ! side side-fits $ move ! (4 ∷ 12 ∷ 11 ∷ 0 ∷ 1 ∷ 2 ∷ []) $ asks W g₃.ended (g₃.clauses 𝓤 H A mem run) (to-3 r2) (id⊢ 𝓤 (emp 𝓤)) $
+        answers ! fm g₃.ended (g₃.clauses 𝓤 H A mem run) known₃ (to-3 r2) (and-then ! (load ! (from ! (stop !)) (look ! 55 refl)) (and-then ! (load ! (from ! (stop !)) (look ! 49 refl)) (and-then ! (load ! (from ! (stop !)) (look ! 37 refl)) (and-then ! (load ! (from ! (fld ! refl (stop !))) (look-in ! 31 (sub ! 0 refl (whole !)))) (and-then ! (load ! (from ! (fld ! refl (stop !))) (look-in ! 31 (sub ! 1 refl (whole !)))) (no-more !)))))) (λ w3 r3 zs3.
+        heard ! (r3 .now ≡ partShown ot nt side (r2 .start) (r2 .len)) (λ e3. peeks ! (ShrSlice (named 1) κ₁ u8) (Is (ShrSlice (named 1) κ₁ u8)) (shows 𝓤 H A (ShrSlice (named 1) κ₁ u8)) r3 (w3 ∷ []) (λ is3. land ! (from ! (stop !)) (init ! 60 refl (shr-slice-lawful 𝓤 H A W (named 1) κ₁ u8 .typed r3 _ is3 .0)) $
+        -- [part; the token of ot, nt; scratch, left; the token of ol; the token of nl; the token of tt-text; the token of tests; the token of rows; the token of scratch; the token of on; the token of nn; the record's cell; what it owns; the open borrow; obs; auth; _22; …; _0; …]
         -- the borrow of the record is closed
         move ! (11 ∷ 12 ∷ 13 ∷ 14 ∷ 15 ∷ []) $ closes ! tt Job-type.the-row job (LL.val Job-type.the-type Job-laws.the-laws job ∷ []) b₀ o₀ $
         -- the locals are freed
-        returns ! (look ! 56 refl) $ forget ! 14 refl $ forget ! 16 refl $ forget ! 18 refl $ forget ! 20 refl $ forget ! 22 refl $ forget ! 24 refl $ forget ! 26 refl $ forget ! 28 refl $ forget ! 30 refl $ forget ! 32 refl $ forget ! 34 refl $ forget ! 36 refl $ forget ! 38 refl $ forget ! 40 refl $ forget ! 42 refl $ forget ! 44 refl $ forget ! 46 refl $ forget ! 48 refl $ forget ! 50 refl $ forget ! 52 refl $ forget ! 54 refl $ forget ! 56 refl $
-        move ! (56 ∷ 57 ∷ 54 ∷ 55 ∷ 52 ∷ 53 ∷ 50 ∷ 51 ∷ 48 ∷ 49 ∷ 46 ∷ 47 ∷ 44 ∷ 45 ∷ 42 ∷ 43 ∷ 40 ∷ 41 ∷ 38 ∷ 39 ∷ 36 ∷ 37 ∷ 34 ∷ 35 ∷ 32 ∷ 33 ∷ 30 ∷ 31 ∷ 28 ∷ 29 ∷ 26 ∷ 27 ∷ 24 ∷ 25 ∷ 22 ∷ 23 ∷ 20 ∷ 21 ∷ 18 ∷ 19 ∷ 16 ∷ 17 ∷ 14 ∷ 15 ∷ []) $ free-all ! $ feqI ! (List Val) (vptr b₀ o₀ ∷ []) (vptr b₀ o₀ ∷ []) refl $ fjoin3 ! $
-        move ! (3 ∷ []) $ keep ! (2 ∷ 4 ∷ 11 ∷ 5 ∷ 12 ∷ 6 ∷ 7 ∷ 8 ∷ 9 ∷ 10 ∷ 1 ∷ 3 ∷ 0 ∷ []) $
-        ends ! f.ended stayed (f.clauses 𝓤 H A mem run) here w2 r2 (job, (tt, (tt, (tt, (tt, (tt, (tt, (tt, (tt, (tt, (tt, (tt, (scratch2, tt))))))))))))) (tt, (tt, (tt, (tt, (tt, (tt, (tt, (tt, (tt, (tt, (tt, (tt, ((same2-scratch ∙ same1-scratch), tt))))))))))))) (factI 𝓤 _ (emp 𝓤) (shown-is job ot on ol nt nn nl tt-text tests rows scratch scratch1 e1 side node _ scratch2 (e2 .0) (e2 .1))))))))))))))))))))))))))))))))))))
+        returns ! (look ! 58 refl) $ forget ! 14 refl $ forget ! 16 refl $ forget ! 18 refl $ forget ! 20 refl $ forget ! 22 refl $ forget ! 24 refl $ forget ! 26 refl $ forget ! 28 refl $ forget ! 30 refl $ forget ! 32 refl $ forget ! 34 refl $ forget ! 36 refl $ forget ! 38 refl $ forget ! 40 refl $ forget ! 42 refl $ forget ! 44 refl $ forget ! 46 refl $ forget ! 48 refl $ forget ! 50 refl $ forget ! 52 refl $ forget ! 54 refl $ forget ! 56 refl $ forget ! 58 refl $
+        move ! (58 ∷ 59 ∷ 56 ∷ 57 ∷ 54 ∷ 55 ∷ 52 ∷ 53 ∷ 50 ∷ 51 ∷ 48 ∷ 49 ∷ 46 ∷ 47 ∷ 44 ∷ 45 ∷ 42 ∷ 43 ∷ 40 ∷ 41 ∷ 38 ∷ 39 ∷ 36 ∷ 37 ∷ 34 ∷ 35 ∷ 32 ∷ 33 ∷ 30 ∷ 31 ∷ 28 ∷ 29 ∷ 26 ∷ 27 ∷ 24 ∷ 25 ∷ 22 ∷ 23 ∷ 20 ∷ 21 ∷ 18 ∷ 19 ∷ 16 ∷ 17 ∷ 14 ∷ 15 ∷ []) $ free-all ! $ feqI ! (List Val) (vptr b₀ o₀ ∷ []) (vptr b₀ o₀ ∷ []) refl $ fjoin3 ! $
+        move ! (2 ∷ []) $ keep ! (2 ∷ 3 ∷ 11 ∷ 5 ∷ 12 ∷ 6 ∷ 7 ∷ 8 ∷ 9 ∷ 10 ∷ 1 ∷ 4 ∷ 0 ∷ []) $
+        ends ! f.ended stayed (f.clauses 𝓤 H A mem run) here w3 r3 (job, (tt, (tt, (tt, (tt, (tt, (tt, (tt, (tt, (tt, (tt, (tt, (scratch2, tt))))))))))))) (tt, (tt, (tt, (tt, (tt, (tt, (tt, (tt, (tt, (tt, (tt, (tt, ((same2-scratch ∙ same1-scratch), tt))))))))))))) (factI 𝓤 _ (emp 𝓤) (shown-is job ot on ol nt nn nl tt-text tests rows scratch scratch1 e1 side node r2 _ scratch2 (e2 .0) (e2 .1) e3)))))))))))))))))))))))))))))))))))))))
 
   label-shown-meets : Meets 𝓤 H A f.signature (WpFn 𝓤 H (𝓣 .C) (𝓣 .Λ) code.function) (f.spec 𝓤 H A mem run)
   label-shown-meets =
@@ -164,4 +190,5 @@ label-shown-spec 𝓤 H 𝓜 𝓖 𝓡 =
     (tables 𝓤 H 𝓜 𝓡 code.env .C) (tables 𝓤 H 𝓜 𝓡 code.env .Λ) #job_calls·label-shown code.function (code.unfolded 𝓤 H 𝓜 𝓡)
     (label-shown-meets 𝓤 H (𝓖 .A) (givenOf 𝓤 H 𝓜 𝓖) (𝓜 .mem) (𝓡 .run) (tablesOf 𝓤 H 𝓜 (tables 𝓤 H 𝓜 𝓡 code.env))
     (cited 𝓤 H (tripleOf 𝓤 H (𝓖 .A) g₁.signature (g₁.spec 𝓤 H (𝓖 .A) (𝓜 .mem) (𝓡 .run))) 𝓜 𝓡 code.env #records·load-both g₁-def.routine code.calls-records·load-both (g₁-thm.met 𝓤 H 𝓜 𝓖 𝓡))
-    (cited 𝓤 H (tripleOf 𝓤 H (𝓖 .A) g₂.signature (g₂.spec 𝓤 H (𝓖 .A) (𝓜 .mem) (𝓡 .run))) 𝓜 𝓡 code.env #job_calls·shown-on g₂-def.routine code.calls-job-calls·shown-on (g₂-thm.met 𝓤 H 𝓜 𝓖 𝓡)))
+    (cited 𝓤 H (tripleOf 𝓤 H (𝓖 .A) g₂.signature (g₂.spec 𝓤 H (𝓖 .A) (𝓜 .mem) (𝓡 .run))) 𝓜 𝓡 code.env #job_calls·label-on g₂-def.routine code.calls-job-calls·label-on (g₂-thm.met 𝓤 H 𝓜 𝓖 𝓡))
+    (cited 𝓤 H (tripleOf 𝓤 H (𝓖 .A) g₃.signature (g₃.spec 𝓤 H (𝓖 .A) (𝓜 .mem) (𝓡 .run))) 𝓜 𝓡 code.env #records·shown-part g₃-def.routine code.calls-records·shown-part (g₃-thm.met 𝓤 H 𝓜 𝓖 𝓡)))
