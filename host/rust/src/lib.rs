@@ -3,6 +3,9 @@
 
 pub mod answer;
 pub mod calls;
+pub mod drive;
 pub mod generate;
 pub mod independent;
 pub mod lent;
+pub mod lent_calls;
+pub mod records;

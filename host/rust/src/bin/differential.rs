@@ -11,7 +11,7 @@ use rivetyellow_host::independent::closing;
 use rivetyellow_host::independent::job::Job;
 use rivetyellow_host::independent::program::Kind;
 use rivetyellow_host::independent::suite::meet;
-use rivetyellow_host::lent::{pattern, Lent};
+use rivetyellow_host::lent::{front, pattern, Lent};
 use std::collections::BTreeMap;
 use std::time::Instant;
 use std::{env, fs, process};
@@ -74,8 +74,8 @@ impl Statistics {
 /// The memory lent to the linked calls, and room for comparison.
 #[derive(Default)]
 struct Memory {
-    texts: [Lent; 4],
-    out: Lent,
+    texts: [Lent<u8>; 4],
+    out: Lent<u8>,
     expected: Vec<u8>,
 }
 
@@ -167,7 +167,7 @@ impl<'g> Comparison<'g> {
         }
         let found = self.linked.map(|linked| {
             let Memory { texts, out, .. } = &mut *self.memory;
-            out.fill(random, length);
+            out.fill(front(random), length, pattern);
             let [old, new, tests, _] = &*texts;
             let (old, new, tests) = (old.slice(), new.slice(), tests.slice());
             match call {
@@ -222,7 +222,7 @@ impl<'g> Comparison<'g> {
         if self.linked.is_some() {
             for at in 0..4 {
                 let text = self.texts()[at];
-                self.memory.texts[at].hold(random, text);
+                self.memory.texts[at].hold(front(random), text);
             }
         }
         self.reads();

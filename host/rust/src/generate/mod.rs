@@ -5,6 +5,7 @@ pub mod limits;
 pub mod model;
 pub mod programs;
 pub mod random;
+pub mod sequences;
 pub mod sheets;
 pub mod tests;
 
@@ -25,13 +26,24 @@ pub struct Generated {
     pub passes: bool,
 }
 
-/// Makes a job.
-pub fn job(random: &mut Random) -> Generated {
-    let mut texts = match random.below(1_000) {
+/// Programs and tests, few of them at a limit or above it.
+fn texts(random: &mut Random) -> Texts {
+    match random.below(1_000) {
         0..=5 => limits::heavy(random),
         6..=39 => limits::light(random),
         _ => small(random),
-    };
+    }
+}
+
+/// Makes a job whose texts are mostly right.
+pub fn mostly_right(random: &mut Random) -> Generated {
+    let texts = texts(random);
+    finish(random, texts)
+}
+
+/// Makes a job.
+pub fn job(random: &mut Random) -> Generated {
+    let mut texts = texts(random);
     if random.percent(25) {
         for _ in 0..random.within(1, 2) {
             let text = match random.below(5) {

@@ -25,12 +25,44 @@ impl<'a> Job<'a> {
     pub fn graphs(&self) -> (Graph<'_>, Graph<'_>) {
         closing::graphs(&self.old, &self.new)
     }
+
+    /// Writes the sheet.
+    pub fn sheet(&self, out: &mut [u8]) -> Answer {
+        let (old, new) = self.graphs();
+        match closing::close(&old, &new, |_, _| ()) {
+            None => TOO_MANY,
+            Some(closing) => sheet::write(self, &closing, out),
+        }
+    }
+
+    /// Writes one test's record line.
+    pub fn record(&self, test: usize, out: &mut [u8]) -> Answer {
+        if test >= self.suite.len() {
+            return UNNAMED;
+        }
+        let row = self.suite.row(test);
+        let (old, new) = self.graphs();
+        let mut joined = Joined::default();
+        match closing::close(&old, &new, |edge, other| joined.keep(row, edge, other)) {
+            None => TOO_MANY,
+            Some(closing) => sheet::write_record(self, &closing, &joined, test, out),
+        }
+    }
+
+    /// Checks a sheet.
+    pub fn check(&self, sheet: &[u8]) -> Answer {
+        super::check::check(self, sheet)
+    }
 }
+
+/// A call's own number names nothing.
+pub const UNNAMED: Answer = Answer::new(6, 0);
 
 /// More pairs than the limit exist.
 const TOO_MANY: Answer = Answer::new(15, 0);
 
-fn answer(outcome: Outcome<Answer>) -> Answer {
+/// The answer of a call that may end early.
+pub fn answer(outcome: Outcome<Answer>) -> Answer {
     outcome.unwrap_or_else(|refusal| refusal)
 }
 
@@ -56,39 +88,15 @@ pub fn read_tests(old: &[u8], new: &[u8], tests: &[u8]) -> Answer {
 
 /// Writes the sheet.
 pub fn sheet(old: &[u8], new: &[u8], tests: &[u8], out: &mut [u8]) -> Answer {
-    let job = match Job::read(old, new, tests) {
-        Ok(job) => job,
-        Err(refusal) => return refusal,
-    };
-    let (old, new) = job.graphs();
-    match closing::close(&old, &new, |_, _| ()) {
-        None => TOO_MANY,
-        Some(closing) => sheet::write(&job, &closing, out),
-    }
+    answer(Job::read(old, new, tests).map(|job| job.sheet(out)))
 }
 
 /// Writes one test's record line.
 pub fn record(old: &[u8], new: &[u8], tests: &[u8], test: usize, out: &mut [u8]) -> Answer {
-    let job = match Job::read(old, new, tests) {
-        Ok(job) => job,
-        Err(refusal) => return refusal,
-    };
-    if test >= job.suite.len() {
-        return Answer::new(6, 0);
-    }
-    let row = job.suite.row(test);
-    let (old, new) = job.graphs();
-    let mut joined = Joined::default();
-    match closing::close(&old, &new, |edge, other| joined.keep(row, edge, other)) {
-        None => TOO_MANY,
-        Some(closing) => sheet::write_record(&job, &closing, &joined, test, out),
-    }
+    answer(Job::read(old, new, tests).map(|job| job.record(test, out)))
 }
 
 /// Checks a sheet.
 pub fn check(old: &[u8], new: &[u8], tests: &[u8], sheet: &[u8]) -> Answer {
-    match Job::read(old, new, tests) {
-        Ok(job) => super::check::check(&job, sheet),
-        Err(refusal) => refusal,
-    }
+    answer(Job::read(old, new, tests).map(|job| job.check(sheet)))
 }

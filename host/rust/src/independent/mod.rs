@@ -1,11 +1,14 @@
-//! Whole jobs over byte slices, written from the documents alone.
+//! Whole jobs over byte slices, written from the documents alone; and the lent
+//! job over them, whose tables are laid out as docs/MEMORY.md says.
 
 pub mod check;
 pub mod closing;
 pub mod job;
+pub mod lent_job;
 pub mod program;
 pub mod sheet;
 pub mod suite;
+pub mod tables;
 pub mod text;
 
 pub use job::{check, read_new, read_old, read_tests, record, sheet};
