@@ -78,7 +78,7 @@ pub const STALE: usize = 5;
 
 /// All that is lent.
 #[derive(Clone, Default)]
-struct Memory {
+pub struct Memory {
     job: Lent<Job>,
     texts: [Lent<u8>; 4],
     nodes: [Lent<Node>; 2],
@@ -348,6 +348,16 @@ impl Driver {
 
     pub fn job(&self) -> Job {
         self.independent.job.slice()[0]
+    }
+
+    /// All that is lent, as it is now.
+    pub fn memory(&self) -> Memory {
+        self.independent.clone()
+    }
+
+    /// What is no longer as it was then.
+    pub fn changed(&self, then: &Memory) -> Vec<&'static str> {
+        self.independent.differing(then)
     }
 
     /// How many elements of a table are lent.
