@@ -6,13 +6,19 @@
  * two versions are paired, which old edges are dangerous, which tests must be
  * repeated. The checker judges any sheet against the same three texts.
  *
- * Each call below runs one whole job and returns one number:
+ * There are two sorts of calls, for the same work and with the same answers:
+ *   - Six calls run one whole job each. They are lent texts and an output.
+ *   - The calls ry_job_.. work on a lent job: a record and tables that the
+ *     caller keeps from call to call. The texts are read into them once, and
+ *     then several requests are made.
+ *
+ * A call returns one number (ry_job_reset and ry_job_label excepted):
  *
  *     number * 4294967296 + place
  *
  * Take it apart with ry_number and ry_place. On success the number is 0 and
  * the place is the count of bytes written, 0 for a call that writes nothing.
- * Otherwise the number says why the job is refused and the place says where.
+ * Otherwise the number says why the call is refused and the place says where.
  *
  * Texts and outputs
  *   A text or an output is a pointer and a length in bytes. Texts are not
@@ -21,26 +27,29 @@
  *
  * Ownership and memory
  *   All memory stays the caller's. Texts are only read; an output is only
- *   written, and must not overlap a text. Nothing is kept between calls: no
- *   pointer, no state, no allocated memory. So calls may run at the same time
- *   on several threads, each with an output of its own.
+ *   written. What a call may write must not overlap anything else that it is
+ *   lent. Nothing is kept between calls but in what is lent: no pointer, no
+ *   state, no allocated memory. So calls may run at the same time on several
+ *   threads, each with an output, a job, tables and scratch of its own.
  *
  *   On success the first `place` bytes of the output are written and the bytes
  *   after them stay as they were. A refused call changes no byte of it, also
  *   where the output is too short.
  *
  * Stack
- *   The tables of a call lie on its stack while it runs. They have fixed
- *   lengths, so the need does not grow with the texts. Measured on x86-64 it is
- *   at most 304,615 bytes (298 KiB). Give the calling thread a stack of 512 KiB
+ *   A call that runs a whole job has its tables on its stack while it runs, a
+ *   call of the lent job some work tables. They have fixed lengths, so the need
+ *   does not grow with the texts. Measured on x86-64 it is at most 304,615
+ *   bytes (298 KiB). Give the calling thread a stack of 512 KiB
  *   (RY_STACK_ROOM): the rest is margin, also for the caller's own frames. No
  *   call tests how much is left; without the room the process faults.
  *
  * Order
+ *   A call of the lent job tests RY_WRONG_STAGE, then RY_LENT_MEMORY_WRONG.
  *   A call reads its texts to their ends in the order old, new, tests, sheet;
  *   the first refusal is the answer. Then, as far as the call gives them,
- *   RY_CLAIM_FALSE, RY_NOT_NAMED for the test's number, RY_TOO_MANY_PAIRS,
- *   RY_OUTPUT_SHORT.
+ *   RY_CLAIM_FALSE, RY_NOT_NAMED for the call's own numbers,
+ *   RY_TOO_MANY_PAIRS, RY_OUTPUT_SHORT.
  *   A text is judged line by line, so its first offending line is named.
  */
 #ifndef RIVETYELLOW_H
@@ -71,8 +80,8 @@ enum {
     RY_TOO_MANY_LINES = 4,
     /* Two procedures or two tests of one name. Place: the second's line. */
     RY_NAME_TWICE = 5,
-    /* A number names no node of its procedure. Place: the line. Of ry_record
-       also: there is no test of this number. Place: 0. */
+    /* A number names no node of its procedure. Place: the line. Of a call's own
+       number: there is no such test, side, node or request. Place: 0. */
     RY_NOT_NAMED = 6,
     /* Two edges of one node have the same word. Place: the second's line. */
     RY_WORD_TWICE = 7,
@@ -96,11 +105,15 @@ enum {
            the new node has its word and the ends are listed;
          5 every test whose row holds a D edge is listed. */
     RY_CLAIM_FALSE = 12,
-    /* 13 and 14 are about a lent job record; no call declared here gives them. */
+    /* The job is at another stage than the call is for. Place: 0. This and 14
+       are given by the calls of the lent job only. */
     RY_WRONG_STAGE = 13,
+    /* A lent table or the scratch is too short; or job and tables are not what
+       reading the lent texts leaves: one of them was changed, or another text
+       is lent than was read. Place: 0. */
     RY_LENT_MEMORY_WRONG = 14,
-    /* The two versions have more than 4,096 pairs. Place: 0. Given by ry_sheet
-       and ry_record only. */
+    /* The two versions have more than 4,096 pairs. Place: 0. Given for a sheet
+       or a record line only. */
     RY_TOO_MANY_PAIRS = 15,
     /* The output is shorter than what must be written. Place: 0. */
     RY_OUTPUT_SHORT = 16
@@ -114,6 +127,50 @@ enum {
 #define RY_RECORD_ROOM 1045
 /* A stack of this many bytes is enough for every call, with a margin. */
 #define RY_STACK_ROOM 524288
+
+/*
+ * The lent job.
+ *
+ * The lengths of what is lent, in elements. Shorter is refused; longer is
+ * taken, and what lies beyond what a call writes stays.
+ */
+/* Nodes (struct ry_node) and links (size_t) of each version. */
+#define RY_JOB_NODES 512
+#define RY_JOB_LINKS 6080
+/* Tests (size_t) and their rows (uint64_t). */
+#define RY_JOB_TESTS 400
+#define RY_JOB_ROWS 3200
+/* Scratch (size_t) of a call that reads, and of one of stage 3. */
+#define RY_JOB_READ_SCRATCH 8128
+#define RY_JOB_SCRATCH 16912
+
+/* The job: its stage, and what was counted when the texts were read. Make it a
+   fresh one with ry_job_reset; only the calls change it after that. */
+struct ry_job {
+    size_t stage; /* 0 empty, 1 old read, 2 new read, 3 tests read */
+    size_t old_procs, old_nodes, old_edges;
+    size_t new_procs, new_nodes, new_edges;
+    size_t tests;
+};
+
+/* A node: its kind (E 0, S 1, C 2, X 3), where its label stands in the text of
+   its version and how long it is, and the procedure that a C calls. */
+struct ry_node {
+    size_t kind, start, len, callee;
+};
+
+/* What ry_job_call can be asked for, and what it uses of its arguments. */
+enum {
+    /* Write the sheet: out. Gives 0, 15, 16. */
+    RY_REQUEST_SHEET = 0,
+    /* Write the record line of the test a: out. Gives 0, 6, 15, 16. */
+    RY_REQUEST_RECORD = 1,
+    /* Check the sheet in input. Gives 0, 1, 2, 4, 11, 12. */
+    RY_REQUEST_CHECK = 2,
+    /* Can the label of a node be shown: a is the side, 0 old or 1 new, b the
+       node. Gives 0, 6. Where it stands is told by ry_job_label. */
+    RY_REQUEST_LABEL = 3
+};
 
 /* The number of an answer. */
 static inline uint32_t ry_number(uint64_t answer)
@@ -164,6 +221,95 @@ uint64_t ry_check(const uint8_t *old_text, size_t old_length,
                   const uint8_t *new_text, size_t new_length,
                   const uint8_t *tests_text, size_t tests_length,
                   const uint8_t *sheet_text, size_t sheet_length);
+
+/*
+ * The calls of the lent job, in the order of its stages. Each is lent the job
+ * and, beside what it reads or writes itself, all texts that were read before
+ * with their tables: they must be the same bytes, and tables and job as the
+ * calls left them. What a table holds before it is written is of no matter.
+ *
+ * A pointer is aligned as its type asks and never null; a length counts bytes,
+ * a count elements. Job, written tables, scratch and output must not overlap
+ * each other or anything else that is lent.
+ *
+ * The scratch may hold anything before and is zero over its whole length after
+ * every call, whatever the answer. A refused call changes nothing else. One that
+ * succeeds leaves what lies beyond what it writes as it was.
+ *
+ * Each gives 13 and 14 beside the numbers named.
+ */
+
+/* Makes the job a fresh one, of stage 0, whatever it held. Touches nothing
+   else. The first call on a job; allowed at every stage. */
+void ry_job_reset(struct ry_job *job);
+
+/* Stage 0: reads the old program into nodes and links. Gives 0, 1 to 9. */
+uint64_t ry_job_read_old(struct ry_job *job,
+                         const uint8_t *old_text, size_t old_length,
+                         struct ry_node *nodes, size_t nodes_count,
+                         size_t *links, size_t links_count,
+                         size_t *scratch, size_t scratch_count);
+
+/* Stage 1: reads the new program into nodes and links, others than the old
+   one's. Gives 0, 1 to 9. */
+uint64_t ry_job_read_new(struct ry_job *job,
+                         const uint8_t *old_text, size_t old_length,
+                         const struct ry_node *old_nodes, size_t old_nodes_count,
+                         const size_t *old_links, size_t old_links_count,
+                         const uint8_t *new_text, size_t new_length,
+                         struct ry_node *nodes, size_t nodes_count,
+                         size_t *links, size_t links_count,
+                         size_t *scratch, size_t scratch_count);
+
+/* Stage 2: reads the tests against the old program's edges into tests and
+   rows. Gives 0, 1, 2, 4, 5, 10. */
+uint64_t ry_job_read_tests(struct ry_job *job,
+                           const uint8_t *old_text, size_t old_length,
+                           const struct ry_node *old_nodes, size_t old_nodes_count,
+                           const size_t *old_links, size_t old_links_count,
+                           const uint8_t *new_text, size_t new_length,
+                           const struct ry_node *new_nodes, size_t new_nodes_count,
+                           const size_t *new_links, size_t new_links_count,
+                           const uint8_t *tests_text, size_t tests_length,
+                           size_t *tests, size_t tests_count,
+                           uint64_t *rows, size_t rows_count,
+                           size_t *scratch, size_t scratch_count);
+
+/* Stage 3: serves a request (RY_REQUEST_..), any number of times and in any
+   order. What the request does not use is not looked at and not touched: pass
+   0 for a number, and any text or output, as one of no bytes. The job stays at
+   stage 3. Gives the request's numbers; 6 if there is no such request. */
+uint64_t ry_job_call(struct ry_job *job,
+                     const uint8_t *old_text, size_t old_length,
+                     const struct ry_node *old_nodes, size_t old_nodes_count,
+                     const size_t *old_links, size_t old_links_count,
+                     const uint8_t *new_text, size_t new_length,
+                     const struct ry_node *new_nodes, size_t new_nodes_count,
+                     const size_t *new_links, size_t new_links_count,
+                     const uint8_t *tests_text, size_t tests_length,
+                     const size_t *tests, size_t tests_count,
+                     const uint64_t *rows, size_t rows_count,
+                     size_t request, size_t a, size_t b,
+                     const uint8_t *input, size_t input_length,
+                     size_t *scratch, size_t scratch_count,
+                     uint8_t *out, size_t out_length);
+
+/* Stage 3: where the label of a node stands in the text of its side, 0 old or
+   1 new. Returns start * 4294967296 + length: ry_number takes the start out and
+   ry_place the length. An entry's or exit's label has no bytes. Returns 0 when
+   refused; the request RY_REQUEST_LABEL with the same numbers says why. */
+uint64_t ry_job_label(struct ry_job *job,
+                      const uint8_t *old_text, size_t old_length,
+                      const struct ry_node *old_nodes, size_t old_nodes_count,
+                      const size_t *old_links, size_t old_links_count,
+                      const uint8_t *new_text, size_t new_length,
+                      const struct ry_node *new_nodes, size_t new_nodes_count,
+                      const size_t *new_links, size_t new_links_count,
+                      const uint8_t *tests_text, size_t tests_length,
+                      const size_t *tests, size_t tests_count,
+                      const uint64_t *rows, size_t rows_count,
+                      size_t side, size_t node,
+                      size_t *scratch, size_t scratch_count);
 
 #ifdef __cplusplus
 }

@@ -1,5 +1,5 @@
 /*
- * A host program for the test selector.
+ * A host program for the test selector, by the calls that run a whole job.
  *
  *     host sheet OLD NEW TESTS          prints the sheet, then all record lines
  *     host check OLD NEW TESTS SHEET    says whether the sheet passes
@@ -10,122 +10,9 @@
  *
  * Build: cc -std=c99 -Wall -Wextra -I../../include host.c -L DIR -lrivetyellow
  */
-#include "rivetyellow.h"
+#include "shared.h"
 
-#include <stdio.h>
-#include <stdlib.h>
 #include <string.h>
-
-struct text {
-    uint8_t *bytes;
-    size_t length;
-};
-
-/* The texts of a job: old, new, tests and, to check, the sheet. */
-enum { OLD, NEW, TESTS, SHEET, TEXTS };
-
-static const char *const text_name[TEXTS] = {
-    "the old program", "the new program", "the test file", "the sheet"
-};
-
-/* Reads a whole file, however long: the library judges its length. The bytes
-   are never null, so an empty file is lent as the calls ask. */
-static int read_file(const char *path, struct text *text)
-{
-    size_t room = RY_TEXT_LIMIT + 1;
-    size_t got;
-    FILE *file = fopen(path, "rb");
-
-    text->length = 0;
-    text->bytes = malloc(room);
-    if (file == NULL || text->bytes == NULL) {
-        perror(path);
-        if (file != NULL)
-            fclose(file);
-        return 0;
-    }
-    while ((got = fread(text->bytes + text->length, 1, room - text->length, file)) > 0) {
-        text->length += got;
-        if (text->length == room) {
-            uint8_t *longer = room > SIZE_MAX / 2 ? NULL : realloc(text->bytes, 2 * room);
-            if (longer == NULL) {
-                fprintf(stderr, "%s: not enough memory\n", path);
-                fclose(file);
-                return 0;
-            }
-            text->bytes = longer;
-            room *= 2;
-        }
-    }
-    if (ferror(file)) {
-        perror(path);
-        fclose(file);
-        return 0;
-    }
-    fclose(file);
-    return 1;
-}
-
-/* What a refusal means. */
-static const char *in_words(uint32_t number)
-{
-    switch (number) {
-    case RY_TEXT_TOO_LONG:
-        return "the text has more than 65,536 bytes";
-    case RY_LINE_MALFORMED:
-        return "the line is malformed, or the text is empty or its last line has no end";
-    case RY_LINE_OUT_OF_PLACE:
-        return "the line is out of place";
-    case RY_TOO_MANY_LINES:
-        return "there are more lines of this kind than allowed";
-    case RY_NAME_TWICE:
-        return "the name is there twice";
-    case RY_NOT_NAMED:
-        return "a number names nothing that is there";
-    case RY_WORD_TWICE:
-        return "the node has this word twice";
-    case RY_PROCEDURE_BROKEN:
-        return "the procedure has not one entry and one exit, or a node has too few or "
-               "too many edges, or the edge of an entry or call has not the word -";
-    case RY_UNKNOWN_CALLEE:
-        return "the call names no procedure";
-    case RY_ROW_WRONG:
-        return "the coverage row has a wrong length, digit or spare bit";
-    case RY_SHEET_WRONG:
-        return "order, count, number or test name is wrong, or the line is missing";
-    case RY_CLAIM_FALSE:
-        return "the sheet claims what does not hold";
-    case RY_WRONG_STAGE:
-        return "the call is not of this stage";
-    case RY_LENT_MEMORY_WRONG:
-        return "the lent memory is too short or not what reading left";
-    case RY_TOO_MANY_PAIRS:
-        return "the versions have more than 4,096 pairs";
-    case RY_OUTPUT_SHORT:
-        return "the output is too short";
-    default:
-        return "the number is not known";
-    }
-}
-
-/* The rules of the check. */
-static const char *claim_in_words(uint32_t rule)
-{
-    switch (rule) {
-    case 1:
-        return "the entries of the first procedures are not listed";
-    case 2:
-        return "a listed pair is not alike";
-    case 3:
-        return "a listed pair of calls lacks the entries of the procedure called";
-    case 4:
-        return "an old edge is neither listed as dangerous nor led to a listed pair";
-    case 5:
-        return "a test that crosses a listed dangerous edge is not listed";
-    default:
-        return "the rule is not known";
-    }
-}
 
 /* Which text a refusal of reading is about: the first that is refused. */
 static int text_refused(const struct text *t)
@@ -140,22 +27,9 @@ static int text_refused(const struct text *t)
     return SHEET;
 }
 
-static int refused(const struct text *texts, uint64_t answer)
+static int refused_by(const struct text *texts, uint64_t answer)
 {
-    uint32_t number = ry_number(answer);
-    uint32_t place = ry_place(answer);
-
-    printf("refused (%lu): ", (unsigned long)number);
-    if (number == RY_CLAIM_FALSE)
-        printf("the sheet, rule %lu: %s\n", (unsigned long)place, claim_in_words(place));
-    else if (number > RY_CLAIM_FALSE)
-        printf("%s\n", in_words(number));
-    else if (place == 0)
-        printf("%s: %s\n", text_name[text_refused(texts)], in_words(number));
-    else
-        printf("%s, line %lu: %s\n", text_name[text_refused(texts)], (unsigned long)place,
-               in_words(number));
-    return 1;
+    return refused(text_name[text_refused(texts)], answer);
 }
 
 /* Ends a run whose output could not be written. */
@@ -173,7 +47,7 @@ static int print_sheet(const struct text *t)
                                t[TESTS].bytes, t[TESTS].length, out, sizeof out);
 
     if (ry_number(answer) != RY_DONE)
-        return refused(t, answer);
+        return refused_by(t, answer);
     if (fwrite(out, 1, ry_place(answer), stdout) != ry_place(answer))
         return 2;
     for (test = 0;; test++) {
@@ -183,7 +57,7 @@ static int print_sheet(const struct text *t)
         if (ry_number(answer) == RY_NOT_NAMED)
             return 0;
         if (ry_number(answer) != RY_DONE)
-            return refused(t, answer);
+            return refused_by(t, answer);
         if (fwrite(out, 1, ry_place(answer), stdout) != ry_place(answer))
             return 2;
     }
@@ -195,7 +69,7 @@ static int check_sheet(const struct text *t)
                                t[TESTS].bytes, t[TESTS].length, t[SHEET].bytes, t[SHEET].length);
 
     if (ry_number(answer) != RY_DONE)
-        return refused(t, answer);
+        return refused_by(t, answer);
     printf("the sheet passes\n");
     return 0;
 }

@@ -290,8 +290,8 @@ fn never_reset() {
 /// At each stage every call that is not of it.
 #[test]
 fn not_of_this_stage() {
-    for stage in 0..3 {
-        let others: Vec<Call> = READS.into_iter().filter(|&r| r != READS[stage]).collect();
+    for (stage, own) in READS.into_iter().enumerate() {
+        let others: Vec<Call> = READS.into_iter().filter(|&read| read != own).collect();
         Drive::p2(stage).wrong_stage(&others);
         Drive::p2(stage).wrong_stage(&OF_3);
     }
