@@ -317,7 +317,7 @@ pub fn heavy(random: &mut Random) -> Texts {
 }
 
 /// Sheets of 4,096 and 4,097 M lines for rings with 4,097 pairs.
-fn many_pairs(random: &mut Random) -> Texts {
+pub fn many_pairs(random: &mut Random) -> Texts {
     let (old, new) = (ring(63), ring(65));
     let mut texts = Texts::both(&old, &new);
     let mut pairs = vec![(0, 0)];

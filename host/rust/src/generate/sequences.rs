@@ -3,9 +3,9 @@
 //! the job or a length is spoilt, and made right again afterwards.
 
 use super::damage::damage;
-use super::limits::{many_tests, ring};
+use super::limits::{self, many_tests, ring};
 use super::random::Random;
-use super::{mostly_right, Generated};
+use super::{finish, mostly_right, Generated};
 use crate::answer::Answer;
 use crate::drive::{Bytes, Call, Driver, Table, Text, OUTPUT};
 use crate::records::{self, CHECK, LABEL, RECORD, SHEET};
@@ -33,8 +33,12 @@ pub fn sequence(random: &mut Random, driver: &mut Driver) -> Vec<Spoilt> {
     maker.spoilt
 }
 
-/// Rings with 4,096 pairs, or 4,097.
+/// Rings with 4,096 pairs, or 4,097; some with a sheet of as many M lines.
 fn many_pairs(random: &mut Random) -> Generated {
+    if random.percent(50) {
+        let texts = limits::many_pairs(random);
+        return finish(random, texts);
+    }
     let (old, new) = *random.pick(&[(46, 89), (63, 65), (65, 63)]);
     let tests = random.below(3);
     Generated {
