@@ -2,7 +2,8 @@
 //! of the lent job through the linked library and the independent
 //! implementation, and compares answers and all lent memory after each call.
 //! Exits 1 on a difference; the first one's sequence, shortened, is printed.
-//! Without the library it exits 2 after the statistics.
+//! So it does if COUNT is 20,000 or more and a call never gave one of its
+//! numbers. Without the library it exits 2 after the statistics.
 
 use rivetyellow_host::answer::meaning;
 use rivetyellow_host::drive::{shortened, Call, Driver, Made, Step};
@@ -22,6 +23,21 @@ const CALLS: [&str; 8] = [
     "label",
     "unknown",
 ];
+
+/// The numbers that each of them gives, beside 13 and 14.
+const GIVEN: [&[usize]; 8] = [
+    &[0, 1, 2, 3, 4, 5, 6, 7, 8, 9],
+    &[0, 1, 2, 3, 4, 5, 6, 7, 8, 9],
+    &[0, 1, 2, 4, 5, 10],
+    &[0, 15, 16],
+    &[0, 6, 15, 16],
+    &[0, 1, 2, 4, 11, 12],
+    &[0, 6],
+    &[6],
+];
+
+/// So many sequences meet them all.
+const ENOUGH: u64 = 20_000;
 
 /// The column of a call that answers number and place.
 fn column(call: Call) -> Option<usize> {
@@ -80,6 +96,19 @@ impl Statistics {
             counts[1] += u64::from(*number == 0);
             counts[2] += u64::from(*number == 14);
         }
+    }
+
+    /// The numbers that a call gives but never gave.
+    fn unmet(&self) -> Vec<String> {
+        let mut unmet = Vec::new();
+        for (column, given) in GIVEN.iter().enumerate() {
+            for &number in given.iter().chain(&[13, 14]) {
+                if self.answers[number][column] == 0 {
+                    unmet.push(format!("{} {number}", CALLS[column]));
+                }
+            }
+        }
+        unmet
     }
 
     fn print(&self) {
@@ -171,8 +200,12 @@ fn main() {
     let seconds = start.elapsed().as_secs();
     println!("seed {seed}, {count} sequences, {seconds} s");
     statistics.print();
+    let unmet = statistics.unmet();
+    if !unmet.is_empty() {
+        println!("never given: {}", unmet.join(", "));
+    }
     println!("{differing} sequences differ");
-    if differing > 0 {
+    if differing > 0 || (count >= ENOUGH && !unmet.is_empty()) {
         process::exit(1);
     }
     if !driver.is_linked() {

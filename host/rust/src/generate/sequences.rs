@@ -368,9 +368,18 @@ impl Maker<'_> {
                     .to_vec();
                 "another text of the job"
             }
-            10 if self.random.one_in(8) => {
+            10 if self.random.one_in(3) => {
                 bytes.resize(65_537, b'7');
                 "a text too long"
+            }
+            10 if text == Text::Tests => {
+                let edges = self.driver.job().old_edges.min(1_024);
+                bytes = many_tests(self.random, 201, edges, 10);
+                "a line above the number allowed"
+            }
+            10 if text != Text::Input => {
+                bytes = [b"P,up\n".to_vec(), b"N,S,hold,\n".repeat(513)].concat();
+                "a line above the number allowed"
             }
             _ => {
                 bytes.clear();
