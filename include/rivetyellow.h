@@ -236,7 +236,7 @@ uint64_t ry_check(const uint8_t *old_text, size_t old_length,
  * every call, whatever the answer. A refused call changes nothing else. One that
  * succeeds leaves what lies beyond what it writes as it was.
  *
- * Each gives 13 and 14 beside the numbers named.
+ * Each that reads or serves gives 13 and 14 beside the numbers named for it.
  */
 
 /* Makes the job a fresh one, of stage 0, whatever it held. Touches nothing
