@@ -19,7 +19,7 @@ pub fn sequence(random: &mut Random, driver: &mut Driver) -> Vec<Spoilt> {
         true => many_pairs(random),
         false => mostly_right(random),
     };
-    let calls = random.within(6, 14);
+    let calls = random.within(8, 18);
     let mut maker = Maker {
         random,
         driver,
