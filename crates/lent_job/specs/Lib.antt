@@ -10,3 +10,4 @@ pub mod Calls
 pub mod DueLaws
 pub mod Answers
 pub mod Chain
+pub mod Refusals

@@ -1,0 +1,71 @@
+-- Refusals of the lent job: 13 wherever the job is at another stage, before anything else is asked; and what is lent is as it was.
+use mathlib.Core.Path.{_≡_, refl, ap, _∙_, subst}
+use mathlib.Core.Bool.{Bool, false}
+use mathlib.Core.List.{List}
+use Prim.Native.Nat.{ℕ}
+use lib.Dec.{eqb}
+use lib.ListN.{length}
+use borrow.Author.Tests.{ne-eqb}
+use Rattle.laws.specs.Tests.{choose}
+use Rattle.rules.specs.Text.{Answer as Reading, Bytes, refused}
+use Rattle.rules.specs.ProgramFile.{Listing}
+use Rattle.rules.specs.SuiteFile.{TestListing}
+use Rattle.rules.specs.Job.{Outcome, Request, ofStage, outcome, outputAfter, refusal}
+use Rattle.records.specs.declared.Job.{Job}
+use Rattle.records.specs.declared.Node.{Node}
+use Rattle.lent_job.specs.Held.{Lent}
+use Rattle.lent_job.specs.ReadOld.{LeftBy, ReadOld, linksRead, oldDue, oldJob, oldRead, pastDue, recordsRead}
+use Rattle.lent_job.specs.ReadNew.{ReadNew, newDue, newJob, newRead}
+use Rattle.lent_job.specs.ReadTests.{ReadTests, TestsLeftBy, namesLeft, rowsLeft, testsDue, testsJob, testsRead}
+use Rattle.lent_job.specs.Calls.{Called, LentJob, goesBy, lentCall}
+
+-- ---- 13
+
+module _ (j : Job) (v v′ : Lent) (n l w : ℕ) (text : Bytes) where
+  pub stage-old : (j .stage ≡ 0 → ⊥) → oldRead j n l w text ≡ refused 13 0
+  unfolding oldDue pastDue ofStage choose
+  stage-old h = simp (ne-eqb (j .stage) 0 h)
+
+  pub stage-new : (j .stage ≡ 1 → ⊥) → newRead j v n l w text ≡ refused 13 0
+  unfolding newDue pastDue ofStage choose
+  stage-new h = simp (ne-eqb (j .stage) 1 h)
+
+  pub stage-tests : (j .stage ≡ 2 → ⊥) → testsRead j v v′ n l w text ≡ refused 13 0
+  unfolding testsDue pastDue ofStage choose
+  stage-tests h = simp (ne-eqb (j .stage) 2 h)
+
+pub stage-request : (q : Request) (k : LentJob) (input : Bytes) (room : ℕ) → (k .job .stage ≡ 3 → ⊥) → lentCall q k input room ≡ refusal 13 0
+unfolding lentCall goesBy ofStage outcome choose
+stage-request q k input room h = simp (ne-eqb (k .job .stage) 3 h)
+
+-- ---- what is lent
+
+-- A program is refused: the job, the nodes and the links are as they were.
+module _ (after : Reading Listing → Job) (k p : ℕ) (n : List Node) (l w : List ℕ) (r : ℕ) (j′ : Job) (n′ : List Node) (l′ w′ : List ℕ) where
+  kept-by : (j : Job) → after (refused k p) ≡ j → LeftBy after (refused k p) n l w r j′ n′ l′ w′ → (j′ ≡ j) × (n′ ≡ n) × (l′ ≡ l)
+  unfolding recordsRead linksRead
+  kept-by j s h = (h .job-is ∙ s, h .nodes-are, h .links-are)
+
+pub old-refused : (j : Job) (text : Bytes) (n : List Node) (l w : List ℕ) (r : ℕ) (j′ : Job) (n′ : List Node) (l′ w′ : List ℕ) → ReadOld j text n l w r j′ n′ l′ w′
+    → (k p : ℕ) → oldRead j (length n) (length l) (length w) text ≡ refused k p → (j′ ≡ j) × (n′ ≡ n) × (l′ ≡ l)
+unfolding oldJob
+old-refused j text n l w r j′ n′ l′ w′ h k p e =
+    kept-by (oldJob j) k p n l w r j′ n′ l′ w′ j refl (subst (λ (a : Reading Listing). LeftBy (oldJob j) a n l w r j′ n′ l′ w′) e (h .left))
+
+pub new-refused : (j : Job) (v : Lent) (text : Bytes) (n : List Node) (l w : List ℕ) (r : ℕ) (j′ : Job) (n′ : List Node) (l′ w′ : List ℕ) → ReadNew j v text n l w r j′ n′ l′ w′
+    → (k p : ℕ) → newRead j v (length n) (length l) (length w) text ≡ refused k p → (j′ ≡ j) × (n′ ≡ n) × (l′ ≡ l)
+unfolding newJob
+new-refused j v text n l w r j′ n′ l′ w′ h k p e =
+    kept-by (newJob j) k p n l w r j′ n′ l′ w′ j refl (subst (λ (a : Reading Listing). LeftBy (newJob j) a n l w r j′ n′ l′ w′) e (h .left))
+
+-- The tests are refused: the job and the tables are as they were.
+pub tests-refused : (j : Job) (v v′ : Lent) (text : Bytes) (t w s : List ℕ) (r : ℕ) (j′ : Job) (t′ w′ s′ : List ℕ) → ReadTests j v v′ text t w s r j′ t′ w′ s′
+    → (k p : ℕ) → testsRead j v v′ (length t) (length w) (length s) text ≡ refused k p → (j′ ≡ j) × (t′ ≡ t) × (w′ ≡ w)
+unfolding testsJob namesLeft rowsLeft
+tests-refused j v v′ text t w s r j′ t′ w′ s′ h k p e =
+    let b : TestsLeftBy j (refused k p) t w s r j′ t′ w′ s′ = subst (λ (a : Reading TestListing). TestsLeftBy j a t w s r j′ t′ w′ s′) e (h .left) in (b .job-is, b .tests-are, b .rows-are)
+
+-- A call of stage 3 leaves the job as it was, whatever it answers, and the output where it refuses.
+pub call-refused : (x : Outcome) (r : ℕ) (j j′ : Job) (w w′ out out′ : List ℕ) → Called x r j j′ w w′ out out′ → (k p : ℕ) → x ≡ refusal k p → (j′ ≡ j) × (out′ ≡ out)
+unfolding outputAfter
+call-refused x r j j′ w w′ out out′ h k p e = (h .kept .job-is, h .output-is ∙ ap (λ (y : Outcome). outputAfter y out) e)
