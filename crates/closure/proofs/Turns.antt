@@ -1,6 +1,6 @@
 -- The turns of the loops, and the returns of the functions over them, as `search` finds them: the premises are what the code holds there.
 use mathlib.Core.Path.{_≡_, refl, sym, ap, _∙_, subst, subst₂}
-use mathlib.Core.Bool.{Bool, true, false, _&&_, false≢true}
+use mathlib.Core.Bool.{Bool, true, false, not, false≢true, true≢false}
 use mathlib.Core.List.{List}
 use Prim.Native.Nat.{ℕ, _+_, _-_, _*_, _≤_, _<_}
 use native.Mathlib.Numerals.{add-one}
@@ -164,13 +164,9 @@ pub ruleset visits = (visit-over, visit-done)
 
 -- ---- `pass`
 
-both-left : (z z′ : Bool) → (z && z′) ≡ true → z ≡ true
-both-left true z′ e = refl
-both-left false z′ e = e
-
-both-right : (z z′ : Bool) → (z && z′) ≡ true → z′ ≡ true
-both-right true z′ e = e
-both-right false z′ e = absurd (false≢true e)
+not-false : (z : Bool) → not z ≡ false → z ≡ true
+not-false true e = refl
+not-false false e = absurd (true≢false e)
 
 -- Rules 2 and 3 for each pair of the table.
 unfoldable VisitsAll : Memory → Memory → List ℕ → ℕ → List ℕ → ℕ → List ℕ → ℕ → Bool → Type 0
@@ -229,9 +225,11 @@ module _ (a b : Memory) (t : List ℕ) (limit : ℕ) (w₀ : List ℕ) (c₀ : �
       }
 
   module _ (w : List ℕ) (c : ℕ) (z : Bool) (x : ℕ) (inv : Sized w₀ w (Visiting a b t limit w₀ c₀ w c z x)) where
-    pub all-on : (v : List ℕ) (r : ℕ) (z′ : Bool) → x < c → c ≤ limit → Sized w v (Visits a b t limit w c x v r z′) → Sized w₀ v (Visiting a b t limit w₀ c₀ v r (z && z′) (x + 1))
+    -- One pair more. It is settled only if it was, and the pair did not wait.
+    all-next : (v : List ℕ) (r : ℕ) (z′ all : Bool) → (all ≡ true → (z ≡ true) × (z′ ≡ true)) → x < c → c ≤ limit → Sized w v (Visits a b t limit w c x v r z′)
+        → Sized w₀ v (Visiting a b t limit w₀ c₀ v r all (x + 1))
     unfolding Visiting Visits Lasts
-    all-on v r z′ l few y =
+    all-next v r z′ all both l few y =
         record {
           size = y .size ∙ inv .size;
           claim = λ o p h g s.
@@ -242,7 +240,7 @@ module _ (a b : Memory) (t : List ℕ) (limit : ℕ) (w₀ : List ℕ) (c₀ : �
                 followed = λ e k.
                     seen-more (PairFollowed (o .program) (p .program)) w v c r x l (j .step .keeps k)
                     (λ n m. step-lasts (j .step) _ (followed-lasts (o .program) (p .program) n m) k)
-                    (i .followed (both-left z z′ e) few) (j .step .done k (both-right z z′ e));
+                    (i .followed (both e .0) few) (j .step .done k (both e .1));
                 still = λ e k.
                     let rc : r ≡ c = omega (arith, i .step .more, j .step .more) in
                     seen-more (PairDone (o .program) (p .program)) w v c r x l (j .step .keeps k)
@@ -252,6 +250,12 @@ module _ (a b : Memory) (t : List ℕ) (limit : ℕ) (w₀ : List ℕ) (c₀ : �
                     (i .still (omega arith) few) (j .still rc k);
               };
         }
+
+    pub all-on : (v : List ℕ) (r : ℕ) (z′ : Bool) → not z′ ≡ false → x < c → c ≤ limit → Sized w v (Visits a b t limit w c x v r z′) → Sized w₀ v (Visiting a b t limit w₀ c₀ v r z (x + 1))
+    all-on v r z′ n l few y = all-next v r z′ z (λ e. (e, not-false z′ n)) l few y
+
+    pub all-wait : (v : List ℕ) (r : ℕ) (z′ : Bool) → x < c → c ≤ limit → Sized w v (Visits a b t limit w c x v r z′) → Sized w₀ v (Visiting a b t limit w₀ c₀ v r false (x + 1))
+    all-wait v r z′ l few y = all-next v r z′ false (λ e. absurd (false≢true e)) l few y
 
     all-over : limit < c → Sized w₀ w (VisitsAll a b t limit w₀ c₀ w c z)
     unfolding Visiting VisitsAll
@@ -307,7 +311,7 @@ module _ (ot on ol nt nn nl groups : List ℕ) (limit : ℕ) (w : List ℕ) (c :
   pub pass-end : r ≤ x → Sized w v (Passes (memory ot on ol) (memory nt nn nl) groups limit w c v r z)
   pass-end l = pass-done ot on ol nt nn nl groups limit w u v c k r z start (all-end _ _ groups limit u k v r z x inv l)
 
-pub ruleset passes = (all-start, all-on, pass-over, pass-end)
+pub ruleset passes = (all-start, all-on, all-wait, pass-over, pass-end)
 
 -- ---- `repeat`, `close`
 

@@ -212,34 +212,30 @@ fn pass(
     groups: &[usize],
     limit: usize,
     w: &mut [usize],
-    count: usize,
+    had: usize,
 ) -> Growth
     requires { ⌜ limit ≤ 4096 ⌝ }
     ensures { λ r. ⌜ Sized (now (w .entry)) (now (w .exit))
         (Passes
         (memory (now (ot .entry)) (now (on .entry)) (now (ol .entry)))
         (memory (now (nt .entry)) (now (nn .entry)) (now (nl .entry)))
-        (now (groups .entry)) limit (now (w .entry)) count (now (w .exit)) (r .count) (r .settled)) ⌝ }
+        (now (groups .entry)) limit (now (w .entry)) had (now (w .exit)) (r .count) (r .settled)) ⌝ }
 {
-    let mut total = add_entries(ol, nl, limit, w, count, 0, 0);
+    let mut count = add_entries(ol, nl, limit, w, had, 0, 0);
     let mut settled = true;
     let mut x = 0;
-    while x < total {
-        if limit < total {
-            return Growth {
-                count: total,
-                settled,
-            };
+    while x < count {
+        if limit < count {
+            return Growth { count, settled };
         }
-        let next = visit(ot, on, ol, nt, nn, nl, groups, limit, w, total, x);
-        total = next.count;
-        settled = settled & next.settled;
+        let next = visit(ot, on, ol, nt, nn, nl, groups, limit, w, count, x);
+        count = next.count;
         x += 1;
+        if !next.settled {
+            settled = false;
+        }
     }
-    Growth {
-        count: total,
-        settled,
-    }
+    Growth { count, settled }
 }
 
 // Passes until one is settled or adds nothing.

@@ -10,7 +10,7 @@ ghost use Prim.Native.Nat.{_+_, _-_, _*_, _≤_, _<_};
 ghost use lib.ListN.{length};
 ghost use lib.Seq.{sets};
 ghost use Rattle.rules.specs.Text.{bytes, fieldsOf, split};
-ghost use Rattle.rules.specs.ProgramFile.{formOf};
+ghost use Rattle.rules.specs.ProgramFile.{formOf, proc-line};
 ghost use Rattle.reader.specs.Reading.{
   Added,
   AddedEdge,
@@ -300,8 +300,30 @@ fn new_proc(
     counted(procs + 1, nodes, edges)
 }
 
-// A P line, by what stands behind its first comma: a name has no comma, so it is all of that. The procedure before it is to be complete. After a
-// refusal the work table may hold anything.
+// A P line of this name. After a refusal the work table may hold anything.
+fn add_proc(
+    text: &[u8],
+    line: usize,
+    at: usize,
+    name: &[u8],
+    had: Count,
+    work: &mut [usize],
+) -> Count
+    requires { ⌜ Small had ⌝ }
+    requires { ⌜ (at ≤ 65536) × (8128 ≤ length (now work)) ⌝ }
+    ensures { λ r. ⌜ Took (now (text .entry)) line at (proc-line (now (name .entry))) had (now (work .entry)) r (now (work .exit)) ⌝ }
+{
+    let procs = had.procs;
+    if procs == 0 {
+        return new_proc(text, line, at, name, had, work);
+    }
+    if complete(work, had) {
+        return new_proc(text, line, at, name, had, work);
+    }
+    refused(8, of_current(work, procs, 2))
+}
+
+// A P line, by what stands behind its first comma: a name has no comma, so it is all of that. After a refusal the work table may hold anything.
 fn proc_line(
     text: &[u8],
     line: usize,
@@ -314,15 +336,8 @@ fn proc_line(
     requires { ⌜ (at ≤ 65536) × (8128 ≤ length (now work)) ⌝ }
     ensures { λ r. ⌜ Took (now (text .entry)) line at (formOf (bytes "P" ∷ split 44 (now (name .entry)))) had (now (work .entry)) r (now (work .exit)) ⌝ }
 {
-    let procs = had.procs;
     if text::is_name(name) {
-        if procs == 0 {
-            return new_proc(text, line, at, name, had, work);
-        }
-        if complete(work, had) {
-            return new_proc(text, line, at, name, had, work);
-        }
-        return refused(8, of_current(work, procs, 2));
+        return add_proc(text, line, at, name, had, work);
     }
     refused(2, line)
 }

@@ -8,10 +8,10 @@ use Rattle.closure.proofs.pass.Statement.{statement}
 use Rattle.closure.proofs.pass.Tie as tie
 
 abbrev Inv-loop : tie.InvT-loop
-Inv-loop ot on ol nt nn nl groups limit w₀ count total₀ settled₀ x₀ w total settled x = Sized w₀ w (Visiting (memory ot on ol) (memory nt nn nl) groups limit w₀ total₀ w total settled x)
+Inv-loop ot on ol nt nn nl groups limit w₀ had count₀ settled₀ x₀ w count settled x = Sized w₀ w (Visiting (memory ot on ol) (memory nt nn nl) groups limit w₀ count₀ w count settled x)
 
 abbrev μ-loop : tie.MeasureT-loop
-μ-loop ot on ol nt nn nl groups limit w₀ count total₀ settled₀ x₀ w total settled x = limit - x
+μ-loop ot on ol nt nn nl groups limit w₀ had count₀ settled₀ x₀ w count settled x = limit - x
 
 add-entries-requires : tie.Need-add-entries-requires Inv-loop μ-loop
 add-entries-requires c κs = search needs
@@ -37,6 +37,12 @@ loop-less c = search (all, needs)
 loop-again : tie.Need-loop-again Inv-loop μ-loop
 loop-again c = search (all, needs)
 
+loop-less-2 : tie.Need-loop-less-2 Inv-loop μ-loop
+loop-less-2 c = search (all, needs)
+
+loop-again-2 : tie.Need-loop-again-2 Inv-loop μ-loop
+loop-again-2 c = search (all, needs)
+
 same-length-2 : tie.Need-same-length-2 Inv-loop μ-loop
 same-length-2 c = search needs
 
@@ -57,5 +63,7 @@ pass-spec =
     add-x
     loop-less
     loop-again
+    loop-less-2
+    loop-again-2
     same-length-2
     returns-2)

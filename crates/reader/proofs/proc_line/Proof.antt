@@ -6,8 +6,8 @@ use Rattle.reader.proofs.proc_line.Tie as tie
 is-name-requires : tie.Need-is-name-requires
 is-name-requires c κs = search needs
 
-new-proc-requires : tie.Need-new-proc-requires
-new-proc-requires c κs = search needs
+add-proc-requires : tie.Need-add-proc-requires
+add-proc-requires c κs = search needs
 
 same-length : tie.Need-same-length
 same-length c = search needs
@@ -15,51 +15,13 @@ same-length c = search needs
 returns : tie.Need-returns
 returns c = search (all, needs)
 
-complete-requires : tie.Need-complete-requires
-complete-requires c κs = search needs
-
-new-proc-requires-2 : tie.Need-new-proc-requires-2
-new-proc-requires-2 c κs = search needs
-
-same-length-2 : tie.Need-same-length-2
-same-length-2 c = search needs
+refused-requires : tie.Need-refused-requires
+refused-requires c κs = search needs
 
 returns-2 : tie.Need-returns-2
 returns-2 c = search (all, needs)
 
-of-current-requires : tie.Need-of-current-requires
-of-current-requires c κs = search needs
-
-refused-requires : tie.Need-refused-requires
-refused-requires c κs = search needs
-
-same-length-3 : tie.Need-same-length-3
-same-length-3 c = search needs
-
-returns-3 : tie.Need-returns-3
-returns-3 c = search (all, needs)
-
-refused-requires-2 : tie.Need-refused-requires-2
-refused-requires-2 c κs = search needs
-
-returns-4 : tie.Need-returns-4
-returns-4 c = search (all, needs)
-
 pub proc-line-spec : {M : Type 1} → statement M
 proc-line-spec =
     tie.close
-    (tie.spec
-    is-name-requires
-    new-proc-requires
-    same-length
-    returns
-    complete-requires
-    new-proc-requires-2
-    same-length-2
-    returns-2
-    of-current-requires
-    refused-requires
-    same-length-3
-    returns-3
-    refused-requires-2
-    returns-4)
+    (tie.spec is-name-requires add-proc-requires same-length returns refused-requires returns-2)
