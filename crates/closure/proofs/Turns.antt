@@ -82,72 +82,35 @@ module _ (ot on ol nt nn nl groups : List ℕ) (limit : ℕ) (w₀ : List ℕ) (
               };
         }
 
-    -- Every edge was tried.
-    walked : place ≤ 0 → (o p : Listing) → InMemory (memory ot on ol) o → InGroups (memory nt nn nl) groups p → State (o .program) (p .program) limit w₀ c₀
-        → Pair (o .program) (p .program) n m → MayGoOn (o .program) (p .program) n m → Step (o .program) (p .program) limit w₀ c₀ (EdgesDone (o .program) (p .program) n m) w c
-    unfolding Following EdgesDone
-    walked l o p h g s y z = let i = inv .claim o p h g s y z in step-shows (i .step) (λ b e k own. walk-end (i .walk) l e k own b)
+    pub follow-end : place ≤ 0 → Sized w₀ w (Follows (memory ot on ol) (memory nt nn nl) groups limit w₀ c₀ n m w c)
+    unfolding Following Follows EdgesDone
+    follow-end l =
+        record {
+          size = inv .size;
+          claim = λ o p h g s y z.
+              let i = inv .claim o p h g s y z in
+              step-shows (i .step) (λ b e k own. walk-end (i .walk) l e k own b);
+        }
 
-module _ (ot on ol nt nn nl groups : List ℕ) (limit : ℕ) (w : List ℕ) (c n m : ℕ) (t : Bool) (is : GoesOn on ol nn nl w n m t) where
-  -- What the test says of the list.
-  test : (o p : Listing) → InMemory (memory ot on ol) o → InGroups (memory nt nn nl) groups p → State (o .program) (p .program) limit w c → c ≤ limit → Pair (o .program) (p .program) n m
-      → t ≡ goesOn (o .program) (p .program) (pairsIn w c) n m
-  unfolding GoesOn
-  test o p h g s few y = let i = pair-inside (formed-in _ _ o p h (g .memory)) y in is ot nt o p c h (g .memory) (s .kept few .store) (i .0) (i .1)
-
-  pub follow-wait : t ≡ false → Sized w w (Follows (memory ot on ol) (memory nt nn nl) groups limit w c n m w c false)
-  unfolding Follows OnDone
-  follow-wait u =
-      record {
-        size = refl;
-        claim = λ o p h g s few y.
-            record {
-              step = step-none s (λ _ e. absurd (false≢true e));
-              still = λ _ _ k. absurd (both-ways (test o p h g s few y ∙ k) u);
-            };
-      }
-
-  pub follow-end : (v : List ℕ) (r place : ℕ) → t ≡ true → Sized w v (Following (memory ot on ol) (memory nt nn nl) groups limit w c n m v r place) → place ≤ 0
-      → Sized w v (Follows (memory ot on ol) (memory nt nn nl) groups limit w c n m v r true)
-  unfolding Follows OnDone
-  follow-end v r place u inv l =
-      record {
-        size = inv .size;
-        claim = λ o p h g s few y.
-            let goes : goesOn (o .program) (p .program) (pairsIn w c) n m ≡ true = sym (test o p h g s few y) ∙ u in
-            let d = walked ot on ol nt nn nl groups limit w c n m v r place inv l o p h g s y (λ k. s .kept few .sound _ _ (goesOn-at (o .program) (p .program) (pairsIn w c) n m goes k)) in
-            record { step = step-map (λ k _. k) d; still = λ _ b _. d .done b };
-      }
-
-pub ruleset follows = (follow-less, follow-start, follow-on, follow-wait, follow-end)
+pub ruleset follows = (follow-less, follow-start, follow-on, follow-end)
 
 -- ---- `visit`
 
-module _ (ot on ol nt nn nl groups : List ℕ) (limit : ℕ) (w : List ℕ) (c n m : ℕ) (x : ℕ) (u : List ℕ) (k : ℕ) (d : n ≡ oldAt w x) (e : m ≡ newAt w x)
+module _ (ot on ol nt nn nl groups : List ℕ) (limit : ℕ) (w : List ℕ) (c n m x : ℕ) (u : List ℕ) (k : ℕ) (d : n ≡ oldAt w x) (e : m ≡ newAt w x)
     (entered : Sized w u (Enters on ol nn nl limit w c n m u k)) where
-  pub visit-over : limit < k → Sized w u (Visits (memory ot on ol) (memory nt nn nl) groups limit w c x u k true)
-  unfolding Enters Visits
-  visit-over l =
-      record {
-        size = entered .size;
-        claim = λ o p h g s few i.
-            let pair : Pair (o .program) (p .program) n m = s .kept few .sound n m (listed-of w n m c x i (sym d) (sym e)) in
-            record {
-              step = step-shows (entered .claim ot nt o p h (g .memory) s pair) (λ b. absurd (let z : ⊥ = omega arith in z));
-              still = λ _ b. absurd (let z : ⊥ = omega arith in z);
-            };
-      }
-
-  pub visit-done : (v : List ℕ) (r : ℕ) (z : Bool) → k ≤ limit → Sized u v (Follows (memory ot on ol) (memory nt nn nl) groups limit u k n m v r z)
+  -- Rule 2, then a turn for rule 3.
+  visit-turn : (v : List ℕ) (r : ℕ) (z : Bool) → length v ≡ length u
+      → ((o p : Listing) → InMemory (memory ot on ol) o → InGroups (memory nt nn nl) groups p → State (o .program) (p .program) limit u k → Pair (o .program) (p .program) n m
+      → Turn (o .program) (p .program) limit u k (EdgesDone (o .program) (p .program) n m) (OnDone (o .program) (p .program) n m) v r z)
       → Sized w v (Visits (memory ot on ol) (memory nt nn nl) groups limit w c x v r z)
-  unfolding Enters Follows Visits
-  visit-done v r z room q =
+  unfolding Enters Visits
+  visit-turn v r z size turn =
       record {
-        size = q .size ∙ entered .size;
+        size = size ∙ entered .size;
         claim = λ o p h g s few l.
             let pair : Pair (o .program) (p .program) n m = s .kept few .sound n m (listed-of w n m c x l (sym d) (sym e)) in
             let i = entered .claim ot nt o p h (g .memory) s pair in
-            let j = q .claim o p h g (i .state) room pair in
+            let j = turn o p h g (i .state) pair in
             let lasts = call-lasts (o .program) (p .program) n m in
             let t : Turn (o .program) (p .program) limit w c (PairFollowed (o .program) (p .program) n m) (PairDone (o .program) (p .program) n m) v r z
             = record {
@@ -160,7 +123,35 @@ module _ (ot on ol nt nn nl groups : List ℕ) (limit : ℕ) (w : List ℕ) (c n
             rw (← d, ← e) t;
       }
 
-pub ruleset visits = (visit-over, visit-done)
+  pub visit-over : limit < k → Sized w u (Visits (memory ot on ol) (memory nt nn nl) groups limit w c x u k true)
+  visit-over l =
+      visit-turn u k true refl
+      (λ o p h g s y. record { step = step-none s (λ b. absurd (let z : ⊥ = omega arith in z)); still = λ _ b. absurd (let z : ⊥ = omega arith in z) })
+
+  module _ (t : Bool) (few : k ≤ limit) (is : GoesOn on ol nn nl u n m t) where
+    -- What the test says of the list.
+    test : (o p : Listing) → InMemory (memory ot on ol) o → InGroups (memory nt nn nl) groups p → State (o .program) (p .program) limit u k → Pair (o .program) (p .program) n m
+        → t ≡ goesOn (o .program) (p .program) (pairsIn u k) n m
+    unfolding GoesOn
+    test o p h g s y = let i = pair-inside (formed-in _ _ o p h (g .memory)) y in is ot nt o p k h (g .memory) (s .kept few .store) (i .0) (i .1)
+
+    pub visit-wait : t ≡ false → Sized w u (Visits (memory ot on ol) (memory nt nn nl) groups limit w c x u k t)
+    unfolding OnDone
+    visit-wait f =
+        visit-turn u k t refl
+        (λ o p h g s y. record { step = step-none s (λ _ z. absurd (both-ways z f)); still = λ _ _ z. absurd (both-ways (test o p h g s y ∙ z) f) })
+
+    pub visit-on : (v : List ℕ) (r : ℕ) → t ≡ true → Sized u v (Follows (memory ot on ol) (memory nt nn nl) groups limit u k n m v r)
+        → Sized w v (Visits (memory ot on ol) (memory nt nn nl) groups limit w c x v r t)
+    unfolding Follows OnDone
+    visit-on v r f q =
+        visit-turn v r t (q .size)
+        (λ o p h g s y.
+        let goes : goesOn (o .program) (p .program) (pairsIn u k) n m ≡ true = sym (test o p h g s y) ∙ f in
+        let a = q .claim o p h g s y (λ z. s .kept few .sound _ _ (goesOn-at (o .program) (p .program) (pairsIn u k) n m goes z)) in
+        record { step = step-map (λ z _. z) a; still = λ _ b _. a .done b })
+
+pub ruleset visits = (visit-over, visit-wait, visit-on)
 
 -- ---- `pass`
 

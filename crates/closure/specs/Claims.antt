@@ -14,7 +14,7 @@ use Rattle.pairset.specs.Store.{dangerIn, newAt, oldAt, pairBase, pairsIn}
 use Rattle.versions.specs.Memory.{InMemory, Memory, memory}
 use Rattle.versions.specs.Held.{PairsHeld}
 use Rattle.versions.specs.Groups.{InGroups}
-use Rattle.closure.specs.State.{AllDone, CallDone, EachDone, EdgeDone, EdgesDone, EntriesDone, Formed, OnDone, PairDone, PairFollowed, State, Step, Turn}
+use Rattle.closure.specs.State.{AllDone, CallDone, EdgeDone, EdgesDone, EntriesDone, Formed, PairDone, PairFollowed, State, Step, Turn}
 
 -- A claim, and the table as long as it was.
 pub record Sized (w v : List ℕ) (X : Type 0) : Type 0 where
@@ -48,11 +48,11 @@ module _ (a b : Memory) (t : List ℕ) (limit : ℕ) (w : List ℕ) where
       → Pair (o .program) (p .program) (sourceAt (o .program) e) m → MayGoOn (o .program) (p .program) (sourceAt (o .program) e) m
       → Step (o .program) (p .program) limit w c (EdgeDone (o .program) (p .program) e m) v r
 
-  -- `follow`: rule 3 for the pair (n, m), where it may go on.
-  unfoldable pub Follows : ℕ → ℕ → ℕ → List ℕ → ℕ → Bool → Type 0
-  Follows c n m v r settled =
-      (o p : Listing) → InMemory a o → InGroups b t p → State (o .program) (p .program) limit w c → c ≤ limit → Pair (o .program) (p .program) n m
-      → Turn (o .program) (p .program) limit w c (EdgesDone (o .program) (p .program) n m) (OnDone (o .program) (p .program) n m) v r settled
+  -- `follow`: rule 3 for the pair (n, m), which may go on.
+  unfoldable pub Follows : ℕ → ℕ → ℕ → List ℕ → ℕ → Type 0
+  Follows c n m v r =
+      (o p : Listing) → InMemory a o → InGroups b t p → State (o .program) (p .program) limit w c → Pair (o .program) (p .program) n m → MayGoOn (o .program) (p .program) n m
+      → Step (o .program) (p .program) limit w c (EdgesDone (o .program) (p .program) n m) v r
 
   -- `visit`: rules 2 and 3 for the pair x of the table.
   unfoldable pub Visits : ℕ → ℕ → List ℕ → ℕ → Bool → Type 0

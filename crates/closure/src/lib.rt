@@ -127,7 +127,7 @@ fn try_edge(
     count
 }
 
-// Rule 3 for the pair (n, m), each edge of the old node, where it may go on by the pairs found so far; otherwise it waits.
+// Rule 3 for the pair (n, m), which may go on: each edge of the old node.
 fn follow(
     ot: &[u8],
     on: &[usize],
@@ -141,34 +141,25 @@ fn follow(
     count: usize,
     n: usize,
     m: usize,
-) -> Growth
+) -> usize
     requires { ⌜ limit ≤ 4096 ⌝ }
     ensures { λ r. ⌜ Sized (now (w .entry)) (now (w .exit))
         (Follows
         (memory (now (ot .entry)) (now (on .entry)) (now (ol .entry)))
         (memory (now (nt .entry)) (now (nn .entry)) (now (nl .entry)))
-        (now (groups .entry)) limit (now (w .entry)) count n m (now (w .exit)) (r .count) (r .settled)) ⌝ }
+        (now (groups .entry)) limit (now (w .entry)) count n m (now (w .exit)) r) ⌝ }
 {
-    if versions::goes_on(on, ol, nn, nl, w, n, m) {
-        let mut total = count;
-        let mut place = versions::last_edge(ol, n);
-        while 0 < place {
-            let e = place - 1;
-            total = try_edge(ot, on, ol, nt, nn, nl, groups, limit, w, total, e, m);
-            place = versions::edge_before(ol, e);
-        }
-        return Growth {
-            count: total,
-            settled: true,
-        };
+    let mut total = count;
+    let mut place = versions::last_edge(ol, n);
+    while 0 < place {
+        let e = place - 1;
+        total = try_edge(ot, on, ol, nt, nn, nl, groups, limit, w, total, e, m);
+        place = versions::edge_before(ol, e);
     }
-    Growth {
-        count,
-        settled: false,
-    }
+    total
 }
 
-// Rules 2 and 3 for the pair x of the table.
+// Rules 2 and 3 for the pair x of the table: rule 3 where it may go on by the pairs found so far; otherwise it waits.
 fn visit(
     ot: &[u8],
     on: &[usize],
@@ -179,7 +170,7 @@ fn visit(
     groups: &[usize],
     limit: usize,
     w: &mut [usize],
-    count: usize,
+    had: usize,
     x: usize,
 ) -> Growth
     requires { ⌜ limit ≤ 4096 ⌝ }
@@ -187,18 +178,26 @@ fn visit(
         (Visits
         (memory (now (ot .entry)) (now (on .entry)) (now (ol .entry)))
         (memory (now (nt .entry)) (now (nn .entry)) (now (nl .entry)))
-        (now (groups .entry)) limit (now (w .entry)) count x (now (w .exit)) (r .count) (r .settled)) ⌝ }
+        (now (groups .entry)) limit (now (w .entry)) had x (now (w .exit)) (r .count) (r .settled)) ⌝ }
 {
     let n = pairset::old_of(w, x);
     let m = pairset::new_of(w, x);
-    let entered = enter(on, ol, nn, nl, limit, w, count, n, m);
-    if limit < entered {
+    let count = enter(on, ol, nn, nl, limit, w, had, n, m);
+    if limit < count {
         return Growth {
-            count: entered,
+            count,
             settled: true,
         };
     }
-    follow(ot, on, ol, nt, nn, nl, groups, limit, w, entered, n, m)
+    let settled = versions::goes_on(on, ol, nn, nl, w, n, m);
+    if settled {
+        let total = follow(ot, on, ol, nt, nn, nl, groups, limit, w, count, n, m);
+        return Growth {
+            count: total,
+            settled,
+        };
+    }
+    Growth { count, settled }
 }
 
 // One pass over the three rules: the entries of the first procedures, then each pair of the table, with those that are added on the way.

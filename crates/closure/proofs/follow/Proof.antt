@@ -12,23 +12,20 @@ Inv-loop ot on ol nt nn nl groups limit w₀ count n m total₀ place₀ w total
 abbrev μ-loop : tie.MeasureT-loop
 μ-loop ot on ol nt nn nl groups limit w₀ count n m total₀ place₀ w total place = place
 
-goes-on-requires : tie.Need-goes-on-requires Inv-loop μ-loop
-goes-on-requires c κs = search needs
-
 last-edge-requires : tie.Need-last-edge-requires Inv-loop μ-loop
-last-edge-requires c κs = search needs
+last-edge-requires c κs = search (all, needs)
 
 loop-holds : tie.Need-loop-holds Inv-loop μ-loop
 loop-holds c = search (all, needs)
 
 sub-e : tie.Need-sub-e Inv-loop μ-loop
-sub-e c = search needs
+sub-e c = search (all, needs)
 
 try-edge-requires : tie.Need-try-edge-requires Inv-loop μ-loop
-try-edge-requires c κs = search needs
+try-edge-requires c κs = search (all, needs)
 
 edge-before-requires : tie.Need-edge-before-requires Inv-loop μ-loop
-edge-before-requires c κs = search needs
+edge-before-requires c κs = search (all, needs)
 
 loop-less : tie.Need-loop-less Inv-loop μ-loop
 loop-less c = search (all, needs)
@@ -37,16 +34,10 @@ loop-again : tie.Need-loop-again Inv-loop μ-loop
 loop-again c = search (all, needs)
 
 same-length : tie.Need-same-length Inv-loop μ-loop
-same-length c = search needs
+same-length c = search (all, needs)
 
 returns : tie.Need-returns Inv-loop μ-loop
 returns c = search (all, needs)
-
-same-length-2 : tie.Need-same-length-2 Inv-loop μ-loop
-same-length-2 c = search needs
-
-returns-2 : tie.Need-returns-2 Inv-loop μ-loop
-returns-2 c = search (all, needs)
 
 pub follow-spec : {M : Type 1} → statement M
 follow-spec =
@@ -54,7 +45,6 @@ follow-spec =
     (tie.spec
     Inv-loop
     μ-loop
-    goes-on-requires
     last-edge-requires
     loop-holds
     sub-e
@@ -63,6 +53,4 @@ follow-spec =
     loop-less
     loop-again
     same-length
-    returns
-    same-length-2
-    returns-2)
+    returns)

@@ -18,6 +18,9 @@ same-length c = search needs
 returns : tie.Need-returns
 returns c = search (all, needs)
 
+goes-on-requires : tie.Need-goes-on-requires
+goes-on-requires c κs = search needs
+
 follow-requires : tie.Need-follow-requires
 follow-requires c κs = search needs
 
@@ -26,6 +29,12 @@ same-length-2 c = search needs
 
 returns-2 : tie.Need-returns-2
 returns-2 c = search (all, needs)
+
+same-length-3 : tie.Need-same-length-3
+same-length-3 c = search needs
+
+returns-3 : tie.Need-returns-3
+returns-3 c = search (all, needs)
 
 pub visit-spec : {M : Type 1} → statement M
 visit-spec =
@@ -36,6 +45,9 @@ visit-spec =
     enter-requires
     same-length
     returns
+    goes-on-requires
     follow-requires
     same-length-2
-    returns-2)
+    returns-2
+    same-length-3
+    returns-3)
