@@ -200,8 +200,8 @@ pub put-is : (t t₁ t₂ : List ℕ) (i start len : ℕ) → t₁ ≡ set t (2 
 unfolding storedTest
 put-is t t₁ t₂ i start len e f = f ∙ ap (λ (s : List ℕ). set s (2 * i + 1) len) e
 
-pub few-none : 0 ≤ 200
-few-none = omega arith
+pub few-refused : (r : Read) → r .count ≡ 0 → r .count ≤ 200
+few-refused r e = omega (arith, e)
 
 pub few-more : (c : ℕ) → c < 200 → c + 1 ≤ 200
 few-more c h = omega arith
@@ -244,7 +244,7 @@ pub row-digits : (m : ℕ) (row : Bytes) (v : Bool) → v ≡ rowFine m row → 
 unfolding rowFine
 row-digits m row v e y = and-left _ _ (and-right _ _ (sym e ∙ y))
 
-pub ruleset adds = (row-digits, put-is, few-none, few-more, add-full, add-twice, add-unfit, add-new)
+pub ruleset adds = (row-digits, put-is, few-refused, few-more, add-full, add-twice, add-unfit, add-new)
 
 -- ---- `step`
 
