@@ -8,7 +8,7 @@ use lib.Dec.{eqb}
 use borrow.Author.Tests.{eq-eqb, ne-eqb}
 use Rattle.laws.specs.Tests.{choose, firstFailed}
 use Rattle.laws.specs.Lists.{choose-no, choose-yes}
-use Rattle.rules.specs.Text.{Answer as Reading, Bytes, accepted, refused}
+use Rattle.rules.specs.Text.{Reading, Bytes, accepted, refused}
 use Rattle.rules.specs.Graph.{edgeCount, nodeCount}
 use Rattle.rules.specs.ProgramFile.{Listing}
 use Rattle.rules.specs.SuiteFile.{TestListing, readTests}

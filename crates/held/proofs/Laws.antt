@@ -8,7 +8,7 @@ use native.Mathlib.Omega.{arith}
 use lib.ListN.{length}
 use borrow.Author.Tests.{le-leb, lt-leb}
 use Rattle.laws.specs.Tests.{_and_, choose}
-use Rattle.rules.specs.Text.{Answer, refused, accepted}
+use Rattle.rules.specs.Text.{Reading, refused, accepted}
 use Rattle.rules.specs.Graph.{procCount, nodeCount, edgeCount}
 use Rattle.rules.specs.ProgramFile.{Listing, readListing}
 use Rattle.rules.specs.SuiteFile.{TestListing, readTests, testCount}
@@ -26,7 +26,7 @@ module _ (room : ℕ) (text nodes links : List ℕ) where
   lentV = numbers room text nodes links
 
   -- Tables that are not long enough.
-  short-by : (x : Answer Listing) → longEnough lentV ≡ false → leftBy x lentV ≡ none
+  short-by : (x : Reading Listing) → longEnough lentV ≡ false → leftBy x lentV ≡ none
   unfolding leftBy _and_ choose
   short-by (refused k p) e = refl
   short-by (accepted s) e = simp e
@@ -49,7 +49,7 @@ module _ (room : ℕ) (text nodes links : List ℕ) where
       unfolding longEnough _and_
       long = simp (le-leb 512 room a, le-leb 6080 (length links) b)
 
-      not-by : (x : Answer Listing) → r .number ≡ leftNumber x nodes links → (r .number ≡ 0 → ⊥) → leftBy x lentV ≡ none
+      not-by : (x : Reading Listing) → r .number ≡ leftNumber x nodes links → (r .number ≡ 0 → ⊥) → leftBy x lentV ≡ none
       unfolding leftBy leftNumber _and_ choose
       not-by (refused k p) e z = refl
       not-by (accepted s) e z = go (isLeft s nodes links) refl
@@ -62,7 +62,7 @@ module _ (room : ℕ) (text nodes links : List ℕ) where
       unfolding versionLeft countLeft
       version-not z = sym (ap countLeft (not-by (readListing text) (t .number-is) z))
 
-      is-by : (x : Answer Listing) → readListing text ≡ x → r .number ≡ leftNumber x nodes links → r .number ≡ 0 → r ≡ countLeft (leftBy x lentV)
+      is-by : (x : Reading Listing) → readListing text ≡ x → r .number ≡ leftNumber x nodes links → r .number ≡ 0 → r ≡ countLeft (leftBy x lentV)
       unfolding leftBy leftNumber _and_ choose countLeft
       is-by (refused k p) q e z = absurd (let y : ⊥ = omega (arith, e, z) in y)
       is-by (accepted s) q e z = go (isLeft s nodes links) refl
@@ -82,7 +82,7 @@ module _ (room : ℕ) (text nodes links : List ℕ) where
 -- ---- `suite_left`
 
 module _ (m : ℕ) (text tests rows : List ℕ) where
-  short-tests : (x : Answer TestListing) → testsLong tests rows ≡ false → testsBy x tests rows ≡ none
+  short-tests : (x : Reading TestListing) → testsLong tests rows ≡ false → testsBy x tests rows ≡ none
   unfolding testsBy _and_ choose
   short-tests (refused k p) e = refl
   short-tests (accepted s) e = simp e
@@ -105,7 +105,7 @@ module _ (m : ℕ) (text tests rows : List ℕ) where
       unfolding testsLong _and_
       long-tests = simp (le-leb 400 (length tests) a, le-leb 3200 (length rows) b)
 
-      not-tests : (x : Answer TestListing) → r .number ≡ testsNumber x tests rows → (r .number ≡ 0 → ⊥) → testsBy x tests rows ≡ none
+      not-tests : (x : Reading TestListing) → r .number ≡ testsNumber x tests rows → (r .number ≡ 0 → ⊥) → testsBy x tests rows ≡ none
       unfolding testsBy testsNumber _and_ choose
       not-tests (refused k p) e z = refl
       not-tests (accepted s) e z = go (isLeftTests s tests rows) refl
@@ -118,7 +118,7 @@ module _ (m : ℕ) (text tests rows : List ℕ) where
       unfolding suiteLeft readLeft
       suite-not z = sym (ap readLeft (not-tests (readTests m text) (t .number-is) z))
 
-      are-tests : (x : Answer TestListing) → r .number ≡ testsNumber x tests rows → r .count ≡ leftCount x tests rows → r .number ≡ 0 → r ≡ readLeft (testsBy x tests rows)
+      are-tests : (x : Reading TestListing) → r .number ≡ testsNumber x tests rows → r .count ≡ leftCount x tests rows → r .number ≡ 0 → r ≡ readLeft (testsBy x tests rows)
       unfolding testsBy testsNumber leftCount _and_ choose readLeft
       are-tests (refused k p) e c z = absurd (let y : ⊥ = omega (arith, e, z) in y)
       are-tests (accepted s) e c z = go (isLeftTests s tests rows) refl

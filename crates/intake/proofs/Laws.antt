@@ -3,7 +3,7 @@ use mathlib.Core.Path.{_≡_, refl, sym, ap, _∙_, subst}
 use mathlib.Core.List.{List}
 use Prim.Native.Nat.{ℕ, _<_}
 use native.Mathlib.Omega.{arith}
-use Rattle.rules.specs.Text.{Bytes, Answer, accepted, refused, then}
+use Rattle.rules.specs.Text.{Bytes, Reading, accepted, refused, then}
 use Rattle.rules.specs.Graph.{edgeCount}
 use Rattle.rules.specs.ProgramFile.{Listing, readListing, readProgram}
 use Rattle.rules.specs.SuiteFile.{readSuite, readTests}
@@ -15,20 +15,20 @@ use Rattle.suite.specs.declared.Read.{Read}
 use Rattle.suite.specs.Rows.{Holds}
 use Rattle.suite.specs.Reading.{Reads, TestsRead, accepted-of, refused-of}
 use Rattle.versions.specs.MemoryLaws.{in-memory}
-use Rattle.intake.specs.declared.Texts.{Texts}
-use Rattle.intake.specs.Ready.{Few, JobRead, JobTold, refusedTexts}
+use Rattle.intake.specs.declared.Counts.{Counts}
+use Rattle.intake.specs.Ready.{Few, JobRead, JobTold, refusedCounts}
 
 -- A refusal behind what passed is the refusal of all.
-then-stops : {A B : Type 0} {a : Answer A} (f : A → Answer B) {k q : ℕ} → a ≡ refused k q → then a f ≡ refused k q
+then-stops : {A B : Type 0} {a : Reading A} (f : A → Reading B) {k q : ℕ} → a ≡ refused k q → then a f ≡ refused k q
 unfolding then
 then-stops f e = ap (λ x. then x f) e
 
 -- What the reader told of a program text.
-told-accepted : (x : Answer Listing) (r : Count) (w : List ℕ) → Told x r w → r .number ≡ 0 → (s : Listing) × (x ≡ accepted s) × InTable w r s
+told-accepted : (x : Reading Listing) (r : Count) (w : List ℕ) → Told x r w → r .number ≡ 0 → (s : Listing) × (x ≡ accepted s) × InTable w r s
 told-accepted (refused k p) r w t z = absurd (let y : ⊥ = omega (arith, t .0, t .2) in y)
 told-accepted (accepted s) r w t z = (s, refl, t .2)
 
-told-refused : (x : Answer Listing) (r : Count) (w : List ℕ) → Told x r w → (r .number ≡ 0 → ⊥) → (x ≡ refused (r .number) (r .place)) × (0 < r .number)
+told-refused : (x : Reading Listing) (r : Count) (w : List ℕ) → Told x r w → (r .number ≡ 0 → ⊥) → (x ≡ refused (r .number) (r .place)) × (0 < r .number)
 told-refused (refused k p) r w t z = (λ i. refused (sym (t .0) i) (sym (t .1) i), omega (arith, t .0, t .2))
 told-refused (accepted s) r w t z = absurd (z (t .0))
 
@@ -40,27 +40,27 @@ pub program-refused : (text : Bytes) (k q : ℕ) → readListing text ≡ refuse
 unfolding readProgram
 program-refused text k q e = then-stops (λ (x : Listing). accepted (x .program)) e
 
-pub few-none : (k q : ℕ) → Few (refusedTexts k q)
+pub few-none : (k q : ℕ) → Few (refusedCounts k q)
 few-none k q = record { few-old-nodes = omega arith; few-old-edges = omega arith; few-new-nodes = omega arith; few-new-edges = omega arith; few-tests = omega arith }
 
 module _ (old ow new nw tt tests rows : List ℕ) where
-  refuse : (k q : ℕ) (r : Texts) → r ≡ refusedTexts k q → readJob old new tt ≡ refused k q → 0 < k → JobRead old ow new nw tt tests rows r
+  refuse : (k q : ℕ) (r : Counts) → r ≡ refusedCounts k q → readJob old new tt ≡ refused k q → 0 < k → JobRead old ow new nw tt tests rows r
   refuse k q r is e h =
       subst (JobRead old ow new nw tt tests rows) (sym is)
       (record {
-        told = subst (λ (x : Answer Given). JobTold x old ow new nw tt tests rows (refusedTexts k q)) (sym e) (refl, refl, h);
+        told = subst (λ (x : Reading Given). JobTold x old ow new nw tt tests rows (refusedCounts k q)) (sym e) (refl, refl, h);
         few = few-none k q;
       })
 
   -- The old program is refused.
-  pub stop-old : (o : Count) → ReadInto old o ow → (o .number ≡ 0 → ⊥) → (r : Texts) → r ≡ refusedTexts (o .number) (o .place) → JobRead old ow new nw tt tests rows r
+  pub stop-old : (o : Count) → ReadInto old o ow → (o .number ≡ 0 → ⊥) → (r : Counts) → r ≡ refusedCounts (o .number) (o .place) → JobRead old ow new nw tt tests rows r
   unfolding readJob
   stop-old o h z r is =
       let t = told-refused (readListing old) o ow (h .told) z in
       refuse (o .number) (o .place) r is (then-stops _ (program-refused old (o .number) (o .place) (t .0))) (t .1)
 
   -- The new program is.
-  pub stop-new : (o p : Count) → ReadInto old o ow → o .number ≡ 0 → ReadInto new p nw → (p .number ≡ 0 → ⊥) → (r : Texts) → r ≡ refusedTexts (p .number) (p .place) → JobRead old ow new nw tt tests rows r
+  pub stop-new : (o p : Count) → ReadInto old o ow → o .number ≡ 0 → ReadInto new p nw → (p .number ≡ 0 → ⊥) → (r : Counts) → r ≡ refusedCounts (p .number) (p .place) → JobRead old ow new nw tt tests rows r
   unfolding readJob
   stop-new o p h z h′ z′ r is =
       let s = told-accepted (readListing old) o ow (h .told) z in
@@ -69,7 +69,7 @@ module _ (old ow new nw tt tests rows : List ℕ) where
 
   -- The tests are.
   pub stop-tests : (o p : Count) (t : Read) → ReadInto old o ow → o .number ≡ 0 → ReadInto new p nw → p .number ≡ 0 → TestsRead (o .edges) tt t tests rows → (t .number ≡ 0 → ⊥)
-      → (r : Texts) → r ≡ refusedTexts (t .number) (t .place) → JobRead old ow new nw tt tests rows r
+      → (r : Counts) → r ≡ refusedCounts (t .number) (t .place) → JobRead old ow new nw tt tests rows r
   unfolding readJob readSuite Reads
   stop-tests o p t h z h′ z′ u y r is =
       let s = told-accepted (readListing old) o ow (h .told) z in
@@ -88,11 +88,11 @@ module _ (old ow new nw tt tests rows : List ℕ) where
       let s′ = told-accepted (readListing new) p nw (h′ .told) z′ in
       let r = accepted-of (o .edges) (readTests (o .edges) tt) t tests rows (u .reads) y in
       let e : readTests (edgeCount (s .0 .program)) tt ≡ accepted (r .0) = ap (λ (m : ℕ). readTests m tt) (sym (s .2 .edges-n)) ∙ r .1 in
-      let c : Texts = record { number = 0; place = 0; «old_nodes» = o .nodes; «old_edges» = o .edges; «new_nodes» = p .nodes; «new_edges» = p .edges; tests = t .count } in
+      let c : Counts = record { number = 0; place = 0; «old_nodes» = o .nodes; «old_edges» = o .edges; «new_nodes» = p .nodes; «new_edges» = p .edges; tests = t .count } in
       let g : Given = record { old = s .0 .program; new = s′ .0 .program; suite = r .0 .suite } in
       let a : readJob old new tt ≡ accepted g = then-passes _ (program-of old (s .0) (s .1)) ∙ then-passes _ (program-of new (s′ .0) (s′ .1)) ∙ then-passes _ (then-passes _ e) in
       record {
-        told = subst (λ (x : Answer Given). JobTold x old ow new nw tt tests rows c) (sym a) (
+        told = subst (λ (x : Reading Given). JobTold x old ow new nw tt tests rows c) (sym a) (
           refl,
           refl,
           record {

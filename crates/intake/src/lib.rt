@@ -2,10 +2,10 @@
 ghost use mathlib.Core.Path.{_≡_};
 ghost use Prim.Native.Nat.{_≤_};
 ghost use lib.ListN.{length};
-ghost use Rattle.intake.specs.Ready.{JobRead, refusedTexts};
+ghost use Rattle.intake.specs.Ready.{JobRead, refusedCounts};
 
 // What was read: a refusal by number and place, where the number is not 0, or how many nodes, edges and tests there are.
-pub struct Texts {
+pub struct Counts {
     pub number: usize,
     pub place: usize,
     pub old_nodes: usize,
@@ -25,7 +25,7 @@ pub fn read_job(
     nw: &mut [usize],
     tests: &mut [usize],
     rows: &mut [u64],
-) -> Texts
+) -> Counts
     requires { ⌜ (8128 ≤ length (now ow)) × (8128 ≤ length (now nw)) × (400 ≤ length (now tests)) × (3200 ≤ length (now rows)) ⌝ }
     ensures { λ r. ⌜ JobRead (now (old .entry)) (now (ow .exit)) (now (new .entry)) (now (nw .exit)) (now (tt .entry)) (now (tests .exit)) (now (rows .exit)) r ⌝ }
 {
@@ -41,7 +41,7 @@ pub fn read_job(
     if t.number != 0 {
         return refused(t.number, t.place);
     }
-    Texts {
+    Counts {
         number: 0,
         place: 0,
         old_nodes: o.nodes,
@@ -53,10 +53,10 @@ pub fn read_job(
 }
 
 // A refusal, by number and place.
-pub fn refused(number: usize, place: usize) -> Texts
-    ensures { λ r. ⌜ r ≡ refusedTexts number place ⌝ }
+pub fn refused(number: usize, place: usize) -> Counts
+    ensures { λ r. ⌜ r ≡ refusedCounts number place ⌝ }
 {
-    Texts {
+    Counts {
         number,
         place,
         old_nodes: 0,

@@ -11,7 +11,7 @@ use lib.Seq.{sets, length-sets, length-take-le}
 use borrow.Author.Tests.{eq-eqb, ne-eqb, le-leb, lt-leb, le-ltb, lt-ltb, ltb-true}
 use Rattle.laws.specs.Tests.{after, choose}
 use Rattle.laws.specs.Slices.{below-or, same-or, sets-front, part-sets, part-sets-before, drop-end}
-use Rattle.rules.specs.Text.{Bytes, Answer as Reading, refused, accepted}
+use Rattle.rules.specs.Text.{Bytes, Reading, refused, accepted}
 use Rattle.rules.specs.Graph.{nodeCount, edgeCount}
 use Rattle.rules.specs.ProgramFile.{Listing}
 use Rattle.rules.specs.SuiteFile.{TestListing, testCount}
@@ -22,8 +22,8 @@ use Rattle.answer.specs.Outcomes.{Told, packing, packing-fits, packs, refusal-t
 use Rattle.reader.specs.declared.Count.{Count}
 use Rattle.suite.specs.declared.Read.{Read}
 use Rattle.versions.specs.Memory.{InMemory, memory}
-use Rattle.intake.specs.declared.Texts.{Texts}
-use Rattle.intake.specs.Ready.{Few, Ready, refusedTexts}
+use Rattle.intake.specs.declared.Counts.{Counts}
+use Rattle.intake.specs.Ready.{Few, Ready, refusedCounts}
 use Rattle.intake.proofs.Laws.{few-none}
 use Rattle.work.specs.Work.{Done}
 use Rattle.requests.specs.Requests.{Served}
@@ -38,15 +38,15 @@ use Rattle.lent_job.specs.HeldLaws.{front-left, held-tests-parts, suite-accepte
 use Rattle.records.specs.Shown.{partShown}
 use Rattle.job_calls.specs.declared.Label.{Label}
 use Rattle.lent_job.specs.Calls.{Called, Found, Kept, LentJob, Shown, givenBy, goesBy, holding, labelPartCall, labelSpanCall, lentCall, lentJob, requestScratch, shownBy, spanBy, versionOf}
-use Rattle.job_calls.specs.Loaded.{CalledOn, SpanIs, countsBy, dueTexts, labelBySide, labelOfNode, loadedJob, noLabel, textsDue, unloaded}
+use Rattle.job_calls.specs.Loaded.{CalledOn, SpanIs, countsBy, dueCounts, labelBySide, labelOfNode, loadedJob, noLabel, countsDue, unloaded}
 use Rattle.lent_job.specs.DueLaws.{due-cases}
 use Rattle.lent_job.specs.Answers.{labels-few, lent-plain}
 
 -- ---- `suite_due`
 
 module _ (j : Job) (o p : Count) where
-  pub suite-stop : (x : Option TestListing) (t : Read) (r : Texts) → t ≡ readLeft x → (t .number ≡ 0 → ⊥) → r ≡ refusedTexts 14 0 → r ≡ textsDue j o p x
-  unfolding readLeft textsDue
+  pub suite-stop : (x : Option TestListing) (t : Read) (r : Counts) → t ≡ readLeft x → (t .number ≡ 0 → ⊥) → r ≡ refusedCounts 14 0 → r ≡ countsDue j o p x
+  unfolding readLeft countsDue
   suite-stop none t r e z q = q
   suite-stop (some l) t r e z q = absurd (z (ap (λ (y : Read). y .number) e))
 
@@ -58,22 +58,22 @@ module _ (j : Job) (o p : Count) where
         d ∙ ap (λ (y : Read). sameJob j (record { stage = 3; «old_procs» = o .procs; «old_nodes» = o .nodes; «old_edges» = o .edges; «new_procs» = p .procs; «new_nodes» = p .nodes; «new_edges» = p .edges; tests = y .count })) e
 
     pub suite-goes : (x : Option TestListing) → t ≡ readLeft x → u ≡ true
-        → record { number = 0; place = 0; «old_nodes» = o .nodes; «old_edges» = o .edges; «new_nodes» = p .nodes; «new_edges» = p .edges; tests = t .count } ≡ textsDue j o p x
-    unfolding readLeft textsDue choose countsBy
+        → record { number = 0; place = 0; «old_nodes» = o .nodes; «old_edges» = o .edges; «new_nodes» = p .nodes; «new_edges» = p .edges; tests = t .count } ≡ countsDue j o p x
+    unfolding readLeft countsDue choose countsBy
     suite-goes none e y = absurd (let v : ⊥ = omega (arith, z, ap (λ (y : Read). y .number) e) in v)
     suite-goes (some l) e y =
-        ap (λ (v : Read). countsBy o p (v .count)) e ∙ ap (λ (b : Bool). choose b (countsBy o p (testCount (l .suite))) (refusedTexts 14 0)) (sym y ∙ same-is l e)
+        ap (λ (v : Read). countsBy o p (v .count)) e ∙ ap (λ (b : Bool). choose b (countsBy o p (testCount (l .suite))) (refusedCounts 14 0)) (sym y ∙ same-is l e)
 
-    pub suite-other : (x : Option TestListing) (r : Texts) → t ≡ readLeft x → u ≡ false → r ≡ refusedTexts 14 0 → r ≡ textsDue j o p x
-    unfolding readLeft textsDue choose
+    pub suite-other : (x : Option TestListing) (r : Counts) → t ≡ readLeft x → u ≡ false → r ≡ refusedCounts 14 0 → r ≡ countsDue j o p x
+    unfolding readLeft countsDue choose
     suite-other none r e y q = q
-    suite-other (some l) r e y q = q ∙ ap (λ (b : Bool). choose b (countsBy o p (testCount (l .suite))) (refusedTexts 14 0)) (sym y ∙ same-is l e)
+    suite-other (some l) r e y q = q ∙ ap (λ (b : Bool). choose b (countsBy o p (testCount (l .suite))) (refusedCounts 14 0)) (sym y ∙ same-is l e)
 
 -- ---- `due`
 
-due-last : (s s′ : Listing) (l : TestListing) (u : Bool) → choose u (countsBy (countLeft (some s)) (countLeft (some s′)) (testCount (l .suite))) (refusedTexts 14 0)
-    ≡ dueTexts (after (choose u (some (record { old = s; new = s′; tests = l })) none) (refused 14 0) (λ h. accepted h))
-unfolding choose countsBy countLeft dueTexts
+due-last : (s s′ : Listing) (l : TestListing) (u : Bool) → choose u (countsBy (countLeft (some s)) (countLeft (some s′)) (testCount (l .suite))) (refusedCounts 14 0)
+    ≡ dueCounts (after (choose u (some (record { old = s; new = s′; tests = l })) none) (refused 14 0) (λ h. accepted h))
+unfolding choose countsBy countLeft dueCounts
 due-last s s′ l true = refl
 due-last s s′ l false = refl
 
@@ -87,13 +87,13 @@ module _ (j : Job) (had olds : ℕ) (ot on ol : List ℕ) (news : ℕ) (nt nn nl
   abbrev lent-job : LentJob
   lent-job = lentJob j old-lent new-lent tt tests rows had
 
-  pub due-stage : (r : Texts) → (j .stage ≡ 3 → ⊥) → r ≡ refusedTexts 13 0 → r ≡ dueTexts (goesBy lent-job)
-  unfolding goesBy ofStage choose dueTexts
+  pub due-stage : (r : Counts) → (j .stage ≡ 3 → ⊥) → r ≡ refusedCounts 13 0 → r ≡ dueCounts (goesBy lent-job)
+  unfolding goesBy ofStage choose dueCounts
   due-stage r h e = e ∙ simp (ne-eqb _ _ h)
 
   module _ (st : j .stage ≡ 3) where
-    pub due-short : (r : Texts) → had < requestScratch → r ≡ refusedTexts 14 0 → r ≡ dueTexts (goesBy lent-job)
-    unfolding goesBy ofStage choose dueTexts
+    pub due-short : (r : Counts) → had < requestScratch → r ≡ refusedCounts 14 0 → r ≡ dueCounts (goesBy lent-job)
+    unfolding goesBy ofStage choose dueCounts
     due-short r h e = e ∙ simp (eq-eqb _ _ st, lt-leb requestScratch had h)
 
     module _ (room : requestScratch ≤ had) where
@@ -112,16 +112,16 @@ module _ (j : Job) (had olds : ℕ) (ot on ol : List ℕ) (news : ℕ) (nt nn nl
       some-old none c e z = absurd (let v : ⊥ = omega (arith, z, ap (λ (y : Count). y .number) e) in v)
       some-old (some s) c e z = (s, refl)
 
-      held-none : (r : Texts) → heldTests j old-lent new-lent tt tests rows ≡ none → r ≡ refusedTexts 14 0 → r ≡ dueTexts (goesBy lent-job)
-      unfolding dueTexts
-      held-none r e d = d ∙ sym (ap dueTexts (goes-held none e))
+      held-none : (r : Counts) → heldTests j old-lent new-lent tt tests rows ≡ none → r ≡ refusedCounts 14 0 → r ≡ dueCounts (goesBy lent-job)
+      unfolding dueCounts
+      held-none r e d = d ∙ sym (ap dueCounts (goes-held none e))
 
-      pub due-old : (r : Texts) (c : Count) → c ≡ countLeft (versionLeft old-lent) → (c .number ≡ 0 → ⊥) → r ≡ refusedTexts 14 0 → r ≡ dueTexts (goesBy lent-job)
+      pub due-old : (r : Counts) (c : Count) → c ≡ countLeft (versionLeft old-lent) → (c .number ≡ 0 → ⊥) → r ≡ refusedCounts 14 0 → r ≡ dueCounts (goesBy lent-job)
       unfolding heldTests
       due-old r c e z d = held-none r (simp (none-old (versionLeft old-lent) c e z)) d
 
       module _ (o : Count) (eo : o ≡ countLeft (versionLeft old-lent)) (zo : o .number ≡ 0) where
-        pub due-new : (r : Texts) (c : Count) → c ≡ countLeft (versionLeft new-lent) → (c .number ≡ 0 → ⊥) → r ≡ refusedTexts 14 0 → r ≡ dueTexts (goesBy lent-job)
+        pub due-new : (r : Counts) (c : Count) → c ≡ countLeft (versionLeft new-lent) → (c .number ≡ 0 → ⊥) → r ≡ refusedCounts 14 0 → r ≡ dueCounts (goesBy lent-job)
         unfolding heldTests
         due-new r c e z d = let s = some-old (versionLeft old-lent) o eo zo in held-none r (simp (s .1, none-old (versionLeft new-lent) c e z)) d
 
@@ -130,20 +130,20 @@ module _ (j : Job) (had olds : ℕ) (ot on ol : List ℕ) (news : ℕ) (nt nn nl
 
         module _ (p : Count) (ep : p ≡ countLeft (versionLeft new-lent)) (zp : p .number ≡ 0) where
           module _ (s s′ : Listing) (es : versionLeft old-lent ≡ some s) (es′ : versionLeft new-lent ≡ some s′) where
-            due-by : (x : Option TestListing) → textsDue j (countLeft (some s)) (countLeft (some s′)) x
-                ≡ dueTexts (after (after x none (λ l. choose (sameJob j (jobTests s s′ l)) (some (record { old = s; new = s′; tests = l })) none)) (refused 14 0) (λ h. accepted h))
-            unfolding textsDue dueTexts countLeft jobTests countsBy
+            due-by : (x : Option TestListing) → countsDue j (countLeft (some s)) (countLeft (some s′)) x
+                ≡ dueCounts (after (after x none (λ l. choose (sameJob j (jobTests s s′ l)) (some (record { old = s; new = s′; tests = l })) none)) (refused 14 0) (λ h. accepted h))
+            unfolding countsDue dueCounts countLeft jobTests countsBy
             due-by none = refl
             due-by (some l) = due-last s s′ l (sameJob j (jobTests s s′ l))
 
-            due-is : (r : Texts) → r ≡ textsDue j o p (suiteLeft (o .edges) tt tests rows) → r ≡ dueTexts (goesBy lent-job)
+            due-is : (r : Counts) → r ≡ countsDue j o p (suiteLeft (o .edges) tt tests rows) → r ≡ dueCounts (goesBy lent-job)
             unfolding heldTests countLeft
             due-is r e =
-                e ∙ ap₂ (λ (a b : Count). textsDue j a b (suiteLeft (a .edges) tt tests rows)) (eo ∙ ap countLeft es) (ep ∙ ap countLeft es′)
+                e ∙ ap₂ (λ (a b : Count). countsDue j a b (suiteLeft (a .edges) tt tests rows)) (eo ∙ ap countLeft es) (ep ∙ ap countLeft es′)
                 ∙ due-by (suiteLeft (edgeCount (s .program)) tt tests rows)
-                ∙ sym (ap dueTexts (goes-held (after (suiteLeft (edgeCount (s .program)) tt tests rows) none (λ l. choose (sameJob j (jobTests s s′ l)) (some (record { old = s; new = s′; tests = l })) none)) (simp (es, es′))))
+                ∙ sym (ap dueCounts (goes-held (after (suiteLeft (edgeCount (s .program)) tt tests rows) none (λ l. choose (sameJob j (jobTests s s′ l)) (some (record { old = s; new = s′; tests = l })) none)) (simp (es, es′))))
 
-          pub due-done : (r : Texts) → r ≡ textsDue j o p (suiteLeft (o .edges) tt tests rows) → r ≡ dueTexts (goesBy lent-job)
+          pub due-done : (r : Counts) → r ≡ countsDue j o p (suiteLeft (o .edges) tt tests rows) → r ≡ dueCounts (goesBy lent-job)
           due-done r e =
               let s = some-old (versionLeft old-lent) o eo zo in
               let s′ = some-old (versionLeft new-lent) p ep zp in
@@ -164,8 +164,8 @@ module _ (k : LentJob) (h : AllRead) (held : holding k ≡ some h) where
   new-few : Sound (h .new .program)
   new-few = version-sound (k .new) (h .new) (parts .1)
 
-  pub held-few : Few (dueTexts (accepted h))
-  unfolding dueTexts
+  pub held-few : Few (dueCounts (accepted h))
+  unfolding dueCounts
   held-few =
       record {
         few-old-nodes = old-few .fewNodes;
@@ -176,8 +176,8 @@ module _ (k : LentJob) (h : AllRead) (held : holding k ≡ some h) where
       }
 
   pub held-ready : 2048 ≤ length (k .old .nodes) → 2048 ≤ length (k .new .nodes)
-      → Ready (memory (k .old .text) (k .old .nodes) (k .old .links)) (memory (k .new .text) (k .new .nodes) (k .new .links)) (k .testsText) (k .tests) (k .rows) (dueTexts (accepted h)) (givenBy h)
-  unfolding dueTexts
+      → Ready (memory (k .old .text) (k .old .nodes) (k .old .links)) (memory (k .new .text) (k .new .nodes) (k .new .links)) (k .testsText) (k .tests) (k .rows) (dueCounts (accepted h)) (givenBy h)
+  unfolding dueCounts
   held-ready a b =
       let l = suite-accepted (edgeCount (h .old .program)) (k .testsText) (k .tests) (k .rows) (h .tests) (parts .2) in
       record {
@@ -195,23 +195,23 @@ module _ (k : LentJob) (h : AllRead) (held : holding k ≡ some h) where
         new-edges-n = refl;
       }
 
-refused-texts : (q p : ℕ) → dueTexts (refused q p) ≡ refusedTexts q p
-unfolding dueTexts
-refused-texts q p = refl
+refused-counts : (q p : ℕ) → dueCounts (refused q p) ≡ refusedCounts q p
+unfolding dueCounts
+refused-counts q p = refl
 
-accepted-number : (h : AllRead) → dueTexts (accepted h) .number ≡ 0
-unfolding dueTexts
+accepted-number : (h : AllRead) → dueCounts (accepted h) .number ≡ 0
+unfolding dueCounts
 accepted-number h = refl
 
-module _ (k : LentJob) (had : Texts) (eh : had ≡ dueTexts (goesBy k)) where
+module _ (k : LentJob) (had : Counts) (eh : had ≡ dueCounts (goesBy k)) where
   pub due-few : Few had
   due-few =
-      due-cases k (λ n b c e. subst Few (sym (eh ∙ ap dueTexts e ∙ refused-texts n 0)) (few-none n 0)) (λ h e room held. subst Few (sym (eh ∙ ap dueTexts e)) (held-few k h held))
+      due-cases k (λ n b c e. subst Few (sym (eh ∙ ap dueCounts e ∙ refused-counts n 0)) (few-none n 0)) (λ h e room held. subst Few (sym (eh ∙ ap dueCounts e)) (held-few k h held))
 
   due-room : had .number ≡ 0 → requestScratch ≤ k .scratch
   due-room z =
       due-cases k
-      (λ n c d e. absurd (let v : ⊥ = omega (arith, z, c, ap (λ (t : Texts). t .number) (eh ∙ ap dueTexts e ∙ refused-texts n 0)) in v))
+      (λ n c d e. absurd (let v : ⊥ = omega (arith, z, c, ap (λ (t : Counts). t .number) (eh ∙ ap dueCounts e ∙ refused-counts n 0)) in v))
       (λ h e room held. room)
 
   pub due-asks : had .number ≡ 0 → (had .«old_nodes» ≤ 512) × (had .«new_nodes» ≤ 512) × (had .«old_edges» ≤ 1024) × (had .tests ≤ 200) × (requestScratch ≤ k .scratch)
@@ -222,8 +222,8 @@ module _ (k : LentJob) (had : Texts) (eh : had ≡ dueTexts (goesBy k)) where
   unfolding outcome
   due-stops f z =
       due-cases k
-      (λ n b c e. ap (λ (x : Reading AllRead). outcome x f) e ∙ sym (ap (λ (t : Texts). refusal (t .number) (t .place)) (eh ∙ ap dueTexts e ∙ refused-texts n 0)))
-      (λ h e room held. absurd (z (ap (λ (t : Texts). t .number) (eh ∙ ap dueTexts e) ∙ accepted-number h)))
+      (λ n b c e. ap (λ (x : Reading AllRead). outcome x f) e ∙ sym (ap (λ (t : Counts). refusal (t .number) (t .place)) (eh ∙ ap dueCounts e ∙ refused-counts n 0)))
+      (λ h e room held. absurd (z (ap (λ (t : Counts). t .number) (eh ∙ ap dueCounts e) ∙ accepted-number h)))
 
   -- Else what follows is the answer.
   due-goes : (f : AllRead → Outcome) (P : Outcome → Type 0) → had .number ≡ 0 → 2048 ≤ length (k .old .nodes) → 2048 ≤ length (k .new .nodes)
@@ -232,9 +232,9 @@ module _ (k : LentJob) (had : Texts) (eh : had ≡ dueTexts (goesBy k)) where
   unfolding outcome
   due-goes f P z a b go =
       due-cases k
-      (λ n c d e. absurd (let v : ⊥ = omega (arith, z, c, ap (λ (t : Texts). t .number) (eh ∙ ap dueTexts e ∙ refused-texts n 0)) in v))
+      (λ n c d e. absurd (let v : ⊥ = omega (arith, z, c, ap (λ (t : Counts). t .number) (eh ∙ ap dueCounts e ∙ refused-counts n 0)) in v))
       (λ h e room held.
-      let r = subst (λ (t : Texts). Ready (memory (k .old .text) (k .old .nodes) (k .old .links)) (memory (k .new .text) (k .new .nodes) (k .new .links)) (k .testsText) (k .tests) (k .rows) t (givenBy h)) (sym (eh ∙ ap dueTexts e)) (held-ready k h held a b) in
+      let r = subst (λ (t : Counts). Ready (memory (k .old .text) (k .old .nodes) (k .old .links)) (memory (k .new .text) (k .new .nodes) (k .new .links)) (k .testsText) (k .tests) (k .rows) t (givenBy h)) (sym (eh ∙ ap dueCounts e)) (held-ready k h held a b) in
       subst P (sym (ap (λ (x : Reading AllRead). outcome x f) e)) (go h room r))
 
 -- A slice of the same length is as wide.
@@ -266,7 +266,7 @@ module _ (j : Job) (olds : ℕ) (ot on ol : List ℕ) (news : ℕ) (nt nn nl tt 
 
   -- ---- `call_in`
 
-  module _ (q : Asked) (had : Texts) (eh : had ≡ dueTexts (goesBy the-job)) (input : Bytes) where
+  module _ (q : Asked) (had : Counts) (eh : had ≡ dueCounts (goesBy the-job)) (input : Bytes) where
     abbrev call-loaded : ℕ → Outcome
     call-loaded room = lentCall q (loadedJob j olds ot ol news nt nl tt tests rows w) input room
 
@@ -336,8 +336,8 @@ module _ (t nodes links t′ nodes′ links′ : List ℕ) (s s′ : Listing) (h
       let b : eqb (suc (suc m)) 1 ≡ false = ne-eqb (suc (suc m)) 1 (λ e. let z : ⊥ = omega arith in z) in
       simp (a, b)
 
-module _ (j : Job) (olds : ℕ) (ot on ol : List ℕ) (news : ℕ) (nt nn nl tt tests rows w : List ℕ) (eo : on ≡ unloaded 0 w) (en : nn ≡ unloaded 2048 w) (side n : ℕ) (had : Texts)
-    (eh : had ≡ dueTexts (goesBy (the-job j olds ot on ol news nt nn nl tt tests rows w eo en))) where
+module _ (j : Job) (olds : ℕ) (ot on ol : List ℕ) (news : ℕ) (nt nn nl tt tests rows w : List ℕ) (eo : on ≡ unloaded 0 w) (en : nn ≡ unloaded 2048 w) (side n : ℕ) (had : Counts)
+    (eh : had ≡ dueCounts (goesBy (the-job j olds ot on ol news nt nn nl tt tests rows w eo en))) where
   abbrev label-job : LentJob
   label-job = the-job j olds ot on ol news nt nn nl tt tests rows w eo en
 
@@ -353,21 +353,21 @@ module _ (j : Job) (olds : ℕ) (ot on ol : List ℕ) (news : ℕ) (nt nn nl tt 
   label-stop z =
       span-loaded _ (due-cases label-job
       (λ m b c e. sym (ap (λ (x : Reading AllRead). spanBy x label-job side n) e))
-      (λ h e room held. absurd (z (ap (λ (t : Texts). t .number) (eh ∙ ap dueTexts e) ∙ accepted-number h))))
+      (λ h e room held. absurd (z (ap (λ (t : Counts). t .number) (eh ∙ ap dueCounts e) ∙ accepted-number h))))
 
-  counts-of : (h : AllRead) → (dueTexts (accepted h) .«old_nodes» ≡ nodeCount (h .old .program)) × (dueTexts (accepted h) .«new_nodes» ≡ nodeCount (h .new .program))
-  unfolding dueTexts
+  counts-of : (h : AllRead) → (dueCounts (accepted h) .«old_nodes» ≡ nodeCount (h .old .program)) × (dueCounts (accepted h) .«new_nodes» ≡ nodeCount (h .new .program))
+  unfolding dueCounts
   counts-of h = (refl, refl)
 
   pub label-goes : (r : Label) → had .number ≡ 0 → r ≡ labelBySide side (had .«old_nodes») on (had .«new_nodes») nn n → SpanIs (labelSpanCall (loadedJob j olds ot ol news nt nl tt tests rows w) side n) r
   unfolding spanBy
   label-goes r z er =
       span-loaded r (due-cases label-job
-      (λ m c d e. absurd (let v : ⊥ = omega (arith, z, c, ap (λ (t : Texts). t .number) (eh ∙ ap dueTexts e ∙ refused-texts m 0)) in v))
+      (λ m c d e. absurd (let v : ⊥ = omega (arith, z, c, ap (λ (t : Counts). t .number) (eh ∙ ap dueCounts e ∙ refused-counts m 0)) in v))
       (λ h e room held.
       let p = parts label-job h held in
-      let a : had .«old_nodes» ≡ nodeCount (h .old .program) = ap (λ (t : Texts). t .«old_nodes») (eh ∙ ap dueTexts e) ∙ counts-of h .0 in
-      let b : had .«new_nodes» ≡ nodeCount (h .new .program) = ap (λ (t : Texts). t .«new_nodes») (eh ∙ ap dueTexts e) ∙ counts-of h .1 in
+      let a : had .«old_nodes» ≡ nodeCount (h .old .program) = ap (λ (t : Counts). t .«old_nodes») (eh ∙ ap dueCounts e) ∙ counts-of h .0 in
+      let b : had .«new_nodes» ≡ nodeCount (h .new .program) = ap (λ (t : Counts). t .«new_nodes») (eh ∙ ap dueCounts e) ∙ counts-of h .1 in
       ap spanOf (er ∙ ap₂ (λ (x y : ℕ). labelBySide side x on y nn n) a b)
       ∙ span-side ot on ol nt nn nl (h .old) (h .new) (version-memory (label-job .old) (h .old) (p .0) (wide-old j olds ot on ol news nt nn nl tt tests rows w eo en))
       (version-memory (label-job .new) (h .new) (p .1) (wide-new j olds ot on ol news nt nn nl tt tests rows w eo en)) n side

@@ -7,15 +7,15 @@ use lib.Dec.{eqb, ltb}
 use lib.ListN.{length, getD, take, drop, replicate}
 use lib.Seq.{sets}
 use Rattle.laws.specs.Tests.{choose}
-use Rattle.rules.specs.Text.{Bytes, Answer as Reading, refused, accepted}
+use Rattle.rules.specs.Text.{Bytes, Reading, refused, accepted}
 use Rattle.rules.specs.Graph.{nodeCount, edgeCount}
 use Rattle.rules.specs.SuiteFile.{TestListing, testCount}
 use Rattle.rules.specs.Job.{Outcome, Span, read-tests, stageAfter}
 use Rattle.answer.specs.declared.Answer.{Answer}
 use Rattle.answer.specs.Outcomes.{Told}
 use Rattle.reader.specs.declared.Count.{Count}
-use Rattle.intake.specs.declared.Texts.{Texts}
-use Rattle.intake.specs.Ready.{refusedTexts}
+use Rattle.intake.specs.declared.Counts.{Counts}
+use Rattle.intake.specs.Ready.{refusedCounts}
 use Rattle.records.specs.declared.Job.{Job}
 use Rattle.records.specs.Jobs.{sameJob}
 use Rattle.lent_job.specs.Held.{AllRead, jobAt, numbers}
@@ -32,17 +32,17 @@ loadedJob j olds ot ol news nt nl text tests rows w =
     lentJob j (numbers olds ot (unloaded 0 w) ol) (numbers news nt (unloaded 2048 w) nl) text tests rows (length w)
 
 -- `suite_due`: the counts of a job whose programs have these counts, or 14.
-unfoldable pub countsBy : Count → Count → ℕ → Texts
+unfoldable pub countsBy : Count → Count → ℕ → Counts
 countsBy o p n = record { number = 0; place = 0; «old_nodes» = o .nodes; «old_edges» = o .edges; «new_nodes» = p .nodes; «new_edges» = p .edges; tests = n }
 
-unfoldable pub textsDue : Job → Count → Count → Option TestListing → Texts
-textsDue j o p none = refusedTexts 14 0
-textsDue j o p (some l) = choose (sameJob j (jobAt (stageAfter read-tests) o p (testCount (l .suite)))) (countsBy o p (testCount (l .suite))) (refusedTexts 14 0)
+unfoldable pub countsDue : Job → Count → Count → Option TestListing → Counts
+countsDue j o p none = refusedCounts 14 0
+countsDue j o p (some l) = choose (sameJob j (jobAt (stageAfter read-tests) o p (testCount (l .suite)))) (countsBy o p (testCount (l .suite))) (refusedCounts 14 0)
 
 -- `due`: the refusal, or the counts of what is held.
-unfoldable pub dueTexts : Reading AllRead → Texts
-dueTexts (refused k p) = refusedTexts k p
-dueTexts (accepted h) =
+unfoldable pub dueCounts : Reading AllRead → Counts
+dueCounts (refused k p) = refusedCounts k p
+dueCounts (accepted h) =
     record {
       number = 0;
       place = 0;

@@ -1,7 +1,7 @@
 // The calls of a job at stage 3, on values: one for every request, and one that finds a label. The scratch `w` holds the numbers of the nodes
 // before, and is zero afterwards. `label_shown` takes job and nodes out of what is lent.
 use answer::Answer;
-use intake::Texts;
+use intake::Counts;
 use intake::refused;
 use reader::Count;
 use records::Job;
@@ -19,14 +19,14 @@ ghost use Rattle.rules.specs.Job.{requestBy};
 ghost use Rattle.requests.specs.Requests.{asked};
 ghost use Rattle.lent_job.specs.Held.{lent, numbers, suiteLeft};
 ghost use Rattle.lent_job.specs.Calls.{Shown, goesBy, labelPartCall, labelSpanCall, lentCall, lentJob};
-ghost use Rattle.job_calls.specs.Loaded.{CalledOn, SpanIs, dueTexts, labelBySide, labelOfNode, loadedJob, textsDue};
+ghost use Rattle.job_calls.specs.Loaded.{CalledOn, SpanIs, dueCounts, labelBySide, labelOfNode, loadedJob, countsDue};
 
 // ---- 13 and 14
 
 // The counts, where the tables of the tests and the job are what reading leaves, else 14.
-fn suite_due(job: Job, o: Count, p: Count, tt: &[u8], tests: &[usize], rows: &[u64]) -> Texts
+fn suite_due(job: Job, o: Count, p: Count, tt: &[u8], tests: &[usize], rows: &[u64]) -> Counts
     requires { ⌜ o .edges ≤ 1024 ⌝ }
-    ensures { λ r. ⌜ r ≡ textsDue job o p (suiteLeft (o .edges) (now (tt .entry)) (now (tests .entry)) (now (rows .entry))) ⌝ }
+    ensures { λ r. ⌜ r ≡ countsDue job o p (suiteLeft (o .edges) (now (tt .entry)) (now (tests .entry)) (now (rows .entry))) ⌝ }
 {
     let mut names = [0usize; 400];
     let mut words = [0u64; 3200];
@@ -45,7 +45,7 @@ fn suite_due(job: Job, o: Count, p: Count, tt: &[u8], tests: &[usize], rows: &[u
         tests: t.count,
     };
     if records::same_job(job, left) {
-        return Texts {
+        return Counts {
             number: 0,
             place: 0,
             old_nodes: o.nodes,
@@ -74,8 +74,8 @@ fn due(
     tests: &[usize],
     rows: &[u64],
     w: &mut [usize],
-) -> Texts
-    ensures { λ r. ⌜ r ≡ dueTexts (goesBy (lentJob job (numbers olds (now (ot .entry)) (now (on .entry)) (now (ol .entry))) (numbers news (now (nt .entry)) (now (nn .entry)) (now (nl .entry))) (now (tt .entry)) (now (tests .entry)) (now (rows .entry)) (length (now (w .entry))))) ⌝ }
+) -> Counts
+    ensures { λ r. ⌜ r ≡ dueCounts (goesBy (lentJob job (numbers olds (now (ot .entry)) (now (on .entry)) (now (ol .entry))) (numbers news (now (nt .entry)) (now (nn .entry)) (now (nl .entry))) (now (tt .entry)) (now (tests .entry)) (now (rows .entry)) (length (now (w .entry))))) ⌝ }
 {
     if job.stage != 3 {
         return refused(13, 0);

@@ -11,7 +11,7 @@ use borrow.Author.Tests.{eq-eqb, eqb-true, lt-ltb, ltb-true}
 use Rattle.laws.specs.Tests.{after, choose, has}
 use Rattle.laws.specs.Lists.{choose-yes}
 use Rattle.laws.specs.Slices.{below-or}
-use Rattle.rules.specs.Text.{Answer as Reading, Bytes, accepted, maxBytes, refused, textOf}
+use Rattle.rules.specs.Text.{Reading, Bytes, accepted, maxBytes, refused, textOf}
 use Rattle.rules.specs.Graph.{Program, edgeCount, labelAt, nodeCount}
 use Rattle.rules.specs.ProgramFile.{Listing, readListing}
 use Rattle.rules.specs.SuiteFile.{coverageAt, readTests, testCount, testName}

@@ -6,7 +6,7 @@ use Prim.Native.Nat.{ℕ}
 use lib.Dec.{leb}
 use lib.ListN.{length, replicate}
 use Rattle.laws.specs.Tests.{after, choose}
-use Rattle.rules.specs.Text.{Bytes, Answer as Reading, refused, accepted}
+use Rattle.rules.specs.Text.{Bytes, Reading, refused, accepted}
 use Rattle.rules.specs.ProgramFile.{Listing}
 use Rattle.rules.specs.Job.{Given, Outcome, Request, Span, Version, check-sheet, givenOf, labelShown, make-request, nowhere, ofStage, outcome, outputAfter, packed, packedSpan, serving, show-label, spanShown, write-record, write-sheet}
 use Rattle.records.specs.declared.Job.{Job}

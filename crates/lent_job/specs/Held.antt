@@ -6,7 +6,7 @@ use Prim.Native.Nat.{ℕ}
 use lib.Dec.{leb}
 use lib.ListN.{length}
 use Rattle.laws.specs.Tests.{_and_, after, choose}
-use Rattle.rules.specs.Text.{Bytes, Answer, refused, accepted}
+use Rattle.rules.specs.Text.{Bytes, Reading, refused, accepted}
 use Rattle.rules.specs.Graph.{procCount, nodeCount, edgeCount}
 use Rattle.rules.specs.ProgramFile.{Listing, readListing}
 use Rattle.rules.specs.SuiteFile.{TestListing, readTests, testCount}
@@ -40,7 +40,7 @@ unfoldable pub longEnough : Lent → Bool
 longEnough v = leb 512 (v .room) and leb 6080 (length (v .links))
 
 -- The listing that a text was read to, where the tables are long enough and what reading it leaves; entries beyond the counts are free.
-unfoldable pub leftBy : Answer Listing → Lent → Option Listing
+unfoldable pub leftBy : Reading Listing → Lent → Option Listing
 leftBy (refused k p) v = none
 leftBy (accepted s) v = choose (longEnough v and isLeft s (v .nodes) (v .links)) (some s) none
 
@@ -53,7 +53,7 @@ versionLeft v = leftBy (readListing (v .text)) v
 unfoldable pub testsLong : List ℕ → List ℕ → Bool
 testsLong tests rows = leb 400 (length tests) and leb 3200 (length rows)
 
-unfoldable pub testsBy : Answer TestListing → List ℕ → List ℕ → Option TestListing
+unfoldable pub testsBy : Reading TestListing → List ℕ → List ℕ → Option TestListing
 testsBy (refused k p) tests rows = none
 testsBy (accepted l) tests rows = choose (testsLong tests rows and testsLeft l tests rows) (some l) none
 

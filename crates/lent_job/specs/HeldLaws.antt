@@ -12,7 +12,7 @@ use Rattle.laws.specs.Tests.{_and_, after, choose}
 use Rattle.laws.specs.TestLaws.{and-left, and-right, same-test}
 use Rattle.laws.specs.Slices.{below-or, getD-sets-before}
 use Rattle.laws.specs.Tables.{rows, rows-length, rows-stored}
-use Rattle.rules.specs.Text.{Bytes, same, Answer, refused, accepted}
+use Rattle.rules.specs.Text.{Bytes, same, Reading, refused, accepted}
 use Rattle.rules.specs.Proofs.TextLaws.{same-true, same-of, then-passes}
 use Rattle.rules.specs.Proofs.ProgramLaws.{Sound, read-sound}
 use Rattle.rules.specs.Graph.{procCount, nodeCount, edgeCount}
@@ -41,7 +41,7 @@ unfolding readProgram
 sound-of text s e = read-sound text (s .program) (then-passes (λ (x : Listing). accepted (x .program)) e) .0
 
 -- What is left of a version, taken apart.
-left-parts : (x : Answer Listing) (v : Lent) (s : Listing) → leftBy x v ≡ some s → (x ≡ accepted s) × (longEnough v ≡ true) × (isLeft s (v .nodes) (v .links) ≡ true)
+left-parts : (x : Reading Listing) (v : Lent) (s : Listing) → leftBy x v ≡ some s → (x ≡ accepted s) × (longEnough v ≡ true) × (isLeft s (v .nodes) (v .links) ≡ true)
 unfolding leftBy choose
 left-parts (refused k p) v s e = absurd (true≢false (let z : true ≡ false = cc in z))
 left-parts (accepted t) v s e = go (longEnough v and isLeft t (v .nodes) (v .links)) refl e
@@ -94,7 +94,7 @@ front-is s n l h k =
     ∙ ap (λ (m : List ℕ). same (sets m 0 (rows (nodeRow s) (nodeCount (s .program)))) m) (sym e))
 
 module _ (t : Bytes) (n : List Node) (l w : List ℕ) (h : 512 ≤ length n → w ≡ flat (take 512 n)) where
-  front-by : (x : Answer Listing) → readListing t ≡ x → leftBy x (numbers (length n) t w l) ≡ leftBy x (lent t n l)
+  front-by : (x : Reading Listing) → readListing t ≡ x → leftBy x (numbers (length n) t w l) ≡ leftBy x (lent t n l)
   unfolding leftBy longEnough _and_ choose
   front-by (refused k p) e = refl
   front-by (accepted s) e =
@@ -176,7 +176,7 @@ module _ (v : Lent) (s : Listing) (e : versionLeft v ≡ some s) (wide : 2048 �
 
 -- ---- the tests
 
-suite-parts : (x : Answer TestListing) (t w : List ℕ) (l : TestListing) → testsBy x t w ≡ some l → (x ≡ accepted l) × (testsLong t w ≡ true) × (testsLeft l t w ≡ true)
+suite-parts : (x : Reading TestListing) (t w : List ℕ) (l : TestListing) → testsBy x t w ≡ some l → (x ≡ accepted l) × (testsLong t w ≡ true) × (testsLeft l t w ≡ true)
 unfolding testsBy choose
 suite-parts (refused k p) t w l e = absurd (true≢false (let z : true ≡ false = cc in z))
 suite-parts (accepted m) t w l e = go (testsLong t w and testsLeft m t w) refl e

@@ -11,7 +11,7 @@ use borrow.Author.Tests.{le-leb, leb-true}
 use Rattle.laws.specs.Tables.{rows}
 use Rattle.laws.specs.Tests.{_and_, choose}
 use Rattle.laws.specs.TestLaws.{and-left, and-right}
-use Rattle.rules.specs.Text.{Bytes, Answer as Reading, refused, accepted, then}
+use Rattle.rules.specs.Text.{Bytes, Reading, refused, accepted, then}
 use Rattle.rules.specs.Graph.{nodeCount}
 use Rattle.rules.specs.ProgramFile.{Listing, readListing, readProgram}
 use Rattle.rules.specs.Job.{ofStage, outcome, readOldAnswer, success}

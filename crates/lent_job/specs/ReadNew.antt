@@ -3,7 +3,7 @@ use mathlib.Core.List.{List}
 use Prim.Native.Nat.{ℕ}
 use lib.ListN.{length}
 use Rattle.laws.specs.Tests.{after, choose}
-use Rattle.rules.specs.Text.{Bytes, Answer as Reading, refused, accepted}
+use Rattle.rules.specs.Text.{Bytes, Reading, refused, accepted}
 use Rattle.rules.specs.ProgramFile.{Listing}
 use Rattle.rules.specs.Job.{ofStage, read-new, stageAfter}
 use Rattle.reader.specs.declared.Count.{Count}

@@ -7,7 +7,7 @@ use lib.Dec.{eqb, leb}
 use lib.ListN.{length, getD, replicate}
 use lib.Seq.{sets}
 use Rattle.laws.specs.Tests.{_and_, choose}
-use Rattle.rules.specs.Text.{Bytes, Answer as Reading, refused, accepted}
+use Rattle.rules.specs.Text.{Bytes, Reading, refused, accepted}
 use Rattle.rules.specs.Graph.{kindAt, kindNumber, labelAt, called, nodeCount}
 use Rattle.rules.specs.ProgramFile.{Listing, readListing}
 use Rattle.rules.specs.Job.{Outcome, ofStage, outcome, packed, read-old, success}

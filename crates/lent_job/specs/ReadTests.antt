@@ -4,7 +4,7 @@ use mathlib.Core.List.{List}
 use Prim.Native.Nat.{ℕ}
 use lib.ListN.{length, replicate}
 use Rattle.laws.specs.Tests.{after, choose}
-use Rattle.rules.specs.Text.{Bytes, Answer as Reading, refused, accepted}
+use Rattle.rules.specs.Text.{Bytes, Reading, refused, accepted}
 use Rattle.rules.specs.SuiteFile.{TestListing, readTests, testCount}
 use Rattle.rules.specs.Job.{ofStage, packed, read-tests, stageAfter}
 use Rattle.reader.specs.declared.Count.{Count}

@@ -7,7 +7,7 @@ use lib.Dec.{eqb}
 use lib.ListN.{length}
 use borrow.Author.Tests.{ne-eqb}
 use Rattle.laws.specs.Tests.{choose}
-use Rattle.rules.specs.Text.{Answer as Reading, Bytes, refused}
+use Rattle.rules.specs.Text.{Reading, Bytes, refused}
 use Rattle.rules.specs.ProgramFile.{Listing}
 use Rattle.rules.specs.SuiteFile.{TestListing}
 use Rattle.rules.specs.Job.{Outcome, Request, ofStage, outcome, outputAfter, refusal}

@@ -14,7 +14,7 @@ use Rattle.laws.specs.Tests.{after, choose}
 use Rattle.laws.specs.TestLaws.{and-both}
 use Rattle.laws.specs.Slices.{sets-again, getD-sets-before, getD-sets-in}
 use Rattle.laws.specs.Tables.{rows, rows-length}
-use Rattle.rules.specs.Text.{Bytes, Answer as Reading, refused, accepted, then}
+use Rattle.rules.specs.Text.{Bytes, Reading, refused, accepted, then}
 use Rattle.rules.specs.Graph.{procCount, nodeCount, edgeCount}
 use Rattle.rules.specs.ProgramFile.{Listing, readListing, readProgram}
 use Rattle.rules.specs.SuiteFile.{TestListing, readTests, readSuite, testCount}

@@ -9,7 +9,7 @@ use lib.Seq.{sets}
 use Rattle.laws.specs.Tests.{_and_, choose}
 use Rattle.laws.specs.Tables.{rows, rows-window}
 use Rattle.laws.specs.Bits.{words-length}
-use Rattle.rules.specs.Text.{same, Answer, refused, accepted}
+use Rattle.rules.specs.Text.{same, Reading, refused, accepted}
 use Rattle.rules.specs.SuiteFile.{TestListing, coverageAt, readTests}
 use Rattle.suite.specs.declared.Read.{Read}
 use Rattle.suite.specs.Rows.{Holds}
@@ -65,7 +65,7 @@ module _ (m : ℕ) (text a b t w : List ℕ) (c : Read) (h : TestsRead m text c 
   unfolding Reads
   read = h .reads
 
-  stops : (x : Answer TestListing) → After m x c a b → (c .number ≡ 0 → ⊥) → (r : Read) → (r .number ≡ c .number) × (r .place ≡ c .place) × (r .count ≡ 0) → Leaves x r t t w w
+  stops : (x : Reading TestListing) → After m x c a b → (c .number ≡ 0 → ⊥) → (r : Read) → (r .number ≡ c .number) × (r .place ≡ c .place) × (r .count ≡ 0) → Leaves x r t t w w
   stops (refused k p) y z r e = (e .0 ∙ y .0, e .1 ∙ y .1, e .2, y .2, refl, refl)
   stops (accepted l) y z r e = absurd (z (y .0))
 
@@ -76,7 +76,7 @@ module _ (m : ℕ) (text a b t w : List ℕ) (c : Read) (h : TestsRead m text c 
   left-not : (r : Read) → (14 ≡ leftNumber (readTests m text) t w) × (0 ≡ leftCount (readTests m text) t w) → (r .number ≡ 14) × (r .place ≡ 0) × (r .count ≡ 0) → TestsLeft m text t w r
   left-not r u e = record { number-is = e .0 ∙ u .0; place-is = e .1; count-is = e .2 ∙ u .1; few = omega (arith, e .2) }
 
-  unread : (x : Answer TestListing) → After m x c a b → (c .number ≡ 0 → ⊥) → (14 ≡ leftNumber x t w) × (0 ≡ leftCount x t w)
+  unread : (x : Reading TestListing) → After m x c a b → (c .number ≡ 0 → ⊥) → (14 ≡ leftNumber x t w) × (0 ≡ leftCount x t w)
   unfolding leftNumber leftCount
   unread (refused k p) y z = (refl, refl)
   unread (accepted l) y z = absurd (z (y .0))
@@ -85,7 +85,7 @@ module _ (m : ℕ) (text a b t w : List ℕ) (c : Read) (h : TestsRead m text c 
   left-refused r z e = left-not r (unread (readTests m text) read z) e
 
   module _ (long : 400 ≤ length a) (wide : 3200 ≤ length b) (z : c .number ≡ 0) where
-    goes : (x : Answer TestListing) → After m x c a b → Leaves x c t (copiedTests a (c .count) t) w (copiedRows b (c .count) w)
+    goes : (x : Reading TestListing) → After m x c a b → Leaves x c t (copiedTests a (c .count) t) w (copiedRows b (c .count) w)
     goes (refused k p) y = absurd (let v : ⊥ = omega (arith, y .0, y .2) in v)
     goes (accepted l) y = (y .0, y .1, y .2 .counted, tests-copied m a b (c .count) l (y .2) (h .few) long wide t, rows-copied m a b (c .count) l (y .2) (h .few) long wide w)
 
@@ -94,7 +94,7 @@ module _ (m : ℕ) (text a b t w : List ℕ) (c : Read) (h : TestsRead m text c 
         subst (λ (x : List ℕ). ReadLent m text c t x w w′) (sym et)
         (subst (λ (x : List ℕ). ReadLent m text c t (copiedTests a (c .count) t) w x) (sym ew) (record { leaves = goes (readTests m text) read; few = h .few }))
 
-    tells : (x : Answer TestListing) → After m x c a b → (u : Bool) → u ≡ (same (copiedTests a (c .count) t) t and same (copiedRows b (c .count) w) w)
+    tells : (x : Reading TestListing) → After m x c a b → (u : Bool) → u ≡ (same (copiedTests a (c .count) t) t and same (copiedRows b (c .count) w) w)
         → (choose u 0 14 ≡ leftNumber x t w) × (choose u (c .count) 0 ≡ leftCount x t w)
     unfolding leftNumber leftCount isLeft
     tells (refused k p) y u q = absurd (let v : ⊥ = omega (arith, y .0, y .2) in v)

@@ -8,7 +8,7 @@ use lib.Seq.{sets}
 use Rattle.laws.specs.Tests.{_and_, choose}
 use Rattle.laws.specs.Tables.{rows}
 use Rattle.laws.specs.Bits.{wordsOf}
-use Rattle.rules.specs.Text.{Bytes, same, Answer, refused, accepted}
+use Rattle.rules.specs.Text.{Bytes, same, Reading, refused, accepted}
 use Rattle.rules.specs.SuiteFile.{TestListing, coverageAt, readTests, testCount, testName}
 use Rattle.suite.specs.declared.Read.{Read}
 
@@ -34,7 +34,7 @@ unfoldable pub copiedRows : List ℕ → ℕ → List ℕ → List ℕ
 copiedRows words n w = sets w 0 (take (16 * n) words)
 
 -- The answer is the definition's; a refusal leaves the tables t and w as they were, and else they hold what reading leaves.
-abbrev pub Leaves : Answer TestListing → Read → List ℕ → List ℕ → List ℕ → List ℕ → Type 0
+abbrev pub Leaves : Reading TestListing → Read → List ℕ → List ℕ → List ℕ → List ℕ → Type 0
 Leaves (refused k p) r t t′ w w′ = (r .number ≡ k) × (r .place ≡ p) × (r .count ≡ 0) × (0 < k) × (t′ ≡ t) × (w′ ≡ w)
 Leaves (accepted l) r t t′ w w′ = (r .number ≡ 0) × (r .place ≡ 0) × (r .count ≡ testCount (l .suite)) × (t′ ≡ testsAfter l t) × (w′ ≡ rowsAfter l w)
 
@@ -48,11 +48,11 @@ unfoldable pub isLeft : TestListing → List ℕ → List ℕ → Bool
 isLeft l t w = same (testsAfter l t) t and same (rowsAfter l w) w
 
 -- The number that says so: 14 where they are not, and where the text is refused. The count: that of the tests, or 0.
-unfoldable pub leftNumber : Answer TestListing → List ℕ → List ℕ → ℕ
+unfoldable pub leftNumber : Reading TestListing → List ℕ → List ℕ → ℕ
 leftNumber (refused k p) t w = 14
 leftNumber (accepted l) t w = choose (isLeft l t w) 0 14
 
-unfoldable pub leftCount : Answer TestListing → List ℕ → List ℕ → ℕ
+unfoldable pub leftCount : Reading TestListing → List ℕ → List ℕ → ℕ
 leftCount (refused k p) t w = 0
 leftCount (accepted l) t w = choose (isLeft l t w) (testCount (l .suite)) 0
 

@@ -10,7 +10,7 @@ use Rattle.laws.specs.Tests.{_and_, choose}
 use Rattle.laws.specs.TestLaws.{both-ways, fails}
 use Rattle.laws.specs.Tables.{rows, rows-window}
 use Rattle.laws.specs.Slices.{below-or, part-short, getD-sets-before, getD-sets-after}
-use Rattle.rules.specs.Text.{same, Answer, refused, accepted}
+use Rattle.rules.specs.Text.{same, Reading, refused, accepted}
 use Rattle.rules.specs.Proofs.TextLaws.{same-true, same-of, accepted-same}
 use Rattle.rules.specs.Graph.{nodeCount, edgeCount, procCount}
 use Rattle.rules.specs.ProgramFile.{Listing, readListing}
@@ -123,23 +123,23 @@ module _ (w m a b d t : List ℕ) (c : Count) (sm : Small c) (em : m ≡ linksOf
 -- ---- `tables_left`
 
 module _ (text w n l : List ℕ) (c : Count) (h : ReadInto text c w) where
-  refused-left : (x : Answer Listing) → readListing text ≡ x → Told x c w → (c .number ≡ 0 → ⊥) → (r : Count) → r .number ≡ 14 → r .place ≡ 0 → TablesLeft text n l r
+  refused-left : (x : Reading Listing) → readListing text ≡ x → Told x c w → (c .number ≡ 0 → ⊥) → (r : Count) → r .number ≡ 14 → r .place ≡ 0 → TablesLeft text n l r
   unfolding leftNumber
-  refused-left (refused k p) e t z r a b = record { number-is = a ∙ sym (ap (λ (x : Answer Listing). leftNumber x n l) e); place-is = b; counted = λ s q y. absurd (let v : ⊥ = omega arith in v) }
+  refused-left (refused k p) e t z r a b = record { number-is = a ∙ sym (ap (λ (x : Reading Listing). leftNumber x n l) e); place-is = b; counted = λ s q y. absurd (let v : ⊥ = omega arith in v) }
   refused-left (accepted s) e t z r a b = absurd (z (t .0))
 
   pub left-refused : (c .number ≡ 0 → ⊥) → TablesLeft text n l (record { number = 14; place = 0; procs = 0; nodes = 0; edges = 0 })
   left-refused z = refused-left (readListing text) refl (h .told) z _ refl refl
 
   module _ (room : 8128 ≤ length w) (z : c .number ≡ 0) where
-    left-is : (x : Answer Listing) → readListing text ≡ x → Told x c w → (u : Bool) → u ≡ (same (copiedNodes w (c .nodes) n) n and same (copiedLinks w c l) l)
+    left-is : (x : Reading Listing) → readListing text ≡ x → Told x c w → (u : Bool) → u ≡ (same (copiedNodes w (c .nodes) n) n and same (copiedLinks w c l) l)
         → (r : Count) → r .number ≡ choose u 0 14 → r .place ≡ 0 → (r .number ≡ 0 → (r .procs ≡ c .procs) × (r .nodes ≡ c .nodes) × (r .edges ≡ c .edges)) → TablesLeft text n l r
     unfolding leftNumber isLeft
     left-is (refused k p) e t u q r a b d = absurd (let y : ⊥ = omega (arith, t .0, t .2) in y)
     left-is (accepted s) e t u q r a b d =
         record {
           number-is = a ∙ ap (λ (v : Bool). choose v 0 14) (q ∙ ap₂ (λ (x y : List ℕ). same x n and same y l) (nodes-copied w c s (t .2) (h .small) room n) (links-copied w c s (t .2) (h .small) room l))
-              ∙ sym (ap (λ (x : Answer Listing). leftNumber x n l) e);
+              ∙ sym (ap (λ (x : Reading Listing). leftNumber x n l) e);
           place-is = b;
           counted = λ s′ e′ y.
               let same-listing : s ≡ s′ = accepted-same (sym e ∙ e′) in
@@ -163,7 +163,7 @@ module _ (text w n l : List ℕ) (c : Count) (h : ReadInto text c w) where
       left-done v q′ y′ =
           left-is (readListing text) refl (h .told) true (sym (ap₂ (λ (a b : Bool). a and b) (sym q ∙ y) (sym q′ ∙ y′))) c z (told-place (readListing text) (h .told)) (λ x. (refl, refl, refl))
         where
-          told-place : (x : Answer Listing) → Told x c w → c .place ≡ 0
+          told-place : (x : Reading Listing) → Told x c w → c .place ≡ 0
           told-place (refused k p) t = absurd (let o : ⊥ = omega (arith, t .0, t .2) in o)
           told-place (accepted s) t = t .1
 

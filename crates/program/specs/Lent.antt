@@ -6,7 +6,7 @@ use Prim.Native.Nat.{ℕ, _*_}
 use lib.ListN.{take, drop}
 use lib.Seq.{sets}
 use Rattle.laws.specs.Tests.{_and_, choose}
-use Rattle.rules.specs.Text.{Bytes, same, Answer, refused, accepted}
+use Rattle.rules.specs.Text.{Bytes, same, Reading, refused, accepted}
 use Rattle.rules.specs.Graph.{procCount, nodeCount, edgeCount}
 use Rattle.rules.specs.ProgramFile.{Listing, readListing}
 use Rattle.graph.specs.Table.{nodesAfter, linksAfter}
@@ -32,7 +32,7 @@ unfoldable pub isLeft : Listing → List ℕ → List ℕ → Bool
 isLeft s n l = same (nodesAfter s n) n and same (linksAfter s l) l
 
 -- The number that says so: 14 where they are not, and where the text is refused.
-unfoldable pub leftNumber : Answer Listing → List ℕ → List ℕ → ℕ
+unfoldable pub leftNumber : Reading Listing → List ℕ → List ℕ → ℕ
 leftNumber (refused k p) n l = 14
 leftNumber (accepted s) n l = choose (isLeft s n l) 0 14
 

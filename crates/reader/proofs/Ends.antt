@@ -12,7 +12,7 @@ use borrow.Author.Tests.{lt-ltb, le-ltb, leb-true}
 use Rattle.laws.specs.Tests.{_and_, isnt, any, first, found, after}
 use Rattle.laws.specs.TestLaws.{and-left, and-right, and-both, fails, both-ways, below-suc, true-isnt, false-isnt, isnt-true, any-of, any-at, first-at, first-none, first-skip, first-least}
 use Rattle.laws.specs.Slices.{drop-sets-after, same-or}
-use Rattle.rules.specs.Text.{Bytes, same, between, isName, maxBytes, Answer, refused, accepted, readText}
+use Rattle.rules.specs.Text.{Bytes, same, between, isName, maxBytes, Reading, refused, accepted, readText}
 use Rattle.rules.specs.Graph.{Kind, E, S, C, X, Program, nameAt, kindAt, labelAt, calleeAt, procCount, nodeCount, kindNumber, sameKind, orZero, entry, exit, procOf, called}
 use Rattle.rules.specs.ProgramFile.{Listing, current, begun, isNode, named, lost, complete, finishProgram, readListing}
 use Rattle.rules.specs.Proofs.TextLaws.{same-true, empty-true, unless-passes, unless-refuses}
@@ -236,8 +236,8 @@ pub ruleset resolve-turns = (resolve-start, resolve-on, resolve-not, resolve-end
 
 -- ---- `finish`
 
-told-refused : (x : Answer Listing) (k p : ℕ) (r : Count) (w : List ℕ) → x ≡ refused k p → 0 < k → Refusal k p r → Told x r w
-told-refused x k p r w e h q = subst (λ (y : Answer Listing). Told y r w) (sym e) (q .number-is, q .place-is, h)
+told-refused : (x : Reading Listing) (k p : ℕ) (r : Count) (w : List ℕ) → x ≡ refused k p → 0 < k → Refusal k p r → Told x r w
+told-refused x k p r w e h q = subst (λ (y : Reading Listing). Told y r w) (sym e) (q .number-is, q .place-is, h)
 
 -- A procedure's row, with its entry and exit.
 seven-at : (f : ℕ → ℕ) (i a b c d e x y : ℕ) → At f i (a ∷ b ∷ c ∷ d ∷ e ∷ []) → f (i + 5) ≡ x → f (i + 6) ≡ y → At f i (a ∷ b ∷ c ∷ d ∷ e ∷ x ∷ y ∷ [])
@@ -325,7 +325,7 @@ module _ (text w : List ℕ) (c : Count) (sm : Small c) where
                 let a : Partly w w′ s (nodeCount (s .program)) = rs s c k h (h .procs-n) (h .nodes-n) .0 z in
                 let held : InTable w′ (counts (c .procs) (c .nodes) (c .edges)) s
                 = table-held text w w′ c s k h (some-of s h) (sym (q s (k .sound) h (some-of s h)) ∙ t) a (counts (c .procs) (c .nodes) (c .edges)) refl refl refl in
-                subst (λ (x : Answer Listing). Told x (counts (c .procs) (c .nodes) (c .edges)) w′)
+                subst (λ (x : Reading Listing). Told x (counts (c .procs) (c .nodes) (c .edges)) w′)
                 (sym (finish-is s n k h ∙ ap (λ (o : Option ℕ). after o (accepted s) (λ m. refused 9 (getD (s .places .nodeLines) m 0))) (a .none-lost))) (refl, refl, held);
             small = record { few-procs = sm .few-procs; few-nodes = sm .few-nodes; few-edges = sm .few-edges };
           })
@@ -354,7 +354,7 @@ pub into-finish : (text w w′ : List ℕ) (c r : Count) → length text ≤ 655
 into-finish text w w′ c r h l z f =
     let d = l .done z in
     record {
-      told = subst (λ (x : Answer Listing). Told x r w′) (sym (read-whole text h ∙ d .goes)) (f .told (d .listing) (d .number) (d .known) (d .holds));
+      told = subst (λ (x : Reading Listing). Told x r w′) (sym (read-whole text h ∙ d .goes)) (f .told (d .listing) (d .number) (d .known) (d .holds));
       small = f .small;
     }
 

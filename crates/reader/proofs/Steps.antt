@@ -12,7 +12,7 @@ use borrow.Author.Tests.{eqb-true, ltb-true, lt-ltb, le-ltb, leb-true, le-leb, l
 use Rattle.laws.specs.Tests.{_and_, _or_, isnt, any, first, found}
 use Rattle.laws.specs.TestLaws.{and-left, and-right, and-both, or-left, or-right, fails, both-ways, true-isnt, false-isnt, same-test, any-of, any-at, first-at, first-none, found-some}
 use Rattle.laws.specs.Lists.{choose-yes, choose-no}
-use Rattle.rules.specs.Text.{Bytes, same, isWord, value, maxProcs, maxEdges, Answer, refused}
+use Rattle.rules.specs.Text.{Bytes, same, isWord, value, maxProcs, maxEdges, Reading, refused}
 use Rattle.rules.specs.Graph.{nameAt, ownerAt, procCount, nodeCount, edgeCount, leaves, edgeTaken}
 use Rattle.rules.specs.ProgramFile.{proc-line, Listing, current, begun, named, hasEdge, hasWord, isNodeOf, withProc, withNode, withEdge, takeLine}
 use Rattle.rules.specs.Proofs.TextLaws.{unless-passes, unless-refuses}
@@ -30,11 +30,11 @@ use Rattle.reader.proofs.Completeness.{edges-of, procs-of, some-procs, 
 -- ---- answers
 
 -- An answer that refuses.
-after-refused : (x : Answer Listing) (k p : ℕ) (r : Count) (w : List ℕ) → x ≡ refused k p → 0 < k → Refusal k p r → After x r w
-after-refused x k p r w e h q = subst (λ (y : Answer Listing). After y r w) (sym e) (q .number-is, q .place-is, h)
+after-refused : (x : Reading Listing) (k p : ℕ) (r : Count) (w : List ℕ) → x ≡ refused k p → 0 < k → Refusal k p r → After x r w
+after-refused x k p r w e h q = subst (λ (y : Reading Listing). After y r w) (sym e) (q .number-is, q .place-is, h)
 
-after-same : (x y : Answer Listing) (r : Count) (w : List ℕ) → x ≡ y → After y r w → After x r w
-after-same x y r w e a = subst (λ (z : Answer Listing). After z r w) (sym e) a
+after-same : (x y : Reading Listing) (r : Count) (w : List ℕ) → x ≡ y → After y r w → After x r w
+after-same x y r w e a = subst (λ (z : Reading Listing). After z r w) (sym e) a
 
 -- ---- what a look-up found
 

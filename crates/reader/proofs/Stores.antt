@@ -25,7 +25,7 @@ use Rattle.graph.specs.Lookups.{in-table}
 use Rattle.lines.specs.Known.{Known}
 use Rattle.reader.specs.declared.Count.{Count}
 use Rattle.reader.specs.Result.{linksOf}
-use Rattle.reader.specs.Reading.{readingRow, Reading, Holds, storedProc, marked, storedNode, storedEdge, counts}
+use Rattle.reader.specs.Reading.{readingRow, InProgress, Holds, storedProc, marked, storedNode, storedEdge, counts}
 use Rattle.reader.proofs.Programs.{new-first-node, new-first-edge, node-first-node, node-first-edge, other-count, other-first, own-first, edge-source-old, edge-source-new, edge-first-edge}
 
 -- ---- rows and stores
@@ -123,7 +123,7 @@ module _ (text w : List ℕ) (c : Count) (s : Listing) (k : Known text s) (h : H
         nodes-n = h .nodes-n;
         edges-n = h .edges-n;
         reading =
-            subst (λ (l : List ℕ). Reading (in-table (sets w (2048 + 7 * c .procs) row)) (in-table l) more) (sym links)
+            subst (λ (l : List ℕ). InProgress (in-table (sets w (2048 + 7 * c .procs) row)) (in-table l) more) (sym links)
             (record {
               nodes = λ i l. at-other w row (readingRow s i) (2048 + 7 * c .procs) (4 * i) (inl (omega (arith, k .sound .fewNodes))) (h .reading .nodes i l);
               procs = λ q l. proc-at q (cases q l);
@@ -314,7 +314,7 @@ module _ (text w : List ℕ) (c : Count) (s : Listing) (k : Known text s) (h : H
         nodes-n = omega (arith, h .nodes-n, snoc-length noNode (s .program .nodes) x);
         edges-n = h .edges-n;
         reading =
-            subst (λ (l : List ℕ). Reading (in-table (marked (kindNumber kind) q (c .nodes) after-rows)) (in-table l) with-node)
+            subst (λ (l : List ℕ). InProgress (in-table (marked (kindNumber kind) q (c .nodes) after-rows)) (in-table l) with-node)
             (sym (links-marked kind q (c .nodes) after-rows ∙ ap (markedLinks kind q (c .nodes)) links-rows))
             (record {
               nodes = λ i l. node-at i (snoc-cases noNode (s .program .nodes) x i l);
@@ -419,7 +419,7 @@ module _ (text w : List ℕ) (c : Count) (s : Listing) (k : Known text s) (h : H
         nodes-n = h .nodes-n;
         edges-n = omega (arith, h .edges-n, snoc-length noEdge (s .program .edges) y);
         reading =
-            subst (λ (l : List ℕ). Reading (in-table (set (sets w (2496 + 5 * c .edges) edge-row) (7616 + value from) (c .edges + 1))) (in-table l) with-edge) (sym links-edge)
+            subst (λ (l : List ℕ). InProgress (in-table (set (sets w (2496 + 5 * c .edges) edge-row) (7616 + value from) (c .edges + 1))) (in-table l) with-edge) (sym links-edge)
             (record {
               nodes = λ i l j b.
                   getD-set-other (sets w (2496 + 5 * c .edges) edge-row) (7616 + value from) (4 * i + j) (c .edges + 1) 0 (omega (arith, k .sound .fewNodes))

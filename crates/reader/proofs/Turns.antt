@@ -8,7 +8,7 @@ use lib.Seq.{length-take-le}
 use Rattle.laws.specs.Tests.{isnt}
 use Rattle.laws.specs.Slices.{drop-end, drop-next}
 use Rattle.laws.specs.TestLaws.{none-below}
-use Rattle.rules.specs.Text.{Bytes, empty, split, fieldsOf, Answer, refused, accepted, then, unless, readLines}
+use Rattle.rules.specs.Text.{Bytes, empty, split, fieldsOf, Reading, refused, accepted, then, unless, readLines}
 use Rattle.rules.specs.ProgramFile.{formOf, Listing, nothingRead, takeLine, stepProgram, finishProgram}
 use Rattle.rules.specs.Proofs.TextLaws.{split-cons}
 use Rattle.text.specs.Scans.{span}
@@ -53,11 +53,11 @@ unfolding readLines
 lines-more n at s l ps m ms q =
     subst (λ (x : List Bytes). readLines stepProgram finishProgram n at s (l ∷ x) ≡ then (stepProgram n at s l) (λ t. readLines stepProgram finishProgram (suc n) (at + length l + 1) t x)) (sym q) refl
 
-after-accepted : (x : Answer Listing) (r : Count) (w : List ℕ) → After x r w → r .number ≡ 0 → (t : Listing) × (x ≡ accepted t) × Holds w r t
+after-accepted : (x : Reading Listing) (r : Count) (w : List ℕ) → After x r w → r .number ≡ 0 → (t : Listing) × (x ≡ accepted t) × Holds w r t
 after-accepted (refused k p) r w h z = absurd (let y : ⊥ = omega (arith, h .0, h .2) in y)
 after-accepted (accepted t) r w h z = (t, refl, h .1)
 
-after-refusal : (x : Answer Listing) (r : Count) (w : List ℕ) → After x r w → (r .number ≡ 0 → ⊥) → x ≡ refused (r .number) (r .place)
+after-refusal : (x : Reading Listing) (r : Count) (w : List ℕ) → After x r w → (r .number ≡ 0 → ⊥) → x ≡ refused (r .number) (r .place)
 after-refusal (refused k p) r w h z = λ i. refused (sym (h .0) i) (sym (h .1) i)
 after-refusal (accepted t) r w h z = absurd (z (h .0))
 
@@ -107,13 +107,13 @@ module _ (text w : List ℕ) (at n : ℕ) (c : Count) (so : So text at n c w) (r
           listing = a .0;
           known = known-line text line n at (so .listing) (a .0) (so .known) stands (a .1);
           holds = a .2;
-          goes = whole ∙ ap (λ (x : Answer Listing). then x (λ t. readLines stepProgram finishProgram (suc n) (at + len + 1) t (split 10 (drop (at + len + 1) text)))) (a .1)
+          goes = whole ∙ ap (λ (x : Reading Listing). then x (λ t. readLines stepProgram finishProgram (suc n) (at + len + 1) t (split 10 (drop (at + len + 1) text)))) (a .1)
               ∙ ap (λ (k : ℕ). readLines stepProgram finishProgram k (at + len + 1) (a .0) (split 10 (drop (at + len + 1) text))) (sym one);
         }
 
     no-step : (r .number ≡ 0 → ⊥) → wholeText text ≡ refused (r .number) (r .place)
     unfolding then
-    no-step z = whole ∙ ap (λ (x : Answer Listing). then x (λ t. readLines stepProgram finishProgram (suc n) (at + len + 1) t (split 10 (drop (at + len + 1) text)))) (after-refusal (takeLine n at (so .listing) (formOf (fieldsOf line))) r w′ after-step z)
+    no-step z = whole ∙ ap (λ (x : Reading Listing). then x (λ t. readLines stepProgram finishProgram (suc n) (at + len + 1) t (split 10 (drop (at + len + 1) text)))) (after-refusal (takeLine n at (so .listing) (formOf (fieldsOf line))) r w′ after-step z)
 
 -- The invariant.
 pub record Head (text w₀ : List ℕ) (at n : ℕ) (c : Count) (w : List ℕ) : Type 0 where

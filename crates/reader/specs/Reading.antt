@@ -8,7 +8,7 @@ use lib.Dec.{eqb, leb, ltb}
 use lib.ListN.{length, getD, take, drop, set}
 use lib.Seq.{sets}
 use Rattle.laws.specs.Tests.{_and_, _⇒_, every, first, count, choose}
-use Rattle.rules.specs.Text.{Bytes, isWord, value, Answer, refused, accepted, unless, readLines, linesOf as linesOfText}
+use Rattle.rules.specs.Text.{Bytes, isWord, value, Reading, refused, accepted, unless, readLines, linesOf as linesOfText}
 use Rattle.rules.specs.Graph.{Program, Kind, E, X, kindAt, labelAt, calleeAt, sourceAt, nodeCount, edgeCount, procCount, kindNumber, isOf, entry, exit, worded, wordAt, ownerAt}
 use Rattle.rules.specs.ProgramFile.{Line, node-line, edge-line, Listing, current, complete, takeProc, takeLine, stepProgram, finishProgram, nothingRead, hasWord, withEdge, degreeFine, lost}
 use Rattle.rules.specs.Proofs.ProgramLaws.{Sound}
@@ -27,7 +27,7 @@ readingRow s n =
     ∷ (getD (s .places .nodeLines) n 0 * 16 + length (calleeAt (s .program) n)) ∷ []
 
 -- The tables hold the listing. An entry and an exit stand in a procedure's row where it has one of each.
-pub record Reading (node link : ℕ → ℕ) (s : Listing) : Type 0 where
+pub record InProgress (node link : ℕ → ℕ) (s : Listing) : Type 0 where
   pub nodes : (n : ℕ) → n < nodeCount (s .program) → At node (nodeBase n) (readingRow s n)
   pub procs : (q : ℕ) → q < procCount (s .program) → At link (procBase q) (procHead s q)
   pub entries : (q : ℕ) → q < procCount (s .program) → count (nodeCount (s .program)) (isOf (s .program) q E) ≡ 1 → link (procBase q + 5) ≡ entry (s .program) q
@@ -40,12 +40,12 @@ pub record Holds (w : List ℕ) (c : Count) (s : Listing) : Type 0 where
   pub procs-n : c .procs ≡ procCount (s .program)
   pub nodes-n : c .nodes ≡ nodeCount (s .program)
   pub edges-n : c .edges ≡ edgeCount (s .program)
-  pub reading : Reading (in-table w) (in-table (linksOf w)) s
+  pub reading : InProgress (in-table w) (in-table (linksOf w)) s
 
 -- ---- a line
 
 -- An answer against the definition's. After a refusal nothing is said of the work table.
-abbrev pub After : Answer Listing → Count → List ℕ → Type 0
+abbrev pub After : Reading Listing → Count → List ℕ → Type 0
 After (refused k p) r w = (r .number ≡ k) × (r .place ≡ p) × (0 < k)
 After (accepted t) r w = (r .number ≡ 0) × Holds w r t
 
@@ -150,7 +150,7 @@ storedEdge w c from start key to = set (sets w (2496 + 5 * c) (from ∷ start �
 -- ---- all lines
 
 -- What reading the lines of a text comes to.
-unfoldable pub wholeText : Bytes → Answer Listing
+unfoldable pub wholeText : Bytes → Reading Listing
 wholeText text = readLines stepProgram finishProgram 1 0 nothingRead (linesOfText text)
 
 -- The lines were read: the rest is the end of the text.

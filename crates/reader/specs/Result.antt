@@ -3,7 +3,7 @@ use mathlib.Core.Path.{_≡_}
 use mathlib.Core.List.{List}
 use Prim.Native.Nat.{ℕ, _≤_, _<_}
 use lib.ListN.{getD, drop}
-use Rattle.rules.specs.Text.{Bytes, Answer, refused, accepted}
+use Rattle.rules.specs.Text.{Bytes, Reading, refused, accepted}
 use Rattle.rules.specs.Graph.{degrees, nodeCount, edgeCount, procCount}
 use Rattle.rules.specs.ProgramFile.{Listing, readListing}
 use Rattle.graph.specs.Table.{At, nodeBase, procBase, edgeBase, headBase, nodeRow, procRow, edgeRow, headOf}
@@ -32,7 +32,7 @@ pub record InTable (w : List ℕ) (c : Count) (s : Listing) : Type 0 where
   pub heads : (n : ℕ) → n < nodeCount (s .program) → in-table (linksOf w) (headBase n) ≡ headOf s n
 
 -- `read_into`: the answer is the definition's, and the work table holds what was read. After a refusal nothing is said of the work table.
-abbrev pub Told : Answer Listing → Count → List ℕ → Type 0
+abbrev pub Told : Reading Listing → Count → List ℕ → Type 0
 Told (refused k p) r w = (r .number ≡ k) × (r .place ≡ p) × (0 < k)
 Told (accepted s) r w = (r .number ≡ 0) × (r .place ≡ 0) × InTable w r s
 

@@ -9,7 +9,7 @@ use lib.ListN.{length}
 use borrow.Author.Tests.{eq-eqb, ne-eqb, le-ltb, lt-ltb}
 use Rattle.laws.specs.Tests.{choose}
 use Rattle.laws.specs.Lists.{choose-no, choose-yes}
-use Rattle.rules.specs.Text.{Answer as Reading, Bytes, accepted, maxPairs, refused, tooMany}
+use Rattle.rules.specs.Text.{Reading, Bytes, accepted, maxPairs, refused, tooMany}
 use Rattle.rules.specs.Graph.{nodeCount}
 use Rattle.rules.specs.Sheet.{Sheet as Claims, readSheet}
 use Rattle.rules.specs.Check.{broken}
@@ -17,7 +17,7 @@ use Rattle.rules.specs.Job.{Given, Outcome, bySide, checking, hasNode, judged, 
 use Rattle.answer.specs.declared.Answer.{Answer}
 use Rattle.answer.specs.Outcomes.{Answered, Told, answered-as, refusal-told}
 use Rattle.versions.specs.Memory.{Memory}
-use Rattle.intake.specs.declared.Texts.{Texts}
+use Rattle.intake.specs.declared.Counts.{Counts}
 use Rattle.intake.specs.Ready.{Ready}
 use Rattle.checker.specs.Checking.{Checks}
 use Rattle.work.specs.Work.{Done, RecordDone, SheetDone}
@@ -50,7 +50,7 @@ module _ (n a b : ℕ) where
 
 -- ---- `nodes_on`, `label`
 
-module _ (had : Texts) (side : ℕ) where
+module _ (had : Counts) (side : ℕ) where
   pub on-old : side ≡ 0 → had .«old_nodes» ≡ nodesOn had side
   unfolding nodesOn choose
   on-old e = simp (eq-eqb _ _ e)
@@ -64,7 +64,7 @@ module _ (had : Texts) (side : ℕ) where
   on-none z e = simp (ne-eqb _ _ z, ne-eqb _ _ e)
 
 -- A label is shown exactly if the version of its side has the node.
-module _ (v v′ : Memory) (tt : Bytes) (tests rows : List ℕ) (had : Texts) (g : Given) (y : Ready v v′ tt tests rows had g) (n : ℕ) where
+module _ (v v′ : Memory) (tt : Bytes) (tests rows : List ℕ) (had : Counts) (g : Given) (y : Ready v v′ tt tests rows had g) (n : ℕ) where
   labelled : (side : ℕ) → labelling g side n ≡ choose (ltb n (nodesOn had side)) success (refusal 6 0)
   unfolding labelling bySide hasNode nodesOn choose
   labelled zero =
@@ -77,7 +77,7 @@ module _ (v v′ : Memory) (tt : Bytes) (tests rows : List ℕ) (had : Texts) (g
       let c : ltb n 0 ≡ false = le-ltb n 0 (omega arith) in
       simp (a, b, c)
 
-module _ (had : Texts) (side n k : ℕ) (e : k ≡ nodesOn had side) where
+module _ (had : Counts) (side n k : ℕ) (e : k ≡ nodesOn had side) where
   pub label-there : n < k → LabelTold had side n (record { number = 0; place = 0 })
   unfolding LabelTold
   label-there h v v′ tt tests rows g y =
@@ -113,7 +113,7 @@ labels-still g (suc (suc side)) n out = refl
 told-still : (x : Outcome) (r : Answer) (out out′ : Bytes) → outputAfter x out ≡ out → out′ ≡ out → Answered x r → Told x r out out′
 told-still x r out out′ s e a = record { answered = a; output-is = e ∙ sym s }
 
-module _ (v v′ : Memory) (tt tests rows : List ℕ) (had : Texts) (input w w′ out out′ : List ℕ) (r : Answer) where
+module _ (v v′ : Memory) (tt tests rows : List ℕ) (had : Counts) (input w w′ out out′ : List ℕ) (r : Answer) where
   abbrev Does : Request → Type 0
   Does q = Done w w′ out out′ (Served (asked q) v v′ tt tests rows had input out r out′)
 

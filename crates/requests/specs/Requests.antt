@@ -9,7 +9,7 @@ use Rattle.rules.specs.Job.{Given, Request as Asked, check-sheet, labelling, no
 use Rattle.answer.specs.declared.Answer.{Answer}
 use Rattle.answer.specs.Outcomes.{Answered, Told}
 use Rattle.versions.specs.Memory.{Memory}
-use Rattle.intake.specs.declared.Texts.{Texts}
+use Rattle.intake.specs.declared.Counts.{Counts}
 use Rattle.intake.specs.Ready.{Ready}
 use Rattle.requests.specs.declared.Request.{Request}
 use Rattle.requests.specs.declared.Request.the-variants.{Check, Label, Record, Sheet, Unknown}
@@ -23,15 +23,15 @@ asked (Label side n) = show-label side n
 asked Unknown = no-request
 
 -- `serve`: the answer is what is asked, of whatever job is in memory.
-unfoldable pub Served : Asked → Memory → Memory → Bytes → List ℕ → List ℕ → Texts → Bytes → Bytes → Answer → Bytes → Type 0
+unfoldable pub Served : Asked → Memory → Memory → Bytes → List ℕ → List ℕ → Counts → Bytes → Bytes → Answer → Bytes → Type 0
 Served q v v′ tt tests rows had input out r out′ =
     (g : Given) → Ready v v′ tt tests rows had g → Told (serving q g input (length out)) r out out′
 
 -- `nodes_on`: how many nodes the version of a side has, by the counts of a job that was read.
-unfoldable pub nodesOn : Texts → ℕ → ℕ
+unfoldable pub nodesOn : Counts → ℕ → ℕ
 nodesOn had side = choose (eqb side 0) (had .«old_nodes») (choose (eqb side 1) (had .«new_nodes») 0)
 
 -- `label`: number and place of showing a label.
-unfoldable pub LabelTold : Texts → ℕ → ℕ → Answer → Type 0
+unfoldable pub LabelTold : Counts → ℕ → ℕ → Answer → Type 0
 LabelTold had side n r =
     (v v′ : Memory) (tt : Bytes) (tests rows : List ℕ) (g : Given) → Ready v v′ tt tests rows had g → Answered (labelling g side n) r

@@ -2,7 +2,7 @@
 // calls of the lent job all go through it. A new request is a variant here, a line of `serving` in the rules, and an arm of `serve`
 // (docs/ARCHITECTURE.md).
 use answer::Answer;
-use intake::Texts;
+use intake::Counts;
 ghost use mathlib.Core.Path.{_≡_};
 ghost use Prim.Native.Nat.{_≤_};
 ghost use lib.ListN.{length};
@@ -49,7 +49,7 @@ pub fn by_number(number: usize, a: usize, b: usize) -> Request
 }
 
 // How many nodes the version of a side has: 0 the old one, 1 the new one, and none where there is no such side.
-fn nodes_on(had: Texts, side: usize) -> usize
+fn nodes_on(had: Counts, side: usize) -> usize
     ensures { λ r. ⌜ r ≡ nodesOn had side ⌝ }
 {
     if side == 0 {
@@ -62,7 +62,7 @@ fn nodes_on(had: Texts, side: usize) -> usize
 }
 
 // Shows a label: 6 where there is no such side, or no such node of its version.
-fn label(had: Texts, side: usize, node: usize) -> Answer
+fn label(had: Counts, side: usize, node: usize) -> Answer
     ensures { λ r. ⌜ LabelTold had side node r ⌝ }
 {
     if node < nodes_on(had, side) {
@@ -88,7 +88,7 @@ fn sheet(
     tt: &[u8],
     tests: &[usize],
     rows: &[u64],
-    had: Texts,
+    had: Counts,
     w: &mut [usize],
     out: &mut [u8],
 ) -> Answer
@@ -124,7 +124,7 @@ fn record(
     tt: &[u8],
     tests: &[usize],
     rows: &[u64],
-    had: Texts,
+    had: Counts,
     test: usize,
     w: &mut [usize],
     out: &mut [u8],
@@ -162,7 +162,7 @@ fn check(
     tt: &[u8],
     tests: &[usize],
     rows: &[u64],
-    had: Texts,
+    had: Counts,
     sheet: &[u8],
     w: &mut [usize],
 ) -> Answer
@@ -207,7 +207,7 @@ pub fn serve(
     tt: &[u8],
     tests: &[usize],
     rows: &[u64],
-    had: Texts,
+    had: Counts,
     request: Request,
     input: &[u8],
     w: &mut [usize],

@@ -4,7 +4,7 @@ use mathlib.Core.List.{List, []}
 use Prim.Native.Nat.{ℕ}
 use native.Mathlib.Omega.{arith}
 use lib.ListN.{length}
-use Rattle.rules.specs.Text.{Answer as Read, Bytes, accepted, refused}
+use Rattle.rules.specs.Text.{Reading, Bytes, accepted, refused}
 use Rattle.rules.specs.ProgramFile.{Listing, readListing, readProgram}
 use Rattle.rules.specs.Graph.{Program}
 use Rattle.rules.specs.Job.{Given, Outcome, Request as Asked, answering, check-sheet, checkAnswer, outcome, outputAfter, packed, readJob, readNewAnswer, readOldAnswer, readTestsAnswer, recordAnswer, refusal, serving, sheetAnswer, success, write-record, write-sheet}
@@ -14,7 +14,7 @@ use Rattle.answer.specs.Outcomes.{Answered, Told, answered-as, packing, packs, 
 use Rattle.reader.specs.declared.Count.{Count}
 use Rattle.reader.specs.Result.{ReadInto, Told as ReaderTold, linksOf}
 use Rattle.versions.specs.Memory.{memory}
-use Rattle.intake.specs.declared.Texts.{Texts}
+use Rattle.intake.specs.declared.Counts.{Counts}
 use Rattle.intake.specs.Ready.{JobRead, JobTold, Ready}
 use Rattle.intake.proofs.Laws.{program-of, program-refused}
 use Rattle.work.specs.Work.{Done}
@@ -27,16 +27,16 @@ Numbered x k q = Answered x (record { number = k; place = q })
 
 -- ---- programs
 
-outcome-stops : {A : Type 0} (a : Read A) (f : A → Outcome) (k q : ℕ) → a ≡ refused k q → outcome a f ≡ refusal k q
+outcome-stops : {A : Type 0} (a : Reading A) (f : A → Outcome) (k q : ℕ) → a ≡ refused k q → outcome a f ≡ refusal k q
 unfolding outcome
 outcome-stops a f k q e = ap (λ x. outcome x f) e
 
-outcome-goes : {A : Type 0} (a : Read A) (f : A → Outcome) (x : A) → a ≡ accepted x → outcome a f ≡ f x
+outcome-goes : {A : Type 0} (a : Reading A) (f : A → Outcome) (x : A) → a ≡ accepted x → outcome a f ≡ f x
 unfolding outcome
 outcome-goes a f x e = ap (λ y. outcome y f) e
 
 -- What the reader told of a program, before f.
-told-program : (text : Bytes) (x : Read Listing) (r : Count) (w : List ℕ) → readListing text ≡ x → ReaderTold x r w → (f : Program → Outcome) → ((p : Program) → r .number ≡ 0 → r .place ≡ 0 → readProgram text ≡ accepted p → Numbered (f p) (r .number) (r .place))
+told-program : (text : Bytes) (x : Reading Listing) (r : Count) (w : List ℕ) → readListing text ≡ x → ReaderTold x r w → (f : Program → Outcome) → ((p : Program) → r .number ≡ 0 → r .place ≡ 0 → readProgram text ≡ accepted p → Numbered (f p) (r .number) (r .place))
     → Numbered (outcome (readProgram text) f) (r .number) (r .place)
 told-program text (refused k q) r w e t f go =
     answered-as (outcome-stops (readProgram text) f k q (program-refused text k q e)) (record { number-is = t .0; place-is = t .1 })
@@ -45,7 +45,7 @@ told-program text (accepted s) r w e t f go =
     answered-as (outcome-goes (readProgram text) f (s .program) p) (go (s .program) (t .0) (t .1) p)
 
 -- It was accepted.
-told-goes : (text : Bytes) (x : Read Listing) (r : Count) (w : List ℕ) → readListing text ≡ x → ReaderTold x r w → r .number ≡ 0 → (p : Program) × (readProgram text ≡ accepted p)
+told-goes : (text : Bytes) (x : Reading Listing) (r : Count) (w : List ℕ) → readListing text ≡ x → ReaderTold x r w → r .number ≡ 0 → (p : Program) × (readProgram text ≡ accepted p)
 told-goes text (refused k q) r w e t z = absurd (let y : ⊥ = omega (arith, t .0, t .2) in y)
 told-goes text (accepted s) r w e t z = (s .program, program-of text s e)
 
@@ -78,17 +78,17 @@ new-packs old new o r w w′ x h z n e = e ∙ packs (readNewAnswer old new) _ (
 
 -- ---- whole jobs
 
-module _ (old ow new nw tt tests rows : List ℕ) (had : Texts) (j : JobRead old ow new nw tt tests rows had) where
-  stops : (x : Read Given) → JobTold x old ow new nw tt tests rows had → (had .number ≡ 0 → ⊥) → x ≡ refused (had .number) (had .place)
+module _ (old ow new nw tt tests rows : List ℕ) (had : Counts) (j : JobRead old ow new nw tt tests rows had) where
+  stops : (x : Reading Given) → JobTold x old ow new nw tt tests rows had → (had .number ≡ 0 → ⊥) → x ≡ refused (had .number) (had .place)
   stops (refused k q) t z = ap₂ refused (sym (t .0)) (sym (t .1))
   stops (accepted g) t z = absurd (z (t .0))
 
-  goes : (x : Read Given) → JobTold x old ow new nw tt tests rows had → had .number ≡ 0
+  goes : (x : Reading Given) → JobTold x old ow new nw tt tests rows had → had .number ≡ 0
       → (g : Given) × (x ≡ accepted g) × Ready (memory old ow (linksOf ow)) (memory new nw (linksOf nw)) tt tests rows had g
   goes (refused k q) t z = absurd (let y : ⊥ = omega (arith, t .0, t .2) in y)
   goes (accepted g) t z = (g, refl, t .2)
 
-  tests-at : (x : Read Given) → JobTold x old ow new nw tt tests rows had → Numbered (outcome x (λ g. success)) (had .number) (had .place)
+  tests-at : (x : Reading Given) → JobTold x old ow new nw tt tests rows had → Numbered (outcome x (λ g. success)) (had .number) (had .place)
   unfolding outcome
   tests-at (refused k q) t = record { number-is = t .0; place-is = t .1 }
   tests-at (accepted g) t = succeeded (had .number) (had .place) (t .0) (t .1)

@@ -7,7 +7,7 @@ use mathlib.Core.List.{List, [], _∷_, _++_}
 use Prim.Native.Nat.{ℕ, zero, suc}
 use Prim.Native.String.{String}
 use Rattle.laws.specs.Tests.{_and_, _or_, _⇒_, isnt, every, any, orElse, ifTrue, first, plus, count, those, has, anyOf, listed, allPairs, anyPair, pick, gridRow, grid, firstFailed, choose, none?, after}
-use Rattle.rules.specs.Text.{Bytes, same, empty, bytes, maxBytes, then, unless, onto, split, joinBy, textOf, between, allBytes, nameByte, labelByte, wordByte, digitByte, isName, isLabel, isWord, isNumber, valueFrom, digits, decimal, readLines, readText, Answer, accepted, refused}
+use Rattle.rules.specs.Text.{Bytes, same, empty, bytes, maxBytes, then, unless, onto, split, joinBy, textOf, between, allBytes, nameByte, labelByte, wordByte, digitByte, isName, isLabel, isWord, isNumber, valueFrom, digits, decimal, readLines, readText, Reading, accepted, refused}
 use Rattle.rules.specs.Graph.{sameKind, orZero, isOf, entry, exit, procOf, leaves, edgeTaken, degree, worded, Program, called}
 use Rattle.rules.specs.ProgramFile.{kindOf, isNode, isEdge, formOf, hasEdge, named, isNodeOf, hasWord, degreeFine, complete, lost, takeLine, stepProgram, finishProgram, readListing, readProgram}
 use Rattle.rules.specs.SuiteFile.{testForm, hexByte, hexValue, bitsOf, noneSet, rowFine, tested, takeTest, stepSuite, readTests, readSuite}
@@ -206,7 +206,7 @@ ran : ℕ → String → Option (Bool × ℕ × List Bytes × List ℕ)
 unfolding seen
 ran k text = opened (readProgram (bytes text))
   where
-    opened : Answer Program → Option (Bool × ℕ × List Bytes × List ℕ)
+    opened : Reading Program → Option (Bool × ℕ × List Bytes × List ℕ)
     opened (refused n p) = none
     opened (accepted p) = seen k p
 

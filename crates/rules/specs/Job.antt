@@ -6,7 +6,7 @@ use Prim.Native.Nat.{ℕ, zero, suc, _+_, _*_}
 use lib.Dec.{eqb, ltb}
 use lib.ListN.{length, getD, take, drop}
 use Rattle.laws.specs.Tests.{after, choose}
-use Rattle.rules.specs.Text.{Answer, Bytes, accepted, maxPairs, refused, then, tooMany}
+use Rattle.rules.specs.Text.{Reading, Bytes, accepted, maxPairs, refused, then, tooMany}
 use Rattle.rules.specs.Graph.{Program, edgeCount, labelAt, nodeCount}
 use Rattle.rules.specs.ProgramFile.{Listing, readProgram}
 use Rattle.rules.specs.SuiteFile.{TestListing, Suite, coverageAt, readSuite, testCount, testName}
@@ -86,7 +86,7 @@ abbrev pub passed : Outcome
 passed = success
 
 -- The refusal, or what follows.
-unfoldable pub outcome : {A : Type 0} → Answer A → (A → Outcome) → Outcome
+unfoldable pub outcome : {A : Type 0} → Reading A → (A → Outcome) → Outcome
 outcome (refused k p) f = refusal k p
 outcome (accepted a) f = f a
 
@@ -103,7 +103,7 @@ abbrev pub givenOf : Listing → Listing → TestListing → Given
 givenOf old new tests = record { old = old .program; new = new .program; suite = tests .suite }
 
 -- Reading the old program, the new one and the tests, in this order; the first refusal is the answer.
-unfoldable pub readJob : Bytes → Bytes → Bytes → Answer Given
+unfoldable pub readJob : Bytes → Bytes → Bytes → Reading Given
 readJob old new tests =
     then (readProgram old) (λ p. then (readProgram new) (λ p′. then (readSuite (edgeCount p) tests) (λ s. accepted (record { old = p; new = p′; suite = s }))))
 

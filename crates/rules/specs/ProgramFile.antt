@@ -6,7 +6,7 @@ use Prim.Native.Nat.{ℕ, _+_, _-_}
 use lib.Dec.{eqb, leb, ltb}
 use lib.ListN.{length, getD}
 use Rattle.laws.specs.Tests.{_and_, _or_, _⇒_, isnt, every, any, first, count, after, choose}
-use Rattle.rules.specs.Text.{Bytes, same, empty, bytes, maxProcs, maxNodes, maxEdges, fieldsOf, isName, isLabel, isWord, isNumber, value, Answer, refused, accepted, then, unless, readText}
+use Rattle.rules.specs.Text.{Bytes, same, empty, bytes, maxProcs, maxNodes, maxEdges, fieldsOf, isName, isLabel, isWord, isNumber, value, Reading, refused, accepted, then, unless, readText}
 use Rattle.rules.specs.Graph.{Kind, E, S, C, X, Node, Edge, Program, nameAt, ownerAt, kindAt, calleeAt, sourceAt, wordAt, procCount, nodeCount, edgeCount, sameKind, isOf, leaves, degree, fewest, most, worded}
 
 -- What a line says. Of numbers the bytes are kept.
@@ -115,7 +115,7 @@ unfoldable pub lost : Program → ℕ → Bool
 lost p n = sameKind (kindAt p n) C and isnt (named p (calleeAt p n))
 
 -- The refusal 8 of the procedure that was being read, at its P line, else what follows.
-abbrev pub closing : {A : Type 0} → Listing → Answer A → Answer A
+abbrev pub closing : {A : Type 0} → Listing → Reading A → Reading A
 closing s a = unless (isnt (complete (s .program) (current (s .program)))) 8 (getD (s .places .procLines) (current (s .program)) 0) a
 
 -- What was read, with a P line, an N line, a B line more: the line n, which begins at the offset `at`.
@@ -159,14 +159,14 @@ withEdge at from word to s =
     }
 
 -- A P line's own refusals.
-abbrev pub takeProc : ℕ → ℕ → Bytes → Listing → Answer Listing
+abbrev pub takeProc : ℕ → ℕ → Bytes → Listing → Reading Listing
 takeProc n at name s =
     unless (leb maxProcs (procCount (s .program))) 4 n
     (unless (named (s .program) name) 5 n
     (accepted (withProc n at name s)))
 
 -- One line, numbered n, beginning at the offset `at`. At a P line the procedure before it is closed first.
-unfoldable pub takeLine : ℕ → ℕ → Listing → Line → Answer Listing
+unfoldable pub takeLine : ℕ → ℕ → Listing → Line → Reading Listing
 takeLine n at s (proc-line name) = choose (begun (s .program)) (closing s (takeProc n at name s)) (takeProc n at name s)
 takeLine n at s (node-line kind label callee) =
     unless (isnt (begun (s .program)) or hasEdge (s .program) (current (s .program))) 3 n
@@ -180,18 +180,18 @@ takeLine n at s (edge-line from word to) =
     (accepted (withEdge at from word to s)))))
 takeLine n at s malformed = refused 2 n
 
-unfoldable pub stepProgram : ℕ → ℕ → Listing → Bytes → Answer Listing
+unfoldable pub stepProgram : ℕ → ℕ → Listing → Bytes → Reading Listing
 stepProgram n at s line = takeLine n at s (formOf (fieldsOf line))
 
 -- The end of the text: an empty program is malformed in line 1; then 8 of the last procedure; then 9, at the first N line whose callee is unknown.
-unfoldable pub finishProgram : ℕ → Listing → Answer Listing
+unfoldable pub finishProgram : ℕ → Listing → Reading Listing
 finishProgram n s =
     unless (isnt (begun (s .program))) 2 1
     (closing s (after (first (nodeCount (s .program)) (lost (s .program))) (accepted s) (λ m. refused 9 (getD (s .places .nodeLines) m 0))))
 
 -- Reading a program file: with the places, and the program alone.
-unfoldable pub readListing : Bytes → Answer Listing
+unfoldable pub readListing : Bytes → Reading Listing
 readListing text = readText stepProgram finishProgram nothingRead text
 
-unfoldable pub readProgram : Bytes → Answer Program
+unfoldable pub readProgram : Bytes → Reading Program
 readProgram text = then (readListing text) (λ s. accepted (s .program))

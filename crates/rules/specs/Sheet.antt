@@ -6,7 +6,7 @@ use Prim.Native.Nat.{ℕ, zero, suc}
 use lib.Dec.{eqb, leb, ltb}
 use lib.ListN.{length, getD}
 use Rattle.laws.specs.Tests.{_and_, _or_, isnt, first, count, allPairs, after, choose, none?}
-use Rattle.rules.specs.Text.{Bytes, same, bytes, linesOf, fieldsOf, commas, textOf, isName, isNumber, value, decimal, Answer, refused, accepted, unless, readText}
+use Rattle.rules.specs.Text.{Bytes, same, bytes, linesOf, fieldsOf, commas, textOf, isName, isNumber, value, decimal, Reading, refused, accepted, unless, readText}
 use Rattle.rules.specs.Graph.{Program, nodeCount, edgeCount}
 use Rattle.rules.specs.SuiteFile.{Suite, testCount, testName}
 use Rattle.rules.specs.Closing.{Coverage, holds, Mark, mark-0, mark-1, mark-?, mark, dangers, pairs, repeated}
@@ -146,7 +146,7 @@ abbrev pub shutSheet : SheetRead → SheetRead
 shutSheet s = record { opened = s .opened; claims = s .claims; shut = true }
 
 -- One line, numbered n. 4: an M line above the limit. 11: the line is not in its order, its number or name is none of the files', or the counts are wrong.
-unfoldable pub takeSheetLine : ℕ → Program → Program → Suite → ℕ → SheetRead → SheetLine → Answer SheetRead
+unfoldable pub takeSheetLine : ℕ → Program → Program → Suite → ℕ → SheetRead → SheetLine → Reading SheetRead
 takeSheetLine limit old new suite n s head-line = unless (s .opened) 11 n (accepted (openSheet s))
 takeSheetLine limit old new suite n s (m-line a b) =
     let c : Sheet = s .claims in
@@ -167,13 +167,13 @@ takeSheetLine limit old new suite n s (end-line m d r) =
     (accepted (shutSheet s))
 takeSheetLine limit old new suite n s no-form = refused 2 n
 
-unfoldable pub stepSheet : ℕ → Program → Program → Suite → ℕ → ℕ → SheetRead → Bytes → Answer SheetRead
+unfoldable pub stepSheet : ℕ → Program → Program → Suite → ℕ → ℕ → SheetRead → Bytes → Reading SheetRead
 stepSheet limit old new suite n at s line = takeSheetLine limit old new suite n s (sheetForm (fieldsOf line))
 
 -- A missing line counts as one past the last.
-unfoldable pub finishSheet : ℕ → SheetRead → Answer Sheet
+unfoldable pub finishSheet : ℕ → SheetRead → Reading Sheet
 finishSheet n s = unless (isnt (s .shut)) 11 n (accepted (s .claims))
 
 -- Reading a sheet of at most `limit` pairs, for these programs and tests.
-unfoldable pub readSheet : ℕ → Program → Program → Suite → Bytes → Answer Sheet
+unfoldable pub readSheet : ℕ → Program → Program → Suite → Bytes → Reading Sheet
 readSheet limit old new suite text = readText (stepSheet limit old new suite) finishSheet noSheet text

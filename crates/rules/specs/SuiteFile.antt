@@ -5,7 +5,7 @@ use Prim.Native.Nat.{ℕ, _+_, _-_, _/_, _%_}
 use lib.Dec.{eqb, leb}
 use lib.ListN.{length, getD, take, drop}
 use Rattle.laws.specs.Tests.{_and_, _or_, isnt, any, choose}
-use Rattle.rules.specs.Text.{Bytes, same, bytes, maxTests, fieldsOf, between, allBytes, isName, Answer, refused, accepted, then, unless, readText}
+use Rattle.rules.specs.Text.{Bytes, same, bytes, maxTests, fieldsOf, between, allBytes, isName, Reading, refused, accepted, then, unless, readText}
 use Rattle.rules.specs.Closing.{Coverage}
 
 -- A suite ("lift file"): the names of its tests, and what each covers ("row").
@@ -78,7 +78,7 @@ abbrev pub withTest : ℕ → Bytes → Coverage → TestListing → TestListing
 withTest at name coverage l = record { suite = addTest name coverage (l .suite); starts = l .starts ++ ((at + 2) ∷ []) }
 
 -- One line, numbered n, beginning at the offset `at`, where the old program has m edges.
-unfoldable pub takeTest : ℕ → ℕ → ℕ → TestListing → TestLine → Answer TestListing
+unfoldable pub takeTest : ℕ → ℕ → ℕ → TestListing → TestLine → Reading TestListing
 takeTest m n at l (test-line name row) =
     unless (leb maxTests (testCount (l .suite))) 4 n
     (unless (tested (l .suite) name) 5 n
@@ -86,16 +86,16 @@ takeTest m n at l (test-line name row) =
     (accepted (withTest at name (take m (bitsOf row)) l))))
 takeTest m n at l no-test = refused 2 n
 
-unfoldable pub stepSuite : ℕ → ℕ → ℕ → TestListing → Bytes → Answer TestListing
+unfoldable pub stepSuite : ℕ → ℕ → ℕ → TestListing → Bytes → Reading TestListing
 stepSuite m n at l line = takeTest m n at l (testForm (fieldsOf line))
 
 -- An empty test file holds no tests.
-abbrev pub finishSuite : ℕ → TestListing → Answer TestListing
+abbrev pub finishSuite : ℕ → TestListing → Reading TestListing
 finishSuite n l = accepted l
 
 -- Reading a test file, where the old program has m edges: with the places, and the suite alone.
-unfoldable pub readTests : ℕ → Bytes → Answer TestListing
+unfoldable pub readTests : ℕ → Bytes → Reading TestListing
 readTests m text = readText (stepSuite m) finishSuite noTests text
 
-unfoldable pub readSuite : ℕ → Bytes → Answer Suite
+unfoldable pub readSuite : ℕ → Bytes → Reading Suite
 readSuite m text = then (readTests m text) (λ l. accepted (l .suite))

@@ -153,28 +153,28 @@ decimal n = digits n n
 -- ---- answers, and reading line by line
 
 -- A refusal, by number and place; or what was read.
-pub data Answer (A : Type 0) : Type 0 where
-  refused : ℕ → ℕ → Answer A
-  accepted : A → Answer A
+pub data Reading (A : Type 0) : Type 0 where
+  refused : ℕ → ℕ → Reading A
+  accepted : A → Reading A
 
 -- What follows, if nothing was refused.
-unfoldable pub then : {A B : Type 0} → Answer A → (A → Answer B) → Answer B
+unfoldable pub then : {A B : Type 0} → Reading A → (A → Reading B) → Reading B
 then (refused k p) f = refused k p
 then (accepted a) f = f a
 
 -- The refusal k at the place p where the test passes, else what follows. The order of refusals is the order of these.
-unfoldable pub unless : {A : Type 0} → Bool → ℕ → ℕ → Answer A → Answer A
+unfoldable pub unless : {A : Type 0} → Bool → ℕ → ℕ → Reading A → Reading A
 unless true k p a = refused k p
 unless false k p a = a
 
 -- Reading: `step` takes the number of a line, from 1, the offset at which it begins, what was read before it, and the line; `finish` the number one past the last line.
-module _ {S A : Type 0} (step : ℕ → ℕ → S → Bytes → Answer S) (finish : ℕ → S → Answer A) where
+module _ {S A : Type 0} (step : ℕ → ℕ → S → Bytes → Reading S) (finish : ℕ → S → Reading A) where
   -- The pieces of a text from the line n on, which begins at the offset `at`. A last line without byte 10 is malformed.
-  unfoldable pub readLines : ℕ → ℕ → S → List Bytes → Answer A
+  unfoldable pub readLines : ℕ → ℕ → S → List Bytes → Reading A
   readLines n at st [] = refused 2 n
   readLines n at st (rest ∷ []) = unless (isnt (empty rest)) 2 n (finish n st)
   readLines n at st (l ∷ m ∷ ls) = then (step n at st l) (λ s. readLines (suc n) (at + length l + 1) s (m ∷ ls))
 
   -- A text: 1 where it is too long, then line by line.
-  unfoldable pub readText : S → Bytes → Answer A
+  unfoldable pub readText : S → Bytes → Reading A
   readText st text = unless (ltb maxBytes (length text)) 1 0 (readLines 1 0 st (linesOf text))

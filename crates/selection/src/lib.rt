@@ -242,18 +242,18 @@ pub fn find_marks(
     w: &[usize],
     rows: &[u64],
     test: usize,
-    olds: usize,
-    news: usize,
+    old_edges: usize,
+    new_edges: usize,
     again: bool,
     marks: &mut [u8],
 )
     requires { ⌜ test ≤ 200 ⌝ }
-    ensures { λ _. ⌜ MarksFound (now (on .entry)) (now (ol .entry)) (now (nn .entry)) (now (nl .entry)) (now (w .entry)) (now (rows .entry)) test olds news again (now (marks .entry)) (now (marks .exit)) ⌝ }
+    ensures { λ _. ⌜ MarksFound (now (on .entry)) (now (ol .entry)) (now (nn .entry)) (now (nl .entry)) (now (w .entry)) (now (rows .entry)) test «old_edges» «new_edges» again (now (marks .entry)) (now (marks .exit)) ⌝ }
 {
     if again {
-        fill(marks, news, 63);
+        fill(marks, new_edges, 63);
         return;
     }
-    fill(marks, news, 48);
-    carry_all(on, ol, nn, nl, w, rows, test, olds, marks);
+    fill(marks, new_edges, 48);
+    carry_all(on, ol, nn, nl, w, rows, test, old_edges, marks);
 }

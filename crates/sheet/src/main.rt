@@ -1,7 +1,7 @@
 // sheet OLD NEW TESTS: prints the sheet that the selector gives, then the record lines of all tests in order, or only `refused,NUMBER,PLACE`.
 // The pairs are found once for all lines.
 use answer::Answer;
-use intake::Texts;
+use intake::Counts;
 ghost use Prim.Native.Nat.{_≤_};
 ghost use Rattle.intake.specs.Ready.{Few};
 
@@ -30,7 +30,7 @@ fn record(
     tt: &[u8],
     tests: &[usize],
     rows: &[u64],
-    had: Texts,
+    had: Counts,
     i: usize,
     w: &[usize],
     set: &[u64],
@@ -52,7 +52,7 @@ fn records(
     tt: &[u8],
     tests: &[usize],
     rows: &[u64],
-    had: Texts,
+    had: Counts,
     w: &[usize],
     set: &[u64],
 )
@@ -76,7 +76,7 @@ fn lines(
     tt: &[u8],
     tests: &[usize],
     rows: &[u64],
-    had: Texts,
+    had: Counts,
 )
     requires { ⌜ Few had ⌝ }
 {

@@ -14,7 +14,7 @@ use Rattle.laws.specs.Lists.{snoc-length}
 use Rattle.laws.specs.Slices.{same-or}
 use Rattle.laws.specs.Bits.{bitIn}
 use Rattle.laws.specs.BitSets.{bit-with, withBit}
-use Rattle.rules.specs.Text.{Answer, Bytes, accepted, bytes, isName, isNumber, same, split, unless, value}
+use Rattle.rules.specs.Text.{Reading, Bytes, accepted, bytes, isName, isNumber, same, split, unless, value}
 use Rattle.rules.specs.Graph.{Program, edgeCount, nodeCount}
 use Rattle.rules.specs.SuiteFile.{Suite, testCount, testName}
 use Rattle.rules.specs.Sheet.{SheetRead, addD, addM, addR, allBelow, d-line, end-line, going, m-line, openSheet, pairsBefore, r-line, sheetForm, takeSheetLine, testOf}
@@ -35,11 +35,11 @@ use Rattle.sheet_reader.proofs.Orders.{and-when, has-snoc, kept, kept-b
 -- ---- a test that refuses, and one that passes
 
 module _ (r : State) (w sets : List ℕ) where
-  stop : {t : Bool} (k n : ℕ) (x : Answer SheetRead) → t ≡ true → Refusal k n r → 0 < k → After (unless t k n x) r w sets
+  stop : {t : Bool} (k n : ℕ) (x : Reading SheetRead) → t ≡ true → Refusal k n r → 0 < k → After (unless t k n x) r w sets
   unfolding unless
   stop k n x e q p = rw e (q .number-is, q .place-is, p)
 
-  go-on : {t : Bool} (k n : ℕ) (x : Answer SheetRead) → t ≡ false → After x r w sets → After (unless t k n x) r w sets
+  go-on : {t : Bool} (k n : ℕ) (x : Reading SheetRead) → t ≡ false → After x r w sets → After (unless t k n x) r w sets
   unfolding unless
   go-on k n x e a = rw e a
 

@@ -13,7 +13,7 @@ use Rattle.laws.specs.Tests.{has, isnt}
 use Rattle.laws.specs.TestLaws.{true-isnt, false-isnt}
 use Rattle.laws.specs.Slices.{drop-end}
 use Rattle.laws.specs.BitSets.{clear-bits}
-use Rattle.rules.specs.Text.{Answer, Bytes, accepted, bytes, empty, readLines, readText, refused, same, split, then, unless}
+use Rattle.rules.specs.Text.{Reading, Bytes, accepted, bytes, empty, readLines, readText, refused, same, split, then, unless}
 use Rattle.rules.specs.Graph.{Program}
 use Rattle.rules.specs.SuiteFile.{Suite}
 use Rattle.rules.specs.Sheet.{Sheet, SheetRead, finishSheet, headLine, noSheet, readSheet, sheetForm, stepSheet, takeSheetLine}
@@ -86,16 +86,16 @@ pub ruleset finishes = (finish-shut, finish-open)
 -- ---- the loop
 
 -- What the definition answers, by the number.
-accepted-of : (x : Answer SheetRead) (r : State) (w sets : List ℕ) → After x r w sets → r .number ≡ 0 → (s : SheetRead) × (x ≡ accepted s) × Holds w sets r s
+accepted-of : (x : Reading SheetRead) (r : State) (w sets : List ℕ) → After x r w sets → r .number ≡ 0 → (s : SheetRead) × (x ≡ accepted s) × Holds w sets r s
 accepted-of (refused k p) r w sets h z = absurd (omega arith)
 accepted-of (accepted s) r w sets h z = (s, refl, h .2)
 
-refused-of : (x : Answer SheetRead) (r : State) (w sets : List ℕ) → After x r w sets → (r .number ≡ 0 → ⊥) → (x ≡ refused (r .number) (r .place)) × (0 < r .number)
+refused-of : (x : Reading SheetRead) (r : State) (w sets : List ℕ) → After x r w sets → (r .number ≡ 0 → ⊥) → (x ≡ refused (r .number) (r .place)) × (0 < r .number)
 refused-of (refused k p) r w sets h z = (ap₂ refused (sym (h .0)) (sym (h .1)), omega arith)
 refused-of (accepted s) r w sets h z = absurd (z (h .0))
 
 module _ (limit : ℕ) (old new : Program) (suite : Suite) where
-  abbrev linesFrom : ℕ → ℕ → SheetRead → List Bytes → Answer Sheet
+  abbrev linesFrom : ℕ → ℕ → SheetRead → List Bytes → Reading Sheet
   linesFrom n at s ps = readLines (stepSheet limit old new suite) finishSheet n at s ps
 
   lines-more : (n at : ℕ) (s : SheetRead) (line : Bytes) (ps : List Bytes) (p : Bytes) (qs : List Bytes) → ps ≡ p ∷ qs
@@ -200,14 +200,14 @@ module _ (b : Bounds) (tt : Bytes) (table : List ℕ) (sheet : Bytes) where
             record {
               s = a .0;
               hold = a .2;
-              goes = whole ∙ ap (λ (x : Answer SheetRead). then x (λ s. linesFrom (b .limit) old new suite (n + 1) (at + len + 1) s (split 10 (drop (at + len + 1) sheet)))) (a .1);
+              goes = whole ∙ ap (λ (x : Reading SheetRead). then x (λ s. linesFrom (b .limit) old new suite (n + 1) (at + len + 1) s (split 10 (drop (at + len + 1) sheet)))) (a .1);
             }
 
         stopped : (r .number ≡ 0 → ⊥) → (linesFrom (b .limit) old new suite 1 0 noSheet (split 10 sheet) ≡ refused (r .number) (r .place)) × (0 < r .number)
         unfolding then
         stopped z =
             let a = refused-of (stepSheet (b .limit) old new suite n at (before .s) line) r w′ sets′ answer z in
-            (whole ∙ ap (λ (x : Answer SheetRead). then x (λ s. linesFrom (b .limit) old new suite (n + 1) (at + len + 1) s (split 10 (drop (at + len + 1) sheet)))) (a .0), a .1)
+            (whole ∙ ap (λ (x : Reading SheetRead). then x (λ s. linesFrom (b .limit) old new suite (n + 1) (at + len + 1) s (split 10 (drop (at + len + 1) sheet)))) (a .0), a .1)
 
       pub head-on : r .number ≡ 0 → length w′ ≡ length w → length sets′ ≡ length sets → Head b tt table sheet w₀ sets₀ (at + len + 1) (n + 1) r w′ sets′
       unfolding Sos

@@ -4,7 +4,7 @@ use mathlib.Core.List.{List}
 use Prim.Native.Nat.{ℕ, _+_, _<_}
 use Rattle.laws.specs.Tests.{has}
 use Rattle.laws.specs.Bits.{bitIn}
-use Rattle.rules.specs.Text.{Answer, Bytes, accepted, refused}
+use Rattle.rules.specs.Text.{Reading, Bytes, accepted, refused}
 use Rattle.rules.specs.Graph.{Program, edgeCount, nodeCount}
 use Rattle.rules.specs.SuiteFile.{Suite, testCount, testName}
 use Rattle.rules.specs.Sheet.{Sheet, readSheet}
@@ -30,7 +30,7 @@ pub record ClaimsHeld (w sets : List ℕ) (m : ℕ) (s : Sheet) : Type 0 where
   pub tests-are : (i : ℕ) → i < 200 → bitIn sets (1024 + i) ≡ has (s .R) i
 
 -- An answer against the definition's. What the tables hold after a refusal is left open.
-abbrev pub Told : Answer Sheet → SheetRead → List ℕ → List ℕ → Type 0
+abbrev pub Told : Reading Sheet → SheetRead → List ℕ → List ℕ → Type 0
 Told (refused k p) r w sets = (r .number ≡ k) × (r .place ≡ p) × (0 < k)
 Told (accepted s) r w sets = (r .number ≡ 0) × (r .place ≡ 0) × ClaimsHeld w sets (r .pairs) s
 

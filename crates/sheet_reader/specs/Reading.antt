@@ -7,7 +7,7 @@ use lib.Dec.{eqb, leb, ltb}
 use lib.ListN.{length}
 use Rattle.laws.specs.Tests.{_and_, first, found, isnt}
 use Rattle.laws.specs.Bits.{bitIn}
-use Rattle.rules.specs.Text.{Answer, Bytes, accepted, bytes, linesOf, readLines, refused, same}
+use Rattle.rules.specs.Text.{Reading, Bytes, accepted, bytes, linesOf, readLines, refused, same}
 use Rattle.rules.specs.Graph.{Program, edgeCount, nodeCount}
 use Rattle.rules.specs.SuiteFile.{Suite}
 use Rattle.rules.specs.Sheet.{SheetRead, allBelow, finishSheet, head-line, noSheet, pairsBefore, sheetForm, stepSheet, takeSheetLine}
@@ -57,7 +57,7 @@ pub record Holds (w sets : List ℕ) (c : State) (s : SheetRead) : Type 0 where
   pub held : ClaimsHeld w sets (c .pairs) (s .claims)
 
 -- An answer against the definition's. What the tables hold after a refusal is left open.
-abbrev pub After : Answer SheetRead → State → List ℕ → List ℕ → Type 0
+abbrev pub After : Reading SheetRead → State → List ℕ → List ℕ → Type 0
 After (refused k p) r w sets = (r .number ≡ k) × (r .place ≡ p) × (0 < k)
 After (accepted s) r w sets = (r .number ≡ 0) × (r .place ≡ 0) × Holds w sets r s
 

@@ -12,7 +12,7 @@ use borrow.Author.Tests.{le-ltb, lt-ltb}
 use Rattle.laws.specs.Tests.{isnt}
 use Rattle.laws.specs.Slices.{drop-end, part-part}
 use Rattle.laws.specs.TestLaws.{none-below}
-use Rattle.rules.specs.Text.{Answer, Bytes, accepted, empty, joinBy, readLines, readText, refused, split, then, unless}
+use Rattle.rules.specs.Text.{Reading, Bytes, accepted, empty, joinBy, readLines, readText, refused, split, then, unless}
 use Rattle.rules.specs.SuiteFile.{TestLine, TestListing, finishSuite, no-test, noTests, readTests, stepSuite, takeTest, test-line, testForm}
 use Rattle.rules.specs.Proofs.TextLaws.{accepted-same, join-split, split-cons, unless-accepted, empty-not}
 use Rattle.rules.specs.Proofs.SuiteLaws.{TestFormed, test-formed}
@@ -54,7 +54,7 @@ module _ (m : ℕ) (text : Bytes) (n at : ℕ) (l : TestListing) (known : Known 
 
 -- ---- the loop
 
-abbrev linesFrom : ℕ → ℕ → ℕ → TestListing → List Bytes → Answer TestListing
+abbrev linesFrom : ℕ → ℕ → ℕ → TestListing → List Bytes → Reading TestListing
 linesFrom m n at l ps = readLines (stepSuite m) finishSuite n at l ps
 
 pub record So (m : ℕ) (text : Bytes) (at n c : ℕ) (f t w : List ℕ) : Type 0 where
@@ -140,7 +140,7 @@ module _ (m : ℕ) (text : Bytes) (f₀ t₀ w₀ : List ℕ) (at n c : ℕ) (f 
             known = known-step m text n at (head .so .l) (head .so .known) c t w (head .so .hold) line len (el ∙ ap (λ (s : Bytes). take len s) er) line-long (a .0) (a .1);
             hold = a .2;
             marked = answer .1 (a .0) (a .1);
-            goes = whole ∙ ap (λ (x : Answer TestListing). then x (λ s. linesFrom m (n + 1) (at + len + 1) s (split 10 (drop (at + len + 1) text)))) (a .1);
+            goes = whole ∙ ap (λ (x : Reading TestListing). then x (λ s. linesFrom m (n + 1) (at + len + 1) s (split 10 (drop (at + len + 1) text)))) (a .1);
           };
         }
 
@@ -149,7 +149,7 @@ module _ (m : ℕ) (text : Bytes) (f₀ t₀ w₀ : List ℕ) (at n c : ℕ) (f 
     no-line z =
         let a = refused-of m (stepSuite m n at (head .so .l) line) r t′ w′ (answer .0) z in
         let q : linesFrom m 1 0 noTests (split 10 text) ≡ refused (r .number) (r .place) =
-        whole ∙ ap (λ (x : Answer TestListing). then x (λ s. linesFrom m (n + 1) (at + len + 1) s (split 10 (drop (at + len + 1) text)))) (a .0) in
+        whole ∙ ap (λ (x : Reading TestListing). then x (λ s. linesFrom m (n + 1) (at + len + 1) s (split 10 (drop (at + len + 1) text)))) (a .0) in
         simp q (refl, refl, a .1)
 
 pub all-read : (m : ℕ) (text : Bytes) (f₀ t₀ w₀ : List ℕ) (at n c : ℕ) (f t w : List ℕ) → Head m text f₀ t₀ w₀ at n c f t w → length text ≤ at

@@ -8,7 +8,7 @@ use lib.Dec.{ltb}
 use lib.ListN.{length, getD, take, drop}
 use Rattle.laws.specs.Tests.{_and_, any, isnt}
 use Rattle.laws.specs.Bits.{bitIn}
-use Rattle.rules.specs.Text.{Bytes, same, bytes, isName, Answer, refused, accepted, linesOf, readLines}
+use Rattle.rules.specs.Text.{Bytes, same, bytes, isName, Reading, refused, accepted, linesOf, readLines}
 use Rattle.rules.specs.SuiteFile.{TestListing, finishSuite, noTests, readTests, stepSuite, takeTest, test-line, testCount, testName}
 use Rattle.text.specs.Scans.{span}
 use Rattle.text.specs.Hash.{hashOf}
@@ -49,7 +49,7 @@ unfoldable pub Marked : List ℕ → TestListing → Type 0
 Marked filter l = (i : ℕ) → i < testCount (l .suite) → bitIn filter (hashOf (testName (l .suite) i)) ≡ true
 
 -- The same of the tests that the definition accepts.
-abbrev pub MarkedAfter : List ℕ → Answer TestListing → Type 0
+abbrev pub MarkedAfter : List ℕ → Reading TestListing → Type 0
 MarkedAfter filter x = (l : TestListing) → x ≡ accepted l → Marked filter l
 
 -- What is known of the tests that were read: each has a place and a coverage, and its name stands in the text.
@@ -60,17 +60,17 @@ pub record Known (text : Bytes) (l : TestListing) : Type 0 where
 
 -- An answer against the definition's, where the old program has m edges. After a refusal the count and what the tables hold are left open, and what they hold behind
 -- the tests of an accepted text always.
-abbrev pub After : ℕ → Answer TestListing → Read → List ℕ → List ℕ → Type 0
+abbrev pub After : ℕ → Reading TestListing → Read → List ℕ → List ℕ → Type 0
 After m (refused k p) r tests rows = (r .number ≡ k) × (r .place ≡ p) × (0 < k)
 After m (accepted l) r tests rows = (r .number ≡ 0) × (r .place ≡ 0) × Holds m tests rows (r .count) l
 
 -- What the definition answers, by the number.
-pub accepted-of : (m : ℕ) (x : Answer TestListing) (r : Read) (tests rows : List ℕ) → After m x r tests rows → r .number ≡ 0
+pub accepted-of : (m : ℕ) (x : Reading TestListing) (r : Read) (tests rows : List ℕ) → After m x r tests rows → r .number ≡ 0
     → (l : TestListing) × (x ≡ accepted l) × Holds m tests rows (r .count) l
 accepted-of m (refused k p) r tests rows h z = absurd (omega arith)
 accepted-of m (accepted l) r tests rows h z = (l, refl, h .2)
 
-pub refused-of : (m : ℕ) (x : Answer TestListing) (r : Read) (tests rows : List ℕ) → After m x r tests rows → (r .number ≡ 0 → ⊥)
+pub refused-of : (m : ℕ) (x : Reading TestListing) (r : Read) (tests rows : List ℕ) → After m x r tests rows → (r .number ≡ 0 → ⊥)
     → (x ≡ refused (r .number) (r .place)) × (0 < r .number)
 refused-of m (refused k p) r tests rows h z = (ap₂ refused (sym (h .0)) (sym (h .1)), omega arith)
 refused-of m (accepted l) r tests rows h z = absurd (z (h .0))

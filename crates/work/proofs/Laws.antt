@@ -28,9 +28,9 @@ use Rattle.selection.specs.MarkLaws.{marks-front}
 use Rattle.suite.specs.Rows.{Holds, rowMeets}
 use Rattle.suite.specs.RowLaws.{suite-read}
 use Rattle.writer.specs.Sheets.{RecordWrites, RecordWritten, SheetWrites, SheetWritten, selection, writing-written}
-use Rattle.intake.specs.declared.Texts.{Texts}
+use Rattle.intake.specs.declared.Counts.{Counts}
 use Rattle.intake.specs.Ready.{Few, Ready}
-use Rattle.work.specs.Work.{Chosen, Done, RecordDone, RecordFrom, Selected, Selects, SheetDone}
+use Rattle.work.specs.Work.{Chosen, Done, RecordDone, RecordFrom, Selected, SelectDone, SheetDone}
 
 -- ---- `select`
 
@@ -40,7 +40,7 @@ module _ (limit : ℕ) (v v′ : Memory) (w w′ : List ℕ) (c : ℕ) (h : Size
   found o p io ip l = h .claim o p io ip l
 
   pub select-many : (set : List ℕ) → limit < c → Selected limit v v′ w w′ set set c
-  unfolding Selects
+  unfolding SelectDone
   select-many set m =
       record {
         selects = λ o p io ip l k. record {
@@ -53,7 +53,7 @@ module _ (limit : ℕ) (v v′ : Memory) (w w′ : List ℕ) (c : ℕ) (h : Size
       }
 
   pub select-few : (set set′ : List ℕ) → c ≤ limit → DangersCopied w′ set set′ → Selected limit v v′ w w′ set set′ c
-  unfolding Selects Copies
+  unfolding SelectDone Copies
   select-few set set′ m d =
       record {
         selects = λ o p io ip l k.
@@ -81,14 +81,14 @@ recording-yes limit over g i room h = choose-yes _ _ (lt-ltb i (testCount (g .su
 recording-no : (limit over : ℕ) (g : Given) (i room : ℕ) → testCount (g .suite) ≤ i → recording limit over g i room ≡ refusal 6 0
 recording-no limit over g i room h = choose-no _ _ (le-ltb i (testCount (g .suite)) h)
 
-module _ (limit over : ℕ) (v v′ : Memory) (tt tests rows : List ℕ) (had : Texts) (w : List ℕ) (out : Bytes) where
+module _ (limit over : ℕ) (v v′ : Memory) (tt tests rows : List ℕ) (had : Counts) (w : List ℕ) (out : Bytes) where
   -- What the job gives, by its parts.
   abbrev giving : (g : Given) → Ready v v′ tt tests rows had g → Given
   giving g y = record { old = y .o .program; new = y .p .program; suite = y .l .suite }
 
   chosen : (w′ set set′ : List ℕ) (c : ℕ) → Selected limit v v′ w w′ set set′ c → length set ≡ 16 → (g : Given) (y : Ready v v′ tt tests rows had g) → pairBase + 3 * limit ≤ length w
       → Chosen limit (y .o .program) (y .p .program) w′ set′ c
-  unfolding Selects
+  unfolding SelectDone
   chosen w′ set set′ c s k g y l = s .selects (y .o) (y .p) (y .old-in) (y .new-in) l (omega arith)
 
   held-few : (g : Given) (y : Ready v v′ tt tests rows had g) (w′ set′ : List ℕ) (c : ℕ) → Chosen limit (y .o .program) (y .p .program) w′ set′ c → c ≤ limit
@@ -177,7 +177,7 @@ module _ (limit over : ℕ) (v v′ : Memory) (tt tests rows : List ℕ) (had : 
 
 -- ---- `record_from`
 
-pub record-put : (on ol nn nl tt tests rows : List ℕ) (had : Texts) (w : List ℕ) (out : Bytes) (set marks marks′ : List ℕ) (i : ℕ) (again : Bool) (r : Answer) (out′ : Bytes)
+pub record-put : (on ol nn nl tt tests rows : List ℕ) (had : Counts) (w : List ℕ) (out : Bytes) (set marks marks′ : List ℕ) (i : ℕ) (again : Bool) (r : Answer) (out′ : Bytes)
     → Few had → again ≡ rowMeets rows set i → length marks ≡ 1024 → MarksFound on ol nn nl w rows i (had .«old_edges») (had .«new_edges») again marks marks′
     → RecordWritten tt tests rows i marks′ (had .«new_edges») out r out′ → Done w w out out′ (RecordFrom on ol nn nl tt tests rows had i w set out r out′)
 unfolding RecordFrom Finds RecordWrites recordBytes

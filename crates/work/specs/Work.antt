@@ -16,7 +16,7 @@ use Rattle.pairset.specs.Store.{pairBase}
 use Rattle.versions.specs.Memory.{InMemory, Memory, memory}
 use Rattle.versions.specs.Held.{PairsHeld}
 use Rattle.selection.specs.Dangers.{DangerSet}
-use Rattle.intake.specs.declared.Texts.{Texts}
+use Rattle.intake.specs.declared.Counts.{Counts}
 use Rattle.intake.specs.Ready.{Ready}
 
 -- The number of pairs, or one more than the limit where there are more; within the limit the table holds them, and the set has the dangerous edges. What table and set hold where
@@ -27,27 +27,27 @@ pub record Chosen (limit : ℕ) (old new : Program) (w set : List ℕ) (r : ℕ)
   pub marked : r ≤ limit → DangerSet old new set
 
 -- `select`: the pairs and the dangerous edges of two versions.
-unfoldable pub Selects : ℕ → Memory → Memory → List ℕ → List ℕ → List ℕ → List ℕ → ℕ → Type 0
-Selects limit v v′ w w′ set set′ r =
+unfoldable pub SelectDone : ℕ → Memory → Memory → List ℕ → List ℕ → List ℕ → List ℕ → ℕ → Type 0
+SelectDone limit v v′ w w′ set set′ r =
     (o p : Listing) → InMemory v o → InMemory v′ p → pairBase + 3 * limit ≤ length w → 16 ≤ length set → Chosen limit (o .program) (p .program) w′ set′ r
 
 pub record Selected (limit : ℕ) (v v′ : Memory) (w w′ set set′ : List ℕ) (r : ℕ) : Type 0 where
-  pub selects : Selects limit v v′ w w′ set set′ r
+  pub selects : SelectDone limit v v′ w w′ set set′ r
   pub size : length w′ ≡ length w
   pub set-size : length set′ ≡ length set
 
 -- `write_sheet`: the sheet; `over` where more than `limit` pairs exist, or 16. What the table w holds afterwards is left open.
-unfoldable pub SheetDone : ℕ → ℕ → Memory → Memory → Bytes → List ℕ → List ℕ → Texts → List ℕ → Bytes → Answer → Bytes → Type 0
+unfoldable pub SheetDone : ℕ → ℕ → Memory → Memory → Bytes → List ℕ → List ℕ → Counts → List ℕ → Bytes → Answer → Bytes → Type 0
 SheetDone limit over v v′ tt tests rows had w out r out′ =
     (g : Given) → Ready v v′ tt tests rows had g → pairBase + 3 * limit ≤ length w → Told (writing limit over g (length out) (sheetBytes g)) r out out′
 
 -- `record_from`: the record line of a test, from the pairs and the dangerous edges.
-unfoldable pub RecordFrom : List ℕ → List ℕ → List ℕ → List ℕ → Bytes → List ℕ → List ℕ → Texts → ℕ → List ℕ → List ℕ → Bytes → Answer → Bytes → Type 0
+unfoldable pub RecordFrom : List ℕ → List ℕ → List ℕ → List ℕ → Bytes → List ℕ → List ℕ → Counts → ℕ → List ℕ → List ℕ → Bytes → Answer → Bytes → Type 0
 RecordFrom on ol nn nl tt tests rows had i w set out r out′ =
     (limit over : ℕ) (ot nt : Bytes) (g : Given) (c : ℕ) (y : Ready (memory ot on ol) (memory nt nn nl) tt tests rows had g) → Chosen limit (y .o .program) (y .p .program) w set c → c ≤ limit → i < had .tests → Told (recording limit over g i (length out)) r out out′
 
 -- `write_record`: the record line of a test; 6, `over` or 16. What the table w holds afterwards is left open.
-unfoldable pub RecordDone : ℕ → ℕ → Memory → Memory → Bytes → List ℕ → List ℕ → Texts → ℕ → List ℕ → Bytes → Answer → Bytes → Type 0
+unfoldable pub RecordDone : ℕ → ℕ → Memory → Memory → Bytes → List ℕ → List ℕ → Counts → ℕ → List ℕ → Bytes → Answer → Bytes → Type 0
 RecordDone limit over v v′ tt tests rows had i w out r out′ =
     (g : Given) → Ready v v′ tt tests rows had g → pairBase + 3 * limit ≤ length w → Told (recording limit over g i (length out)) r out out′
 

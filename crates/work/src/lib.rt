@@ -2,7 +2,7 @@
 // leaves them; `w` is the table of the pairs, with room for `limit` of them: the answer is `over` where more exist. What a call that writes
 // leaves in it is left open.
 use answer::Answer;
-use intake::Texts;
+use intake::Counts;
 ghost use Prim.Native.Nat.{_≤_};
 ghost use Rattle.intake.specs.Ready.{Few};
 ghost use Rattle.versions.specs.Memory.{memory};
@@ -45,7 +45,7 @@ pub fn write_sheet(
     tt: &[u8],
     tests: &[usize],
     rows: &[u64],
-    had: Texts,
+    had: Counts,
     w: &mut [usize],
     out: &mut [u8],
 ) -> Answer
@@ -77,7 +77,7 @@ pub fn record_from(
     tt: &[u8],
     tests: &[usize],
     rows: &[u64],
-    had: Texts,
+    had: Counts,
     i: usize,
     w: &[usize],
     set: &[u64],
@@ -88,11 +88,23 @@ pub fn record_from(
     ensures { λ r. ⌜ Done (now (w .entry)) (now (w .entry)) (now (out .entry)) (now (out .exit)) (RecordFrom (now (on .entry)) (now (ol .entry)) (now (nn .entry)) (now (nl .entry)) (now (tt .entry)) (now (tests .entry)) (now (rows .entry)) had i (now (w .entry)) (now (set .entry)) (now (out .entry)) r (now (out .exit))) ⌝ }
 {
     let mut marks = [0u8; 1024];
-    let olds = had.old_edges;
-    let news = had.new_edges;
+    let old_edges = had.old_edges;
+    let new_edges = had.new_edges;
     let again = suite::row_meets(rows, i, set);
-    selection::find_marks(on, ol, nn, nl, w, rows, i, olds, news, again, &mut marks);
-    writer::write_record(tt, tests, rows, i, &marks, news, out)
+    selection::find_marks(
+        on,
+        ol,
+        nn,
+        nl,
+        w,
+        rows,
+        i,
+        old_edges,
+        new_edges,
+        again,
+        &mut marks,
+    );
+    writer::write_record(tt, tests, rows, i, &marks, new_edges, out)
 }
 
 // Writes the record line of a test: 6 where there is none of that number. What the table of the pairs holds afterwards is left open.
@@ -108,7 +120,7 @@ pub fn write_record(
     tt: &[u8],
     tests: &[usize],
     rows: &[u64],
-    had: Texts,
+    had: Counts,
     i: usize,
     w: &mut [usize],
     out: &mut [u8],

@@ -11,7 +11,7 @@ use borrow.Author.Tests.{leb-true}
 use Rattle.laws.specs.Tests.{_and_, _or_, choose, count, firstFailed, has}
 use Rattle.laws.specs.TestLaws.{and-left, and-right}
 use Rattle.laws.specs.Counting.{count-few}
-use Rattle.rules.specs.Text.{Answer, Bytes, accepted, between, bytes, decimal, joinBy, maxPairs, refused, textOf, tooMany}
+use Rattle.rules.specs.Text.{Reading, Bytes, accepted, between, bytes, decimal, joinBy, maxPairs, refused, textOf, tooMany}
 use Rattle.rules.specs.Graph.{Program, edgeCount}
 use Rattle.rules.specs.ProgramFile.{readProgram}
 use Rattle.rules.specs.SuiteFile.{coverageAt, readSuite, testName}
@@ -33,7 +33,7 @@ Told ks (wrote b) = Unit {0}
 Told ks (refusal k p) = Refusal ks k p
 
 -- What follows a reading, whose numbers are among those of the call.
-outcome-told : {A : Type 0} (ks js : List ℕ) (a : Answer A) (f : A → Outcome) → allOf (has js) ks ≡ true → Good ks Any a → ((x : A) → Told js (f x)) → Told js (outcome a f)
+outcome-told : {A : Type 0} (ks js : List ℕ) (a : Reading A) (f : A → Outcome) → allOf (has js) ks ≡ true → Good ks Any a → ((x : A) → Told js (f x)) → Told js (outcome a f)
 unfolding outcome
 outcome-told ks js (refused k p) f s h n = (passes-of (has js) ks k s (h .0), h .1)
 outcome-told ks js (accepted x) f s h n = n x
@@ -95,7 +95,7 @@ plain (refusal k p) t h =
 unwritten : (o : Outcome) → ((b : Bytes) → o ≡ wrote b → b ≡ []) → (b : Bytes) → o ≡ wrote b → length b < big
 unwritten o h b e = omega (arith, ap length (h b e))
 
-success-only : {A : Type 0} (a : Answer A) (f : A → Outcome) → ((x : A) (b : Bytes) → f x ≡ wrote b → b ≡ []) → (b : Bytes) → outcome a f ≡ wrote b → b ≡ []
+success-only : {A : Type 0} (a : Reading A) (f : A → Outcome) → ((x : A) (b : Bytes) → f x ≡ wrote b → b ≡ []) → (b : Bytes) → outcome a f ≡ wrote b → b ≡ []
 success-only a f h b e = let u = outcome-wrote a f b e in h (u .0) b (u .2)
 
 nothing-wrote : (b : Bytes) → success ≡ wrote b → b ≡ []
@@ -183,7 +183,7 @@ plain-answers old new tests =
 -- A request, where the texts are accepted.
 pub answered : (q : Request) (old new tests input : Bytes) (room : ℕ) (g : Given) → readJob old new tests ≡ accepted g → answering q old new tests input room ≡ serving q g input room
 unfolding answering outcome
-answered q old new tests input room g e = ap (λ (a : Answer Given). outcome a (λ x. serving q x input room)) e
+answered q old new tests input room g e = ap (λ (a : Reading Given). outcome a (λ x. serving q x input room)) e
 
 -- The check, where the texts are accepted.
 pub checked : (old new tests sheet : Bytes) (g : Given) → readJob old new tests ≡ accepted g → checkAnswer old new tests sheet ≡ checking maxPairs g sheet
@@ -208,7 +208,7 @@ one-read limit g sheet p = go (readSheet limit (g .old) (g .new) (g .suite) shee
     never true q e = true≢false (let z : true ≡ false = cc in z)
     never false q e = let z : _≡_ {A = ℕ} 12 1 = cc in let y : ⊥ = omega (arith, z) in y
 
-    go : (a : Answer Sheet) → (outcome a (judged g) ≡ refusal 1 p) ↔ (a ≡ refused 1 p)
+    go : (a : Reading Sheet) → (outcome a (judged g) ≡ refusal 1 p) ↔ (a ≡ refused 1 p)
     go (refused j q) = (λ e. cc, λ e. cc)
     go (accepted c) = (λ e. absurd (never (eqb (broken (g .old) (g .new) (g .suite .coverages) c) 0) (broken (g .old) (g .new) (g .suite .coverages) c) e), λ e. absurd (true≢false (let z : true ≡ false = cc in z)))
 

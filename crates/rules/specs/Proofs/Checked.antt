@@ -12,7 +12,7 @@ use borrow.Author.Tests.{eq-eqb, le-leb, le-ltb, ne-eqb}
 use Rattle.laws.specs.Tests.{_or_, after, choose, firstFailed, has, plus}
 use Rattle.laws.specs.TestLaws.{both-ways}
 use Rattle.laws.specs.Lists.{choose-no, snoc-length}
-use Rattle.rules.specs.Text.{Answer, Bytes, accepted, fieldsOf, linesOf, maxBytes, maxPairs, readLines, readText, refused, textOf, then, unless}
+use Rattle.rules.specs.Text.{Reading, Bytes, accepted, fieldsOf, linesOf, maxBytes, maxPairs, readLines, readText, refused, textOf, then, unless}
 use Rattle.rules.specs.Graph.{Program}
 use Rattle.rules.specs.SuiteFile.{Suite}
 use Rattle.rules.specs.Sheet.{Sheet, SheetLine, SheetRead, d-line, end-line, finishSheet, head-line, m-line, no-form, noSheet, r-line, readSheet, sheetForm, sheetLines, sheetText, stepSheet, takeSheetLine, testOf}
@@ -51,7 +51,7 @@ failed-is (true ∷ l) k h n =
     below i f (suc j) b = f j (omega arith)
 
 -- A refusal with 12 comes behind a reading that was accepted, if reading never gives 12.
-read-past : {A : Type 0} (ks : List ℕ) (a : Answer A) (f : A → Outcome) → Good ks Any a → has ks 12 ≡ false → (p : ℕ) → outcome a f ≡ refusal 12 p → (x : A) × (a ≡ accepted x) × (f x ≡ refusal 12 p)
+read-past : {A : Type 0} (ks : List ℕ) (a : Reading A) (f : A → Outcome) → Good ks Any a → has ks 12 ≡ false → (p : ℕ) → outcome a f ≡ refusal 12 p → (x : A) × (a ≡ accepted x) × (f x ≡ refusal 12 p)
 unfolding outcome
 read-past ks (refused k q) f h n p e = absurd (both-ways (subst (λ (i : ℕ). has ks i ≡ true) (ap numberOf e) (h .0)) n)
 read-past ks (accepted x) f h n p e = (x, refl, e)
@@ -88,7 +88,7 @@ claims-false old new tests sheet p = (there, back)
         let r : readSheet maxPairs (g .old) (g .new) (g .suite) sheet ≡ accepted (h .claims) = sheet-layout maxPairs (omega arith) (g .old) (g .new) (g .suite) (n .old-sound) (n .new-sound) _ (n .suite-sound) sheet (h .claims) .1 (h .order, h .text) in
         let b : firstFailed 1 (fiveRules g (h .claims)) ≡ p = omega (arith, failed-at (fiveRules g (h .claims)) 1 (h .rule) (h .broken) (h .kept), h .place) in
         checked old new tests sheet g (h .reads)
-        ∙ ap (λ (a : Answer Sheet). outcome a (judged g)) r
+        ∙ ap (λ (a : Reading Sheet). outcome a (judged g)) r
         ∙ ap (λ (k : ℕ). choose (eqb k 0) passed (refusal 12 k)) b
         ∙ choose-no _ _ (ne-eqb p 0 (λ z. let y : ⊥ = omega (arith, h .place) in y))
 
@@ -96,16 +96,16 @@ claims-false old new tests sheet p = (there, back)
 
 module _ (limit : ℕ) (old new : Program) (suite : Suite) (n : ℕ) (s : SheetRead) where
   -- A line is refused at its own number, or it is taken, and there is a pair more if it is an M line.
-  Counted : SheetLine → Answer SheetRead → Type 0
+  Counted : SheetLine → Reading SheetRead → Type 0
   Counted x (refused k p) = p ≡ n
   Counted x (accepted t) = length (t .claims .M) ≡ plus (isM x) (length (s .claims .M))
 
-  unless-counted : (x : SheetLine) (b : Bool) (k : ℕ) (a : Answer SheetRead) → Counted x a → Counted x (unless b k n a)
+  unless-counted : (x : SheetLine) (b : Bool) (k : ℕ) (a : Reading SheetRead) → Counted x a → Counted x (unless b k n a)
   unfolding unless Counted
   unless-counted x true k a h = refl
   unless-counted x false k a h = h
 
-  after-counted : (x : SheetLine) (o : Option ℕ) (f : ℕ → Answer SheetRead) → ((i : ℕ) → Counted x (f i)) → Counted x (after o (refused 11 n) f)
+  after-counted : (x : SheetLine) (o : Option ℕ) (f : ℕ → Reading SheetRead) → ((i : ℕ) → Counted x (f i)) → Counted x (after o (refused 11 n) f)
   unfolding Counted
   after-counted x none f h = refl
   after-counted x (some i) f h = h i
@@ -136,33 +136,33 @@ plus-moves false i j = refl
 
 module _ (limit : ℕ) (old new : Program) (suite : Suite) (l m : Bytes) (ms : List Bytes) (is : isM (sheetForm (fieldsOf l)) ≡ true) where
   -- Reading the lines ls from the line n on, and behind them the line l; and the lines ls alone.
-  abbrev reads : ℕ → ℕ → SheetRead → List Bytes → Answer Sheet
+  abbrev reads : ℕ → ℕ → SheetRead → List Bytes → Reading Sheet
   reads n at s ls = readLines (stepSheet limit old new suite) finishSheet n at s (ls ++ (l ∷ m ∷ ms))
 
-  abbrev alone : ℕ → ℕ → SheetRead → List Bytes → Answer Sheet
+  abbrev alone : ℕ → ℕ → SheetRead → List Bytes → Reading Sheet
   alone n at s ls = readLines (stepSheet limit old new suite) finishSheet n at s (ls ++ ([] ∷ []))
 
   -- The line l is refused with 4, or one of the lines before it is refused, whatever follows.
   abbrev Stops : ℕ → ℕ → SheetRead → List Bytes → Type 0
   Stops n at s ls = (reads n at s ls ≡ refused 4 (n + length ls)) ⊎ ((k p : ℕ) × (reads n at s ls ≡ refused k p) × (alone n at s ls ≡ refused k p) × (n ≤ p) × (p < n + length ls))
 
-  stops-next : (n at : ℕ) (s : SheetRead) (x : Bytes) (ls : List Bytes) (a : Answer SheetRead) → stepSheet limit old new suite n at s x ≡ a → Counted limit old new suite n s (sheetForm (fieldsOf x)) a
+  stops-next : (n at : ℕ) (s : SheetRead) (x : Bytes) (ls : List Bytes) (a : Reading SheetRead) → stepSheet limit old new suite n at s x ≡ a → Counted limit old new suite n s (sheetForm (fieldsOf x)) a
       → length (s .claims .M) + mCount (x ∷ ls) ≡ limit → ((t : SheetRead) → length (t .claims .M) + mCount ls ≡ limit → Stops (suc n) (at + length x + 1) t ls) → Stops n at s (x ∷ ls)
   unfolding Counted mCount then
   stops-next n at s x ls (refused k p) e c h f =
       inr (
         k,
         p,
-        lines-next (stepSheet limit old new suite) finishSheet n at s x l ls (m ∷ ms) ∙ ap (λ (a : Answer SheetRead). then a (λ t. reads (suc n) (at + length x + 1) t ls)) e,
-        lines-next (stepSheet limit old new suite) finishSheet n at s x [] ls [] ∙ ap (λ (a : Answer SheetRead). then a (λ t. alone (suc n) (at + length x + 1) t ls)) e,
+        lines-next (stepSheet limit old new suite) finishSheet n at s x l ls (m ∷ ms) ∙ ap (λ (a : Reading SheetRead). then a (λ t. reads (suc n) (at + length x + 1) t ls)) e,
+        lines-next (stepSheet limit old new suite) finishSheet n at s x [] ls [] ∙ ap (λ (a : Reading SheetRead). then a (λ t. alone (suc n) (at + length x + 1) t ls)) e,
         let z : n ≤ p = omega (arith, c) in z,
         let z : p < n + suc (length ls) = omega (arith, c) in z,
       )
   stops-next n at s x ls (accepted t) e c h f =
       let on : reads n at s (x ∷ ls) ≡ reads (suc n) (at + length x + 1) t ls
-      = lines-next (stepSheet limit old new suite) finishSheet n at s x l ls (m ∷ ms) ∙ ap (λ (a : Answer SheetRead). then a (λ t. reads (suc n) (at + length x + 1) t ls)) e in
+      = lines-next (stepSheet limit old new suite) finishSheet n at s x l ls (m ∷ ms) ∙ ap (λ (a : Reading SheetRead). then a (λ t. reads (suc n) (at + length x + 1) t ls)) e in
       let by : alone n at s (x ∷ ls) ≡ alone (suc n) (at + length x + 1) t ls
-      = lines-next (stepSheet limit old new suite) finishSheet n at s x [] ls [] ∙ ap (λ (a : Answer SheetRead). then a (λ t. alone (suc n) (at + length x + 1) t ls)) e in
+      = lines-next (stepSheet limit old new suite) finishSheet n at s x [] ls [] ∙ ap (λ (a : Reading SheetRead). then a (λ t. alone (suc n) (at + length x + 1) t ls)) e in
       let q : suc n + length ls ≡ n + suc (length ls) = omega arith in
       ⊎-elim (λ r. inl (on ∙ r ∙ ap (refused 4) q))
       (λ r. inr (r .0, r .1, on ∙ r .2, by ∙ r .3, let z : n ≤ r .1 = omega (arith, r .4) in z, let z : r .1 < n + suc (length ls) = omega (arith, r .5) in z))
@@ -172,7 +172,7 @@ module _ (limit : ℕ) (old new : Program) (suite : Suite) (l m : Bytes) (ms : L
   unfolding readLines stepSheet mCount then
   stops [] n at s h =
       let e : n ≡ n + 0 = omega arith in
-      inl (ap (λ (a : Answer SheetRead). then a (λ t. readLines (stepSheet limit old new suite) finishSheet (suc n) (at + length l + 1) t (m ∷ ms))) (above limit old new suite n s (sheetForm (fieldsOf l)) is (omega (arith, h))) ∙ ap (refused 4) e)
+      inl (ap (λ (a : Reading SheetRead). then a (λ t. readLines (stepSheet limit old new suite) finishSheet (suc n) (at + length l + 1) t (m ∷ ms))) (above limit old new suite n s (sheetForm (fieldsOf l)) is (omega (arith, h))) ∙ ap (refused 4) e)
   stops (x ∷ ls) n at s h = stops-next n at s x ls _ refl (line-counted limit old new suite n s (sheetForm (fieldsOf x))) h (λ t k. stops ls (suc n) (at + length x + 1) t k)
 
 -- The check of a sheet that is not too long, by its lines.
@@ -181,19 +181,19 @@ by-lines : (old new tests sheet : Bytes) (g : Given) (ls : List Bytes) → readJ
 unfolding readSheet readText
 by-lines old new tests sheet g ls e short is-lines =
     checked old new tests sheet g e
-    ∙ ap (λ (a : Answer Sheet). outcome a (judged g)) (unless-passes _ _ _ _ (le-ltb _ _ short) ∙ ap (readLines (stepSheet maxPairs (g .old) (g .new) (g .suite)) finishSheet 1 0 noSheet) is-lines)
+    ∙ ap (λ (a : Reading Sheet). outcome a (judged g)) (unless-passes _ _ _ _ (le-ltb _ _ short) ∙ ap (readLines (stepSheet maxPairs (g .old) (g .new) (g .suite)) finishSheet 1 0 noSheet) is-lines)
 
 pub line-above : LineAbove
 unfolding outcome
 line-above old new tests front sheet g e brief short ls l m ms front-lines is-lines many is =
     let read = by-lines old new tests sheet g (ls ++ (l ∷ m ∷ ms)) e short is-lines in
     let one : 1 + length ls ≡ suc (length ls) = omega arith in
-    ⊎-elim (λ r. inl (read ∙ ap (λ (a : Answer Sheet). outcome a (judged g)) (r ∙ ap (refused 4) one)))
+    ⊎-elim (λ r. inl (read ∙ ap (λ (a : Reading Sheet). outcome a (judged g)) (r ∙ ap (refused 4) one)))
     (λ r. inr (
       r .0,
       r .1,
-      read ∙ ap (λ (a : Answer Sheet). outcome a (judged g)) (r .2),
-      by-lines old new tests front g (ls ++ ([] ∷ [])) e brief front-lines ∙ ap (λ (a : Answer Sheet). outcome a (judged g)) (r .3),
+      read ∙ ap (λ (a : Reading Sheet). outcome a (judged g)) (r .2),
+      by-lines old new tests front g (ls ++ ([] ∷ [])) e brief front-lines ∙ ap (λ (a : Reading Sheet). outcome a (judged g)) (r .3),
       r .4,
       let z : r .1 ≤ length ls = omega (arith, r .5) in z,
     ))
@@ -217,7 +217,7 @@ line-missing old new tests g e c o ls ms m is =
     let read : readLines (stepSheet maxPairs (g .old) (g .new) (g .suite)) finishSheet 1 0 noSheet ((ls ++ (m ∷ ms)) ++ ([] ∷ [])) ≡ accepted c
     = subst (λ (x : List Bytes). readLines (stepSheet maxPairs (g .old) (g .new) (g .suite)) finishSheet 1 0 noSheet (x ++ ([] ∷ [])) ≡ accepted c) is (goes-all maxPairs (g .old) (g .new) (g .suite) _ h c o 1 0) in
     let cut : readLines (stepSheet maxPairs (g .old) (g .new) (g .suite)) finishSheet 1 0 noSheet (ls ++ ([] ∷ [])) ≡ refused 11 (suc (length ls)) = go g ls ms m c read in
-    by-lines old new tests (textOf ls) g (ls ++ ([] ∷ [])) e short lines ∙ ap (λ (a : Answer Sheet). outcome a (judged g)) cut
+    by-lines old new tests (textOf ls) g (ls ++ ([] ∷ [])) e short lines ∙ ap (λ (a : Reading Sheet). outcome a (judged g)) cut
   where
     go : (g : Given) (ls ms : List Bytes) (m : Bytes) (c : Sheet) → readLines (stepSheet maxPairs (g .old) (g .new) (g .suite)) finishSheet 1 0 noSheet ((ls ++ (m ∷ ms)) ++ ([] ∷ [])) ≡ accepted c
         → readLines (stepSheet maxPairs (g .old) (g .new) (g .suite)) finishSheet 1 0 noSheet (ls ++ ([] ∷ [])) ≡ refused 11 (suc (length ls))

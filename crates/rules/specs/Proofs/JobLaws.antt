@@ -11,7 +11,7 @@ use borrow.Author.Tests.{eqb-true, eq-eqb, ltb-true, ltb-false}
 use Rattle.laws.specs.Tests.{_and_, isnt, has, after, choose}
 use Rattle.laws.specs.TestLaws.{none-has, one-has, and-left, isnt-true, both-ways, fails, first-at, has-append, below-suc}
 use Rattle.laws.specs.Lists.{choose-yes, snoc-length, snoc-old, snoc-new}
-use Rattle.rules.specs.Text.{Bytes, same, bytes, maxPairs, linesOf, fieldsOf, commas, textOf, isName, isNumber, Answer, refused, accepted, unless}
+use Rattle.rules.specs.Text.{Bytes, same, bytes, maxPairs, linesOf, fieldsOf, commas, textOf, isName, isNumber, Reading, refused, accepted, unless}
 use Rattle.rules.specs.Graph.{Program, WellFormed, edgeCount}
 use Rattle.rules.specs.ProgramFile.{readProgram}
 use Rattle.rules.specs.SuiteFile.{Suite, testCount, testName, coverageAt, readSuite}
@@ -59,7 +59,7 @@ known old new tests g e =
     })
 
 -- Bytes that were written behind a reading.
-pub outcome-wrote : {A : Type 0} (a : Answer A) (f : A → Outcome) (b : Bytes) → outcome a f ≡ wrote b → (x : A) × (a ≡ accepted x) × (f x ≡ wrote b)
+pub outcome-wrote : {A : Type 0} (a : Reading A) (f : A → Outcome) (b : Bytes) → outcome a f ≡ wrote b → (x : A) × (a ≡ accepted x) × (f x ≡ wrote b)
 unfolding outcome
 outcome-wrote (refused k p) f b e = absurd (true≢false (let z : true ≡ false = cc in z))
 outcome-wrote (accepted x) f b e = (x, refl, e)

@@ -13,7 +13,7 @@ use borrow.Author.Tests.{eqb-true, lt-ltb, ltb-false, ltb-true}
 use Rattle.laws.specs.Tests.{_and_, _or_, after, choose, first, has}
 use Rattle.laws.specs.TestLaws.{and-left, and-right, both-ways, or-cases, or-right}
 use Rattle.laws.specs.Lists.{snoc-all, snoc-length}
-use Rattle.rules.specs.Text.{Answer, Bytes, accepted, fieldsOf, linesOf, maxBytes, onto, readLines, readText, refused, split, then, unless}
+use Rattle.rules.specs.Text.{Reading, Bytes, accepted, fieldsOf, linesOf, maxBytes, onto, readLines, readText, refused, split, then, unless}
 use Rattle.rules.specs.Graph.{Program, edgeCount, nodeCount}
 use Rattle.rules.specs.ProgramFile.{Line, Listing, current, edge-line, finishProgram, formOf, lost, malformed, node-line, nothingRead, proc-line, readListing, readProgram, stepProgram, takeLine, takeProc}
 use Rattle.rules.specs.SuiteFile.{Suite, TestLine, TestListing, finishSuite, no-test, noTests, readSuite, readTests, stepSuite, takeTest, test-line, testForm}
@@ -55,7 +55,7 @@ abbrev pub Refusal : List ℕ → ℕ → ℕ → Type 0
 Refusal ks k p = (has ks k ≡ true) × (p < big)
 
 -- An answer that refuses only so; what it accepts has P.
-abbrev pub Good : List ℕ → {A : Type 0} → (A → Type 0) → Answer A → Type 0
+abbrev pub Good : List ℕ → {A : Type 0} → (A → Type 0) → Reading A → Type 0
 Good ks P (refused k p) = Refusal ks k p
 Good ks P (accepted a) = P a
 
@@ -64,30 +64,30 @@ abbrev pub Any : {A : Type 0} → A → Type 0
 Any a = Unit {0}
 
 -- With more numbers.
-more-good : {A : Type 0} (P : A → Type 0) (ks js : List ℕ) (a : Answer A) → allOf (has js) ks ≡ true → Good ks P a → Good js P a
+more-good : {A : Type 0} (P : A → Type 0) (ks js : List ℕ) (a : Reading A) → allOf (has js) ks ≡ true → Good ks P a → Good js P a
 more-good P ks js (refused k p) s h = (passes-of (has js) ks k s (h .0), h .1)
 more-good P ks js (accepted a) s h = h
 
-pub good-number : {A : Type 0} (P : A → Type 0) (ks : List ℕ) (a : Answer A) (k p : ℕ) → Good ks P a → a ≡ refused k p → has ks k ≡ true
+pub good-number : {A : Type 0} (P : A → Type 0) (ks : List ℕ) (a : Reading A) (k p : ℕ) → Good ks P a → a ≡ refused k p → has ks k ≡ true
 good-number P ks (refused j q) k p h e = subst (λ (i : ℕ). has ks i ≡ true) (let z : j ≡ k = cc in z) (h .0)
 good-number P ks (accepted a) k p h e = absurd (true≢false (let z : true ≡ false = cc in z))
 
 module _ {A : Type 0} (ks : List ℕ) (P : A → Type 0) where
-  unless-good : (b : Bool) (k p : ℕ) (a : Answer A) → has ks k ≡ true → p < big → (b ≡ false → Good ks P a) → Good ks P (unless b k p a)
+  unless-good : (b : Bool) (k p : ℕ) (a : Reading A) → has ks k ≡ true → p < big → (b ≡ false → Good ks P a) → Good ks P (unless b k p a)
   unfolding unless
   unless-good true k p a h l n = (h, l)
   unless-good false k p a h l n = n refl
 
-  choose-good : (b : Bool) (x y : Answer A) → Good ks P x → Good ks P y → Good ks P (choose b x y)
+  choose-good : (b : Bool) (x y : Reading A) → Good ks P x → Good ks P y → Good ks P (choose b x y)
   unfolding choose
   choose-good true x y h k = h
   choose-good false x y h k = k
 
-  after-good : (o : Option ℕ) (a : Answer A) (f : ℕ → Answer A) → Good ks P a → ((m : ℕ) → Good ks P (f m)) → Good ks P (after o a f)
+  after-good : (o : Option ℕ) (a : Reading A) (f : ℕ → Reading A) → Good ks P a → ((m : ℕ) → Good ks P (f m)) → Good ks P (after o a f)
   after-good none a f h n = h
   after-good (some m) a f h n = n m
 
-then-good : {A B : Type 0} (ks : List ℕ) (P : A → Type 0) (Q : B → Type 0) (a : Answer A) (f : A → Answer B) → Good ks P a → ((x : A) → P x → Good ks Q (f x)) → Good ks Q (then a f)
+then-good : {A B : Type 0} (ks : List ℕ) (P : A → Type 0) (Q : B → Type 0) (a : Reading A) (f : A → Reading B) → Good ks P a → ((x : A) → P x → Good ks Q (f x)) → Good ks Q (then a f)
 unfolding then
 then-good ks P Q (refused k p) f h n = h
 then-good ks P Q (accepted x) f h n = n x h
@@ -109,7 +109,7 @@ split-length b (x ∷ s) =
 
 -- ---- reading
 
-module _ {S A : Type 0} (ks : List ℕ) (P : S → Type 0) (Q : A → Type 0) (step : ℕ → ℕ → S → Bytes → Answer S) (finish : ℕ → S → Answer A) (two : has ks 2 ≡ true)
+module _ {S A : Type 0} (ks : List ℕ) (P : S → Type 0) (Q : A → Type 0) (step : ℕ → ℕ → S → Bytes → Reading S) (finish : ℕ → S → Reading A) (two : has ks 2 ≡ true)
     (steps : (n at : ℕ) (st : S) (l : Bytes) → n < big → P st → Good ks P (step n at st l)) (ends : (n : ℕ) (st : S) → n < big → P st → Good ks Q (finish n st)) where
   lines-good : (ls : List Bytes) (n at : ℕ) (st : S) → n + length ls < big → P st → Good ks Q (readLines step finish n at st ls)
   unfolding readLines
@@ -126,7 +126,7 @@ module _ {S A : Type 0} (ks : List ℕ) (P : S → Type 0) (Q : A → Type 0) (s
   unfolding readText has _or_
   text-good st text p = unless-good (1 ∷ ks) Q _ _ _ _ refl (omega arith) (λ e. later (readLines step finish 1 0 st (linesOf text)) (short-good st text p e))
     where
-      later : (a : Answer A) → Good ks Q a → Good (1 ∷ ks) Q a
+      later : (a : Reading A) → Good ks Q a → Good (1 ∷ ks) Q a
       later (refused k q) h = (or-right (eqb 1 k) (h .0), h .1)
       later (accepted x) h = h
 
@@ -200,7 +200,7 @@ sheet-line-good limit old new suite n s no-form h = (refl, h)
 -- ---- the texts
 
 -- What reading keeps of a text does not matter to its refusals.
-then-refused : {A B : Type 0} (a : Answer A) (f : A → B) (k p : ℕ) → (then a (λ x. accepted (f x)) ≡ refused k p) ↔ (a ≡ refused k p)
+then-refused : {A B : Type 0} (a : Reading A) (f : A → B) (k p : ℕ) → (then a (λ x. accepted (f x)) ≡ refused k p) ↔ (a ≡ refused k p)
 unfolding then
 then-refused (refused j q) f k p = (λ e. cc, λ e. cc)
 then-refused (accepted x) f k p = (λ e. absurd (true≢false (let z : true ≡ false = cc in z)), λ e. absurd (true≢false (let z : true ≡ false = cc in z)))

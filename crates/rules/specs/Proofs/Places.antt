@@ -9,7 +9,7 @@ use lib.ListN.{length, getD, take, drop, length-append, List·getD-append}
 use lib.Seq.{take-at, drop-at}
 use Rattle.laws.specs.TestLaws.{isnt-false}
 use Rattle.laws.specs.Lists.{snoc-length, snoc-cases, snoc-old, snoc-new}
-use Rattle.rules.specs.Text.{Bytes, bytes, linesOf, fieldsOf, commas, joinBy, textOf, value, Answer, accepted, readLines, readText}
+use Rattle.rules.specs.Text.{Bytes, bytes, linesOf, fieldsOf, commas, joinBy, textOf, value, Reading, accepted, readLines, readText}
 use Rattle.rules.specs.Graph.{Kind, E, S, C, X, Node, Edge, noNode, noEdge, labelAt, nodeCount}
 use Rattle.rules.specs.ProgramFile.{Line, proc-line, node-line, edge-line, malformed, formOf, Listing, nothingRead, current, begun, withProc, withNode, withEdge, takeProc, takeLine, stepProgram, finishProgram, readListing}
 use Rattle.rules.specs.SuiteFile.{TestLine, TestListing, finishSuite, no-test, noTests, readTests, stepSuite, takeTest, test-line, testForm}
@@ -27,7 +27,7 @@ unfolding textOf
 ended-snoc [] l = refl
 ended-snoc (m ∷ ls) l = ap (λ (r : Bytes). m ++ (10 ∷ r)) (ended-snoc ls l) ∙ sym (append-assoc m (10 ∷ textOf ls) (l ++ (10 ∷ [])))
 
-module _ {S A : Type 0} (step : ℕ → ℕ → S → Bytes → Answer S) (finish : ℕ → S → Answer A) (P : List Bytes → S → Type 0)
+module _ {S A : Type 0} (step : ℕ → ℕ → S → Bytes → Reading S) (finish : ℕ → S → Reading A) (P : List Bytes → S → Type 0)
     (keeps : (ls : List Bytes) (st : S) (l : Bytes) (s : S) → P ls st → step (suc (length ls)) (length (textOf ls)) st l ≡ accepted s → P (ls ++ (l ∷ [])) s) where
   -- What each accepted line keeps, holds of all the lines and of what is read at the end.
   lines-placed : (ls pieces : List Bytes) (st : S) (a : A) (n at : ℕ) → n ≡ suc (length ls) → at ≡ length (textOf ls) → P ls st → readLines step finish n at st pieces ≡ accepted a

@@ -13,7 +13,7 @@ use borrow.Author.Tests.{eqb-true, eq-eqb, ne-eqb, ltb-true, ltb-false, leb-true
 use Rattle.laws.specs.Tests.{_and_, _or_, any, first, plus, count, after, choose}
 use Rattle.laws.specs.TestLaws.{and-left, and-right, and-both, implied, isnt-false, true-isnt, both-ways, passes?, fails, every-at, any-at, any-none, first-none, none-below}
 use Rattle.laws.specs.Lists.{snoc-length, snoc-cases, snoc-old, snoc-new, snoc-all, count-agree}
-use Rattle.rules.specs.Text.{Bytes, same, empty, bytes, maxProcs, maxNodes, maxEdges, between, isName, isLabel, isWord, value, fieldsOf, Answer, refused, accepted}
+use Rattle.rules.specs.Text.{Bytes, same, empty, bytes, maxProcs, maxNodes, maxEdges, between, isName, isLabel, isWord, value, fieldsOf, Reading, refused, accepted}
 use Rattle.rules.specs.Graph.{Kind, E, S, C, X, Node, Edge, Program, WellFormed, noNode, noEdge, nodeAt, edgeAt, nameAt, ownerAt, kindAt, labelAt, calleeAt, sourceAt, wordAt, targetAt, procCount, nodeCount, edgeCount, sameKind, isOf, leaves, degree, fewest, most, filled, worded}
 use Rattle.rules.specs.ProgramFile.{Line, proc-line, node-line, edge-line, malformed, kindOf, isNode, isEdge, formOf, Listing, nothingRead, addProc, addNode, addEdge, current, begun, hasEdge, named, isNodeOf, hasWord, degreeFine, complete, lost, closing, takeProc, takeLine, stepProgram, finishProgram, readListing, readProgram}
 use Rattle.rules.specs.Layout.{kindField}
@@ -397,7 +397,7 @@ formed (f ∷ a ∷ b ∷ c ∷ d ∷ ds) = tt
 -- ---- one line
 
 -- What is said of a procedure that is being closed.
-closing-accepted : {A : Type 0} (s : Listing) (a : Answer A) (t : A) → closing s a ≡ accepted t → Complete (s .program) (current (s .program)) × (a ≡ accepted t)
+closing-accepted : {A : Type 0} (s : Listing) (a : Reading A) (t : A) → closing s a ≡ accepted t → Complete (s .program) (current (s .program)) × (a ≡ accepted t)
 closing-accepted s a t e =
     let u = unless-accepted _ _ _ _ _ e in
     (complete-says _ _ (isnt-false _ (u .0)), u .1)
@@ -421,7 +421,7 @@ unfolding _or_
 or-false true b e = absurd (true≢false e)
 or-false false b e = (refl, e)
 
-pub closing-begun : {A : Type 0} (s : Listing) (b : Bool) (a : Answer A) (t : A) → begun (s .program) ≡ b → choose b (closing s a) a ≡ accepted t
+pub closing-begun : {A : Type 0} (s : Listing) (b : Bool) (a : Reading A) (t : A) → begun (s .program) ≡ b → choose b (closing s a) a ≡ accepted t
     → (0 < procCount (s .program) → Complete (s .program) (current (s .program))) × (a ≡ accepted t)
 unfolding choose
 closing-begun s true a t h e =
@@ -478,7 +478,7 @@ pub record Ended (p : Program) : Type 0 where
   pub whole : Complete p (current p)
   pub known : (n : ℕ) → n < nodeCount p → lost p n ≡ false
 
-finished-none : (p : Program) (s t : Listing) (o : Option ℕ) (f : ℕ → Answer Listing) → ((m : ℕ) → f m ≡ accepted t → ⊥) → after o (accepted s) f ≡ accepted t → (o ≡ none) × (s ≡ t)
+finished-none : (p : Program) (s t : Listing) (o : Option ℕ) (f : ℕ → Reading Listing) → ((m : ℕ) → f m ≡ accepted t → ⊥) → after o (accepted s) f ≡ accepted t → (o ≡ none) × (s ≡ t)
 finished-none p s t none f h e = (refl, accepted-same e)
 finished-none p s t (some m) f h e = absurd (h m e)
 

@@ -5,7 +5,7 @@ use Prim.Native.Nat.{ℕ, zero, suc, _<_}
 use native.Mathlib.Omega.{arith}
 use borrow.Author.Tests.{le-ltb, lt-ltb, ne-eqb}
 use Rattle.laws.specs.Lists.{choose-yes, choose-no}
-use Rattle.rules.specs.Text.{Answer, Bytes, maxPairs, then, tooMany}
+use Rattle.rules.specs.Text.{Reading, Bytes, maxPairs, then, tooMany}
 use Rattle.rules.specs.Graph.{Program, nodeCount}
 use Rattle.rules.specs.ProgramFile.{readProgram}
 use Rattle.rules.specs.SuiteFile.{TestListing, testCount}
@@ -18,7 +18,7 @@ pub texts-in-order : (old new tests : Bytes) → TextsRead old new tests
 unfolding readOldAnswer readNewAnswer readTestsAnswer readJob outcome then
 texts-in-order old new tests =
     record {
-      old-refused = λ k p e. (ap (λ (a : Answer Program). outcome a (λ x. success)) e, ap (λ (a : Answer Program). outcome a (λ x. outcome (readProgram new) (λ y. success))) e, simp e);
+      old-refused = λ k p e. (ap (λ (a : Reading Program). outcome a (λ x. success)) e, ap (λ (a : Reading Program). outcome a (λ x. outcome (readProgram new) (λ y. success))) e, simp e);
       new-refused = λ a e k p f. (simp (e, f), simp (e, f));
       tests-refused = λ a b e f k p h. simp (e, f, h);
       old-read = λ a e. simp e;
@@ -30,14 +30,14 @@ texts-in-order old new tests =
 pub texts-first : TextsRefused
 unfolding readTestsAnswer answering outcome
 texts-first old new tests k p e =
-    let at : (f : Given → Outcome) → outcome (readJob old new tests) f ≡ refusal k p = λ f. ap (λ (a : Answer Given). outcome a f) e in
+    let at : (f : Given → Outcome) → outcome (readJob old new tests) f ≡ refusal k p = λ f. ap (λ (a : Reading Given). outcome a f) e in
     record { of-tests = at _; of-request = λ q input room. at _ }
 
 -- ---- a call's own numbers
 
 pub no-test : RecordUnnamed
 unfolding answering serving outcome
-no-test old new tests g e i room l = ap (λ (x : Answer Given). outcome x (λ h. recording maxPairs tooMany h i room)) e ∙ choose-no _ _ (le-ltb i (testCount (g .suite)) l)
+no-test old new tests g e i room l = ap (λ (x : Reading Given). outcome x (λ h. recording maxPairs tooMany h i room)) e ∙ choose-no _ _ (le-ltb i (testCount (g .suite)) l)
 
 no-number : (n a b : ℕ) → 3 < n → requestBy n a b ≡ no-request
 unfolding requestBy
@@ -50,7 +50,7 @@ no-number n a b l =
 pub no-such-request : RequestUnnamed
 unfolding answering serving outcome
 no-such-request old new tests g e n a b input room l =
-    ap (λ (q : Request). answering q old new tests input room) (no-number n a b l) ∙ ap (λ (x : Answer Given). outcome x (λ h. refusal 6 0)) e
+    ap (λ (q : Request). answering q old new tests input room) (no-number n a b l) ∙ ap (λ (x : Reading Given). outcome x (λ h. refusal 6 0)) e
 
 pub labels-answered : (old new : Version) (tests : TestListing) → LabelsAnswered old new tests
 unfolding labelling labelShown bySide hasNode

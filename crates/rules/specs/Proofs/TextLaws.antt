@@ -11,7 +11,7 @@ use lib.ListN.{length, length-append}
 use borrow.Author.Tests.{eqb-true, ltb-false, leb-true, ne-eqb, le-leb, lt-ltb, le-ltb}
 use Rattle.laws.specs.Tests.{isnt}
 use Rattle.laws.specs.TestLaws.{and-left, and-right, and-both, or-cases, isnt-true, isnt-false, true-isnt, eqb-self}
-use Rattle.rules.specs.Text.{Bytes, maxBytes, onto, split, linesOf, joinBy, textOf, between, allBytes, nameByte, labelByte, wordByte, digitByte, isName, isLabel, isWord, isNumber, value, valueFrom, digits, decimal, Answer, refused, accepted, then, unless, readLines, readText, empty, same}
+use Rattle.rules.specs.Text.{Bytes, maxBytes, onto, split, linesOf, joinBy, textOf, between, allBytes, nameByte, labelByte, wordByte, digitByte, isName, isLabel, isWord, isNumber, value, valueFrom, digits, decimal, Reading, refused, accepted, then, unless, readLines, readText, empty, same}
 
 -- ---- equal bytes
 
@@ -46,19 +46,19 @@ empty-not (x ∷ s) h = refl
 -- ---- answers
 
 -- What an accepted answer behind a refusal says.
-pub unless-accepted : {A : Type 0} (b : Bool) (k p : ℕ) (a : Answer A) (s : A) → unless b k p a ≡ accepted s → (b ≡ false) × (a ≡ accepted s)
+pub unless-accepted : {A : Type 0} (b : Bool) (k p : ℕ) (a : Reading A) (s : A) → unless b k p a ≡ accepted s → (b ≡ false) × (a ≡ accepted s)
 unfolding unless
 unless-accepted true k p a s e = absurd (true≢false (let z : true ≡ false = cc in z))
 unless-accepted false k p a s e = (refl, e)
 
 -- What passes behind a refusal.
-pub unless-passes : {A : Type 0} (b : Bool) (k p : ℕ) (a : Answer A) → b ≡ false → unless b k p a ≡ a
+pub unless-passes : {A : Type 0} (b : Bool) (k p : ℕ) (a : Reading A) → b ≡ false → unless b k p a ≡ a
 unfolding unless
 unless-passes true k p a e = absurd (true≢false e)
 unless-passes false k p a e = refl
 
 -- What is refused.
-pub unless-refuses : {A : Type 0} (b : Bool) (k p : ℕ) (a : Answer A) → b ≡ true → unless b k p a ≡ refused k p
+pub unless-refuses : {A : Type 0} (b : Bool) (k p : ℕ) (a : Reading A) → b ≡ true → unless b k p a ≡ refused k p
 unfolding unless
 unless-refuses true k p a e = refl
 unless-refuses false k p a e = absurd (true≢false (sym e))
@@ -66,12 +66,12 @@ unless-refuses false k p a e = absurd (true≢false (sym e))
 pub accepted-same : {A : Type 0} {a b : A} → accepted a ≡ accepted b → a ≡ b
 accepted-same e = cc
 
-pub then-accepted : {A B : Type 0} (a : Answer A) (f : A → Answer B) (b : B) → then a f ≡ accepted b → (x : A) × (a ≡ accepted x) × (f x ≡ accepted b)
+pub then-accepted : {A B : Type 0} (a : Reading A) (f : A → Reading B) (b : B) → then a f ≡ accepted b → (x : A) × (a ≡ accepted x) × (f x ≡ accepted b)
 unfolding then
 then-accepted (refused k p) f b e = absurd (true≢false (let z : true ≡ false = cc in z))
 then-accepted (accepted x) f b e = (x, refl, e)
 
-pub then-passes : {A B : Type 0} {a : Answer A} (f : A → Answer B) {x : A} → a ≡ accepted x → then a f ≡ f x
+pub then-passes : {A B : Type 0} {a : Reading A} (f : A → Reading B) {x : A} → a ≡ accepted x → then a f ≡ f x
 unfolding then
 then-passes f e = rw e
 
@@ -261,7 +261,7 @@ number-free b s l h = allBytes-more digitByte (other b) (λ x k. digit-other b x
 -- ---- reading line by line
 
 -- What each accepted line keeps, of the lines taken so far and what was read of them, holds at the end of an accepted text.
-module _ {S A : Type 0} (step : ℕ → ℕ → S → Bytes → Answer S) (finish : ℕ → S → Answer A) (P : List Bytes → S → Type 0)
+module _ {S A : Type 0} (step : ℕ → ℕ → S → Bytes → Reading S) (finish : ℕ → S → Reading A) (P : List Bytes → S → Type 0)
     (keeps : (n at : ℕ) (ls : List Bytes) (st : S) (l : Bytes) (s : S) → P ls st → step n at st l ≡ accepted s → P (ls ++ (l ∷ [])) s) where
   pub record Finished (pieces : List Bytes) (a : A) : Type 0 where
     pub lines : List Bytes
@@ -291,7 +291,7 @@ module _ {S A : Type 0} (step : ℕ → ℕ → S → Bytes → Answer S) (finis
   text-short text st a e = ltb-false maxBytes (length text) (unless-accepted _ _ _ _ _ e .0)
 
 -- One line before others.
-pub lines-next : {S A : Type 0} (step : ℕ → ℕ → S → Bytes → Answer S) (finish : ℕ → S → Answer A) (n at : ℕ) (st : S) (l m : Bytes) (ls ms : List Bytes)
+pub lines-next : {S A : Type 0} (step : ℕ → ℕ → S → Bytes → Reading S) (finish : ℕ → S → Reading A) (n at : ℕ) (st : S) (l m : Bytes) (ls ms : List Bytes)
     → readLines step finish n at st ((l ∷ ls) ++ (m ∷ ms)) ≡ then (step n at st l) (λ s. readLines step finish (suc n) (at + length l + 1) s (ls ++ (m ∷ ms)))
 unfolding readLines
 lines-next step finish n at st l m [] ms = refl

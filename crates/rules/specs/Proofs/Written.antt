@@ -8,7 +8,7 @@ use lib.ListN.{length}
 use borrow.Author.Tests.{ltb-true, ltb-false, lt-ltb, le-ltb}
 use Rattle.laws.specs.Tests.{choose}
 use Rattle.laws.specs.Lists.{choose-yes, choose-no}
-use Rattle.rules.specs.Text.{Answer, Bytes, maxPairs, tooMany}
+use Rattle.rules.specs.Text.{Reading, Bytes, maxPairs, tooMany}
 use Rattle.rules.specs.SuiteFile.{testCount}
 use Rattle.rules.specs.Closing.{pairs}
 use Rattle.rules.specs.Job.{Given, Outcome, answering, outcome, recordBytes, recording, refusal, serving, sheetBytes, writing, wrote}
@@ -63,6 +63,6 @@ told {g} {room} {b} e w = subst (Writes maxPairs tooMany g room b) (sym e) w
 pub written-exactly : WritesExactly
 unfolding answering serving outcome
 written-exactly old new tests g e room = (
-  told (ap (λ (x : Answer Given). outcome x (λ h. writing maxPairs tooMany h room (sheetBytes h))) e) (writing-exact maxPairs tooMany apart g room (sheetBytes g)),
-  λ i l. told (ap (λ (x : Answer Given). outcome x (λ h. recording maxPairs tooMany h i room)) e ∙ choose-yes _ _ (lt-ltb i (testCount (g .suite)) l)) (writing-exact maxPairs tooMany apart g room (recordBytes g i)),
+  told (ap (λ (x : Reading Given). outcome x (λ h. writing maxPairs tooMany h room (sheetBytes h))) e) (writing-exact maxPairs tooMany apart g room (sheetBytes g)),
+  λ i l. told (ap (λ (x : Reading Given). outcome x (λ h. recording maxPairs tooMany h i room)) e ∙ choose-yes _ _ (lt-ltb i (testCount (g .suite)) l)) (writing-exact maxPairs tooMany apart g room (recordBytes g i)),
 )
