@@ -1,10 +1,8 @@
 #!/usr/bin/env python3
 # walk.py CRATE FN [--print]: writes crates/CRATE/proofs/FN/Proof.antt, the proof of a call that takes records behind references: a walk of straight-line code (no
-# branch, no loop) over `&mut S`, `&[T]`, `&mut [T]`, records and enums by value, and numbers, which copies a record out, calls functions that have no `requires`, stores a record, makes a struct, returns; and over locals
-# that are lent: a record as `&mut S`, the first elements of an array `[S; N]` of records as `&mut [S]` or `&[S]`. Run `rt fmt` after it.
-# tools/walks/CRATE-FN.py is a Python file with:  COMMENT (lines for the top), FINAL (a term for what the `ensures` says), USES (lines `use ..` that FINAL and the callees' clauses need),
-# and optionally NEEDS = { 'parameter': N }, where the function requires `parameter ≤ N` of these, in order.
-# With no FINAL the function has no `ensures`, and what the callees ensure is let go.
+# branch, no loop) over `&mut S`, `&[T]`, `&mut [T]`, records and enums by value, and numbers, which copies a record out, calls functions that have no `requires`, stores a record,
+# makes a struct, returns. Run `rt fmt` after it.
+# tools/walks/CRATE-FN.py is a Python file with:  COMMENT (lines for the top), FINAL (a term for what the `ensures` says), USES (lines `use ..` that FINAL and the callees' clauses need).
 # Names in FINAL: a parameter's name (`_` becomes `-`) is its list, number or record at entry (`tt` is called `tt-text`, since `tt` is taken); of call K (from 1): rK its result, eK what it ensures,
 # NAMEK the list that it left of the `&mut` slice NAME, sameK-NAME that this is as long as before, fieldsK the bounds of a struct result.
 import re, sys, os, subprocess
@@ -18,7 +16,6 @@ sub = lambda n: str(n).translate(SUB)
 ascii_ = lambda s: s.replace('_', '-')
 
 # ---- the source: functions and structs
-quiet = 'FINAL' not in C; few = C.get('NEEDS', {})
 src = {c: open(f'{root}/crates/{c}/src/lib.rt').read() for c in os.listdir(root + '/crates') if os.path.exists(f'{root}/crates/{c}/src/lib.rt')}
 def ty(t):
     t = re.sub(r"&'\w+ ", '&', t.strip())
@@ -120,7 +117,6 @@ def word(x):
     pn = (', '.join(params[z][0] for z in refs if life[z] == int(i)) if k == 't' else params[int(i.strip('#'))][0]) if i.strip('#').isdigit() and k != 'arg' else ''
     if x == L(n-1): return f'_{n-1}; …; _0; …'
     if re.match(r'_\d+$|d\d+$', x): return None
-    if re.search(r':[as]\d+$', x): return {'arr': 'the array', 'new': 'what is lent', 'kept': 'what is kept', 'ν': 'the token of the loan', 'left': 'what is left'}[k] + ' _' + i[1:]
     return {'t': f'the token of {pn}', 'own': pn, 'obs': 'obs', 'bor': 'the borrow', 'cell': "the record's cell", 'jown': 'what it owns', 'obor': 'the open borrow', 'auth': 'auth', 'new': f'{pn}, lent', 'kept': f'what is kept of {pn}', 'ν': 'the token of the call', 'fin': f'{pn}, left', 'left': f'{pn}, left', 'pre': 'what is asked'}.get(k, k)
 def context(): note('[' + '; '.join(y for y in map(word, ctx) if y) + ']')
 def lam(v):
@@ -191,27 +187,12 @@ def assign(s):
         T = params[job][1][1]; m = meaning(r[1]); q = re.sub(r'^fields(?=\d+$)', 'is', m[3])
         w(f'assigns ! (of-opd ! ({operand(r[1])})) (from ! (hop ! (look ! {at(L(job + 1))} refl) (stop !))) (store-raw ! {at("cell")} refl ({typed(T, m[1], paren(q))})) $')
         jobnow, jobis, written = m[1], paren(q), True; return
-    if r[0] == 'repeat':
-        m = meaning(r[1]); T = m[0][1]; n_ = int(r[2]); R = row(S(T)); arr = f'(Array {R} {n_})'; xs, vs = f'(replicate {n_} {m[1]})', f'(arrayVal (replicate {n_} ({m[2]})) ∷ [])'
-        w(f'owned ! {R} (Is {R}) (LL.makes {T}-type.the-type {T}-laws.the-plain 𝓤 H A) {m[1]} _ {m[3]} $')
-        w(f'use1 W (‵ ({arr} .own {xs} {vs})) (array-repeat 𝓤 H A W {R} (LL.copy {T}-type.the-type {T}-laws.the-copy 𝓤 H A W) {n_} {m[1]} ({m[2]})) $')
-        ctx.insert(0, 'aown')
-        w(f'peeks ! {arr} (Is {arr}) (shows 𝓤 H A {arr}) {xs} {vs} {lam(f"all{k}")}')
-        w(f'assigns ! (rep ! {n_} ({operand(r[1])})) {dst} ' + write(k, f'(array-lawful 𝓤 H A W {R} (LL.lawful {laws(T)} 𝓤 H A W) {n_} .typed {xs} {vs} all{k} .0)') + ' $'); live.discard(k)
-        move(L(k), 'aown'); w(f'array-made ! {R} {n_} {xs} {vs[:-6]}) l{sub(k)} {lam(f"els{k}")}')
-        ctx[:2] = [f'arr:a{k}']; arrays[k] = [T, n_, f'els{k}']; return
-    if r[0] == 'addrOf' and place(r[1])[1] == []:
-        q = place(r[1])[0]
-        w(f'assigns ! (addr ! (from ! (stop !))) {dst} {write(k, "(tt, tt)")} $'); value[k] = ('to', q); return
     if r[0] == 'addrOf':
         q, qs = place(r[1])
         w(f'assigns ! (addr ! (from ! (fld ! refl (hop ! (look-in ! {at(L(q))} (sub ! 0 refl (whole !))) (stop !))))) {dst} {write(k, "(tt, tt)")} $')
         value[k] = ('ptr', q - 1); return
     if r[0] == 'aggregate':
         xs = lst(r[1]); ops = ''.join(f'(and-then ! ({operand(x)}) ' for x in xs) + '(no-more !)' + ')' * len(xs)
-        if lty(k)[0] == 'tyStruct' and value[place(xs[0][1])[0]][0] == 'to':
-            m = meaning(xs[1]); w(f'assigns ! (agg ! {ops}) {dst} {write(k, "(tt, (tt, (record { fits = " + m[3] + " }, tt)))")} $')
-            value[k] = ('front', value[place(xs[0][1])[0]][1], m); return
         if lty(k)[0] == 'tyStruct':
             q = place(xs[1][1])[0]; p = params[q - 1][0]
             w(f'assigns ! (agg ! {ops}) {dst} {write(k, "(tt, (tt, (record { fits = room-" + p + " .0 }, tt)))")} $')
@@ -228,8 +209,6 @@ def assign(s):
     t = f'(tt, record {{ fits = {m[3]} }})' if m[0] == 'num' else '(' + typed(m[0][1], m[1], paren(m[3])) + ')'
     w(f'assigns ! (of-opd ! ({operand(r[1])})) {dst} {write(k, t)} $'); value[k] = m
 
-arrays = {}     # local -> its elements' type, their number, the list
-def least(m, n_): return f'{m[1]}-few' if m[1] in few else f'(le-refl {n_})'
 ncall = 0; chosen = []; callees = []
 def call(s, rest):
     global ncall, ctx
@@ -247,14 +226,7 @@ def call(s, rest):
     kinds = []; life2 = {}; pre = []; A_ = []; V_ = []; T_ = {}
     names = []      # parameters of the abbreviation: (name, type)
     for idx, ((p, t), x) in enumerate(zip(g['params'], args)):
-        lent_ = value[place(x[1])[0]] if x[0] == 'copy' and not place(x[1])[1] else ('',)
-        if lent_[0] in ('front', 'to'):
-            q = lent_[1]; life2[idx] = g['life'][idx]; nu, de, at_ = f'ν{K}-{idx}', f'δ{K}-{idx}', f'l{sub(q)}'; names.append((at_, 'ℕ'))
-            if lent_[0] == 'front':
-                fs = f'fs{K}-{idx}'; names.append((fs, f'List {arrays[q][0]}')); kinds.append(('front-' + t[0], f'a{q}', nu, de, lent_[2])); now_ = fs; V_.append(f'sliceVal ({at_}, 0) {lent_[2][1]} ∷ []')
-            else: kinds.append(('record', f's{q}', nu, de)); now_ = value[q][1]; V_.append(f'vptr {at_} 0 ∷ []')
-            names += [(nu, 'ℕ'), (de, 'GName')]; T_[life2[idx]] = (f'{nu} ∷ []', 'fullShare', f'ν:{kinds[-1][1]}'); pre.append(f'new:{kinds[-1][1]}'); A_.append(f'(record {{ ptr = ({at_}, 0); name = {de}; now = {now_} }})')
-        elif t[0] in ('shr', 'mut'):
+        if t[0] in ('shr', 'mut'):
             i = base(place(x[1])[0]); life2[idx] = g['life'][idx]; mine = params[i][1]; pn = params[i][0]
             if cur[i] != pn and (cur[i], f'List {den(mine[1])}') not in names: names.append((cur[i], f'List {den(mine[1])}'))
             if t[0] == 'shr' and mine[0] == 'shr':
@@ -287,17 +259,6 @@ def call(s, rest):
             i = k[1]; move(f'own:{i}', tk(i)); rule = 'lends' if k[0] == 'lend' else 'shares-out'
             w(f'{rule} ! tt {row(params[i][1][1])} (named {life[i]}) (named {life2[idx]}) {kap(i)} {qq(i)} {gg(i)} {bb(i)} {oo(i)} {cur[i]} (length {params[i][0]}) {paren(length_[i])} {lam(k[2] + " " + k[3])}')
             ctx = [f'new:{i}', f'kept:{i}', f'ν:{i}'] + ctx[2:]
-    for idx, k in enumerate(kinds):
-        if k[0] in ('front-mut', 'front-shr'):
-            q = int(k[1][1:]); T, n_, els = arrays[q]; m = k[4]; move(f'arr:{k[1]}')
-            w(f'{"front-lends" if k[0] == "front-mut" else "front-shares"} ! tt {row(T)} tt (named {life2[idx]}) {n_} {m[1]} {least(m, n_)} {els} l{sub(q)} (room-few {m[1]} {least(m, n_)}) ' + lam(f'fs{K}-{idx} rs{K}-{idx} is-front{K}-{idx} sum{K}-{idx} {k[2]} {k[3]}'))
-            ctx = [f'new:{k[1]}', f'kept:{k[1]}', f'ν:{k[1]}'] + ctx[1:]
-        elif k[0] == 'record':
-            q = int(k[1][1:]); v = value[q]; T = v[0][1]
-            w(f'lft-new ! tt {lam(k[2])}'); ctx = [f'ν:{k[1]}'] + ctx
-            move(L(q)); w(f'use1 W (‵ (cellAt fullShare ({row(T)} .mir) ({v[2]} ∷ []) l{sub(q)} 0)) (W .laws .at-raw fullShare {T}-laws.mir l{sub(q)} 0 ({v[2]})) $')
-            w(f'owned ! {row(T)} (Is {row(T)}) (LL.makes {T}-type.the-type {T}-laws.the-plain 𝓤 H A) {v[1]} _ {v[3]} $ move ! (1 ∷ 0 ∷ []) $')
-            w(f'lend-out ! tt {row(T)} (named {life2[idx]}) ({k[2]} ∷ []) {v[1]} ({v[2]} ∷ []) l{sub(q)} 0 {lam(k[3])}'); ctx = [f'new:{k[1]}', f'kept:{k[1]}'] + ctx[1:]
     T_ = [T_[z] for z in sorted(T_)]; toks = [z[2] for z in T_]; move(*toks, *pre)
     ap_ = ' '.join([f'to-{K}'] + [a for a, _ in names]); ap_ = f'({ap_})' if names else ap_
     chosen.append((K, G, names, nest([z[0] for z in T_]), nest([z[1] for z in T_]), nest(A_), nest(V_)))
@@ -309,21 +270,18 @@ def call(s, rest):
     ctx = [f'left:{k[1]}' for _, k in lefts] + ['clause', 'res'] + toks + ctx[1:]
     exitl = {}
     for idx, k in lefts:
-        if k[0] == 'record': exitl[idx] = f'left{K}-{idx}'; w(f'let left{K}-{idx} : {value[int(k[1][1:])][0][1]} = {path("zs" + str(K), idx)} in'); continue
-        if k[0] == 'front-mut': exitl[idx] = f'left{K}-{idx}'; w(f'let left{K}-{idx} : List {arrays[int(k[1][1:])][0]} = {path("zs" + str(K), idx)} in'); continue
         i = k[1]; nm = f'{params[i][0]}{K}'; exitl[idx] = nm
         w(f'let {nm} : List {den(params[i][1][1])} = {path("zs" + str(K), idx)} in')
-    if quiet: move('clause'); w('drop ! $'); ctx = ctx[1:]; g = dict(g, ens=[])
     rv, e = (g['ens'] or [('_', '')])[0][0], (g['ens'] or [('_', '')])[0][1]; e = re.sub(r'\s+', ' ', e)
     for idx, ((p, t), k) in enumerate(zip(g['params'], kinds)):
         u = p.replace('-', '_')
-        if not quiet and t[0] in ('shr', 'mut'):
+        if t[0] in ('shr', 'mut'):
             e = e.replace(f'now ({u} .entry)', f'«{cur[k[1]]}»').replace(f'now ({u} .exit)', f'«{exitl.get(idx, cur[k[1]])}»')
     for idx, ((p, t), k) in enumerate(zip(g['params'], kinds)):
-        if not quiet and k[0] == 'plain': e = re.sub(r'(?<![\w.·«′-])' + p.replace('-', '_') + r'(?![\w·»′-])', '«' + k[1][1] + '»', e)
+        if k[0] == 'plain': e = re.sub(r'(?<![\w.·«′-])' + p.replace('-', '_') + r'(?![\w·»′-])', '«' + k[1][1] + '»', e)
     e = re.sub(r'(?<![\w.·«′-])' + rv + r'(?![\w·»′-])', f'r{K}', e).replace('«', '').replace('»', '')
     e = re.sub(r'\((\w[\w-]*)\)', r'\1', e); e = re.sub(r'now (r\d+)', r'\1 .now', e)
-    if not quiet: move('clause'); w(f'heard ! ({e}) {lam(f"e{K}")}'); ctx = ctx[1:]
+    move('clause'); w(f'heard ! ({e}) {lam(f"e{K}")}'); ctx = ctx[1:]
     R = g['ret']; move('res'); rets[K] = R; keep_res = False
     e_res = ty(R) if R.startswith('&') else None
     if e_res:
@@ -346,18 +304,7 @@ def call(s, rest):
     else: ctx = ctx[1:]
     for idx, k in enumerate(kinds):
         i = k[1] if k[0] != 'plain' else None
-        if k[0] == 'front-mut':
-            q = int(i[1:]); T, n_, els = arrays[q]; move(f'ν:{i}', f'kept:{i}', f'left:{i}'); arrays[q][2] = f'els{q}-{K}'
-            w(f'front-comes ! tt {row(T)} {n_} fs{K}-{idx} rs{K}-{idx} l{sub(q)} sum{K}-{idx} {k[2]} {k[3]} {exitl[idx]} {lam(arrays[q][2])}'); ctx = [f'arr:{i}'] + ctx[3:]
-        elif k[0] == 'front-shr':
-            q = int(i[1:]); T, n_, els = arrays[q]; move(f'ν:{i}', f'kept:{i}'); arrays[q][2] = f'els{q}-{K}'
-            w(f'front-unshares ! tt {row(T)} {n_} fs{K}-{idx} rs{K}-{idx} l{sub(q)} sum{K}-{idx} {k[2]} {lam(arrays[q][2])}'); ctx = [f'arr:{i}'] + ctx[2:]
-        elif k[0] == 'record':
-            q = int(i[1:]); T = value[q][0][1]; h = exitl[idx]; move(f'ν:{i}', f'kept:{i}', f'left:{i}')
-            w(f'lft-end ! tt $ lent-in ! tt {row(T)} {h} l{sub(q)} 0 {lam(f"vs{K}-{idx}")} spelt ! {row(T)} (Is {row(T)}) (shows 𝓤 H A {row(T)}) (LL.vals {laws(T)}) (LL.tells {laws(T)}) fullShare {h} vs{K}-{idx} l{sub(q)} 0 $')
-            w(f'move ! (1 ∷ []) $ peeks ! {row(T)} (Is {row(T)}) (shows 𝓤 H A {row(T)}) {h} ({val(T, h)} ∷ []) {lam(f"is{K}-{idx}")} drop ! $ use1 W (‵ (fat fullShare {T}-laws.mir l{sub(q)} 0 ({val(T, h)}))) (W .laws .raw-at fullShare {T}-laws.mir l{sub(q)} 0 ({val(T, h)})) $')
-            ctx = [L(q)] + ctx[3:]; value[q] = (('val', T), h, val(T, h), f'is{K}-{idx}')
-        elif k[0] == 'lend':
+        if k[0] == 'lend':
             move(f'ν:{i}', f'kept:{i}', f'left:{i}'); new = exitl[idx]; same = f'same{K}-{params[i][0]}'
             w(f'comes ! tt {row(params[i][1][1])} (named {life[i]}) (named {life2[idx]}) {kap(i)} {qq(i)} {gg(i)} {bb(i)} {oo(i)} {cur[i]} (length {params[i][0]}) {paren(length_[i])} room-{params[i][0]} {k[2]} {k[3]} {new} {lam(same)}')
             ctx = [f'own:{i}', tk(i)] + ctx[3:]; length_[i] = same if length_[i] == 'refl' else f'{same} ∙ {length_[i]}'; cur[i] = new
@@ -384,8 +331,6 @@ if job is not None:
         w(f'owned ! {row(T)} (Is {row(T)}) (LL.makes {T}-type.the-type {T}-laws.the-plain 𝓤 H A) {jobnow} _ {jobis} $'); ctx = ['jown'] + ctx
     move('cell', 'jown', 'obor', 'obs', 'auth'); w(f'closes ! tt {row(T)} {jobnow} ({val(T, jobnow)} ∷ []) {bb(job)} {oo(job)} $'); ctx = ['obs', 'bor', tk(job)] + ctx[5:]
 note('the locals are freed')
-for k in arrays:
-    T, n_, els = arrays[k]; move(f'arr:a{k}'); w(f'array-room ! {row(T)} {n_} {els} l{sub(k)} $'); ctx[0] = L(k)
 w(f'returns ! (look ! {at(L(0))} refl) $ ' + ' '.join(f'forget ! {at(L(k))} refl $' for k in reversed(range(n)) if k in live))
 move(*[x for k in range(n) for x in (L(k), f'd{k}')]); w('free-all ! $'); ctx = ctx[2*n:]
 if job is not None:
@@ -405,7 +350,7 @@ for i, (p, t) in enumerate(params):
 keep(*[f't:{l}' for l in lifes], *hold, 'res')
 lastv = nest([jobnow if t[0] == 'ref' else (cur[i] if t[0] == 'mut' else 'tt') for i, (p, t) in enumerate(params)])
 fit = nest([paren(length_[i]) if t[0] == 'mut' else 'tt' for i, (p, t) in enumerate(params)])
-w(f'ends ! f.ended stayed (f.clauses 𝓤 H A mem run) here {res[0]} {res[1]} {lastv} {fit} ({"id⊢ 𝓤 (emp 𝓤)" if quiet else "factI 𝓤 _ (emp 𝓤) (" + C["FINAL"] + ")"})')
+w(f'ends ! f.ended stayed (f.clauses 𝓤 H A mem run) here {res[0]} {res[1]} {lastv} {fit} (factI 𝓤 _ (emp 𝓤) ({C["FINAL"]}))')
 # join pieces into lines
 lines = []; line = ''
 for s in W:
@@ -436,7 +381,7 @@ for i, (p, t) in enumerate(params):
     if t[0] == 'num': vars_ += f' ({p} : ℕ)'
     elif t[0] == 'val': vars_ += f' ({p} : {t[1]})'
     else: vars_ += f' ({bb(i)} {oo(i)} : ℕ) ({gg(i)} : GName) ({p} : {den(t[1]) if t[0] == "ref" else "List " + den(t[1])})'
-facts = ' '.join(f'({p}-fits : {p} < 2 ^ 64)' if t[0] == 'num' else f'({p}-is : Is {row(t[1])} {p} ({val(t[1], p)} ∷ []))' if t[0] == 'val' else f'(room-{p} : Room {row(t[1])} (length {p}))' for p, t in params if t[0] != 'ref') + ''.join(f' ({p}-few : {p} ≤ {m})' for p, m in few.items())
+facts = ' '.join(f'({p}-fits : {p} < 2 ^ 64)' if t[0] == 'num' else f'({p}-is : Is {row(t[1])} {p} ({val(t[1], p)} ∷ []))' if t[0] == 'val' else f'(room-{p} : Room {row(t[1])} (length {p}))' for p, t in params if t[0] != 'ref')
 abbr = ''
 for i, (p, t) in enumerate(params):
     if t[0] == 'shr': abbr += f'    abbrev the-{p} : RefT (List {den(t[1])})\n    the-{p} = record {{ ptr = ({bb(i)}, {oo(i)}); name = {gg(i)}; now = {p} }}\n\n'
@@ -453,9 +398,7 @@ argl = ' '.join(f'({path("κs", l)})' for l in lifes) + ' ' + ' '.join(f'({path(
 for i, (p, t) in enumerate(params):
     x = path('a', i); argl += f' ({x})' if t[0] in ('num', 'val') else f' ({x} .ptr .0) ({x} .ptr .1) ({x} .name) ({x} .now)'
 argl += ' ' + ' '.join(f'({path("are", i)} .1)' if t[0] == 'num' else f'({path("are", i)})' if t[0] == 'val' else f'({path("are", i)} .0 .1)' for i, (p, t) in enumerate(params) if t[0] != 'ref')
-num_of = {p: i for i, (p, t) in enumerate(params)}
-if few: argl += ' ' + ('fits' if len(few) == 1 else ' '.join(f'(fits .{i})' for i in range(len(few))))
-here_ = 'needs 𝓤 (' + ' × '.join(f'({path("a", num_of[p])} ≤ {m})' for p, m in few.items()) + f') _ (λ fits. walk {argl})' if few else f'via 𝓤 _ (fst∗ 𝓤 _ (emp 𝓤)) (walk {argl})'
+here_ = f'via 𝓤 _ (fst∗ 𝓤 _ (emp 𝓤)) (walk {argl})'
 bodytext = f'''
 -- what is had of each parameter at the end
 abbrev stayed : Stays (f.ended .signature .params) (f.ended .kept)
@@ -496,17 +439,12 @@ for l in open(f'{root}/crates/records/specs/Walking/Names.antt'):
     m = re.match(r'(?:unfoldable )?pub use (\S+)\.\{(.*)\}', l)
     if m: named_ += [x for x in m[2].split(', ') if has(x)]
 kit = {'Again': ['lends', 'comes'], 'Share': ['shares-out', 'shares-in'], 'Calls': ['Chosen', 'begins', 'asks', 'answers', 'ends', 'number'], 'Walk': ['tyAt', 'free-all', 'big-lit']}
-more = [('native.Mathlib.Nat', ['le-refl']), ('types.Part', ['rep']), ('types.Tokens', ['lft-new', 'lft-end']), ('denote.Memory', ['cellAt']), ('denote.Array', ['Array', 'arrayVal', 'array-repeat', 'array-lawful']), ('denote.Triple.Walked', ['needs']),
-    (mod(crate, 'proofs') + '.Lending', ['array-made', 'array-room', 'front-lends', 'front-comes', 'front-shares', 'front-unshares', 'lend-out', 'lent-in']), (mod(crate, 'proofs') + '.Rooms', ['room-few'])]
 std = [('mathlib.Core.Path', ['_≡_', 'refl', '_∙_', 'ap', 'subst']), ('Prim.Native.Nat', ['ℕ', '_<_', '_≤_', '_^_']), ('mathlib.Core.List', ['[]', '_∷_', 'List']), ('lib.ListN', ['length', 'replicate', 'take']), ('lib.Seq', ['sets'])]
 uses = []
 for m, ns in std:
     k = [x for x in ns if has(x)]
     if k: uses.append(f'use {m}.{{{", ".join(k)}}}')
 R = 'records'
-for m, ns in more:
-    k = [x for x in ns if has(x)]
-    if k: uses.append(f'use {m}.{{{", ".join(k)}}}')
 uses.append(f'use {mod(R, "specs")}.Walking.Names.{{{", ".join(named_)}}}')
 uses.append('use denote.Struct.Laws as LL') if 'LL.' in text else None
 uses.append('use denote.Enum.Laws as EL') if 'EL.' in text else None

@@ -1,9 +1,7 @@
 -- Refusals of the lent job: 13 wherever the job is at another stage, before anything else is asked; and what is lent is as it was.
 use mathlib.Core.Path.{_≡_, refl, ap, _∙_, subst}
-use mathlib.Core.Bool.{Bool, false}
 use mathlib.Core.List.{List}
 use Prim.Native.Nat.{ℕ}
-use lib.Dec.{eqb}
 use lib.ListN.{length}
 use borrow.Author.Tests.{ne-eqb}
 use Rattle.laws.specs.Tests.{choose}

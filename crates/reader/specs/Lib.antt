@@ -1,3 +1,3 @@
 -- What the reader promises, and what it keeps while it reads.
 pub mod Result
-pub mod InProgress
+pub mod Reading

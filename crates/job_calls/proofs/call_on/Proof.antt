@@ -1,5 +1,5 @@
 use borrow.Author.Needs.{needs}
-use Rattle.job_calls.proofs.Laws.{all, on-called}
+use Rattle.job_calls.proofs.Laws.{on-called}
 use Rattle.job_calls.proofs.call_on.Statement.{statement}
 use Rattle.job_calls.proofs.call_on.Tie as tie
 

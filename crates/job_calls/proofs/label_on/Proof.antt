@@ -1,6 +1,6 @@
 use mathlib.Core.Path.{refl}
 use borrow.Author.Needs.{needs}
-use Rattle.job_calls.proofs.Laws.{all, due-asks, label-goes, label-stop, on-zero, unloads}
+use Rattle.job_calls.proofs.Laws.{due-asks, label-goes, label-stop, on-zero, unloads}
 use Rattle.job_calls.proofs.label_on.Statement.{statement}
 use Rattle.job_calls.proofs.label_on.Tie as tie
 
