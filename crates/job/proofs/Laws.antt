@@ -26,7 +26,7 @@ use Rattle.records.specs.Nodes.{nodesOf}
 use Rattle.lent_job.specs.Held.{jobOld}
 use Rattle.job.specs.declared.Taken.{Taken}
 use Rattle.lent_job.specs.ReadLaws.{none-due, records-are, roomy-parts}
-use Rattle.lent_job.specs.ReadOld.{roomy, freshDue, oldDue, programRead, readAnswer, recordsRead, linksRead, oldJob, LeftBy, ReadOld, pastDue}
+use Rattle.lent_job.specs.ReadOld.{roomy, freshDue, oldDue, programRead, readAnswer, recordsRead, linksRead, oldJob, ProgramLeftBy, ReadOld, pastDue}
 use Rattle.lent_job.specs.Answers.{old-plain}
 use Rattle.job.specs.Taken.{countRead, refusedTaken, withOld, takenOf, TakenBy, OldTaken}
 
@@ -172,7 +172,7 @@ pub ruleset all = (room-first, room-second, room-work, room-all, fresh-yes, fres
 -- ---- reading a program over lent memory
 
 pub left-is : (after : Reading Listing → Job) (a : Reading Listing) (n n′ : List Node) (l l′ w v w′ : List ℕ) (r : Taken) (x : ℕ) → Plain (readAnswer a) → TakenBy after a r l l′ v → n′ ≡ sets n 0 (nodesOf v (r .nodes))
-    → w′ ≡ replicate (length v) 0 → length v ≡ length w → x ≡ packing (r .number) (r .place) → LeftBy after a n l w x (r .job) n′ l′ w′
+    → w′ ≡ replicate (length v) 0 → length v ≡ length w → x ≡ packing (r .number) (r .place) → ProgramLeftBy after a n l w x (r .job) n′ l′ w′
 unfolding takenOf
 left-is after a n n′ l l′ w v w′ r x plain b en ew e ex =
     record {

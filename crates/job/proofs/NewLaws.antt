@@ -136,7 +136,7 @@ module _ (j : Job) (v : Lent) (room : ℕ) (text : Bytes) (l : List ℕ) (work d
 
 pub ruleset new-all = (with-new, new-stage, new-short, new-gone, new-none, new-job, new-room, new-due-taken, new-refused, new-done)
 
--- ---- `read_new`
+-- ---- `ry_job_read_new`
 
 -- The numbers of the first 512 records, put at the front of a table.
 pub front-flat : (ns : List Node) (w : List ℕ) → 2048 ≤ length w → 512 ≤ length ns → oldPart (sets w 0 (flat (take 512 ns))) ≡ flat (take 512 ns)

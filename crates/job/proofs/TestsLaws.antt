@@ -194,7 +194,7 @@ module _ (j : Job) (v v′ : Lent) (text : Bytes) (t w : List ℕ) (work due : �
 
 pub ruleset tests-all = (with-tests, old-gone, new-version-gone, both-none, both-job, tests-stage, tests-long, tests-short, tests-edges, moved-refused, moved-done, tests-refused, tests-taken)
 
--- ---- `read_tests`
+-- ---- `ry_job_read_tests`
 
 module _ (j : Job) (old : Bytes) (ns : List Node) (ol : List ℕ) (new : Bytes) (ms : List Node) (nl w : List ℕ) (a b : ℕ) where
   abbrev both : List ℕ

@@ -38,15 +38,15 @@ use Rattle.lent_job.specs.HeldLaws.{front-left, held-tests-parts, suite-accepte
 use Rattle.records.specs.Shown.{partShown}
 use Rattle.job_calls.specs.declared.Label.{Label}
 use Rattle.lent_job.specs.Calls.{Called, Found, Kept, LentJob, Shown, givenBy, goesBy, holding, labelPartCall, labelSpanCall, lentCall, lentJob, requestScratch, shownBy, spanBy, versionOf}
-use Rattle.job_calls.specs.Loaded.{CalledOn, SpanIs, countsBy, dueCounts, labelBySide, labelOfNode, loadedJob, noLabel, countsDue, unloaded}
+use Rattle.job_calls.specs.Loaded.{CalledOn, SpanIs, countsBy, dueCounts, labelBySide, labelOfNode, loadedJob, noLabel, suiteCounts, unloaded}
 use Rattle.lent_job.specs.DueLaws.{due-cases}
 use Rattle.lent_job.specs.Answers.{labels-few, lent-plain}
 
 -- ---- `suite_due`
 
 module _ (j : Job) (o p : Count) where
-  pub suite-stop : (x : Option TestListing) (t : Read) (r : Counts) → t ≡ readLeft x → (t .number ≡ 0 → ⊥) → r ≡ refusedCounts 14 0 → r ≡ countsDue j o p x
-  unfolding readLeft countsDue
+  pub suite-stop : (x : Option TestListing) (t : Read) (r : Counts) → t ≡ readLeft x → (t .number ≡ 0 → ⊥) → r ≡ refusedCounts 14 0 → r ≡ suiteCounts j o p x
+  unfolding readLeft suiteCounts
   suite-stop none t r e z q = q
   suite-stop (some l) t r e z q = absurd (z (ap (λ (y : Read). y .number) e))
 
@@ -58,14 +58,14 @@ module _ (j : Job) (o p : Count) where
         d ∙ ap (λ (y : Read). sameJob j (record { stage = 3; «old_procs» = o .procs; «old_nodes» = o .nodes; «old_edges» = o .edges; «new_procs» = p .procs; «new_nodes» = p .nodes; «new_edges» = p .edges; tests = y .count })) e
 
     pub suite-goes : (x : Option TestListing) → t ≡ readLeft x → u ≡ true
-        → record { number = 0; place = 0; «old_nodes» = o .nodes; «old_edges» = o .edges; «new_nodes» = p .nodes; «new_edges» = p .edges; tests = t .count } ≡ countsDue j o p x
-    unfolding readLeft countsDue choose countsBy
+        → record { number = 0; place = 0; «old_nodes» = o .nodes; «old_edges» = o .edges; «new_nodes» = p .nodes; «new_edges» = p .edges; tests = t .count } ≡ suiteCounts j o p x
+    unfolding readLeft suiteCounts choose countsBy
     suite-goes none e y = absurd (let v : ⊥ = omega (arith, z, ap (λ (y : Read). y .number) e) in v)
     suite-goes (some l) e y =
         ap (λ (v : Read). countsBy o p (v .count)) e ∙ ap (λ (b : Bool). choose b (countsBy o p (testCount (l .suite))) (refusedCounts 14 0)) (sym y ∙ same-is l e)
 
-    pub suite-other : (x : Option TestListing) (r : Counts) → t ≡ readLeft x → u ≡ false → r ≡ refusedCounts 14 0 → r ≡ countsDue j o p x
-    unfolding readLeft countsDue choose
+    pub suite-other : (x : Option TestListing) (r : Counts) → t ≡ readLeft x → u ≡ false → r ≡ refusedCounts 14 0 → r ≡ suiteCounts j o p x
+    unfolding readLeft suiteCounts choose
     suite-other none r e y q = q
     suite-other (some l) r e y q = q ∙ ap (λ (b : Bool). choose b (countsBy o p (testCount (l .suite))) (refusedCounts 14 0)) (sym y ∙ same-is l e)
 
@@ -130,20 +130,20 @@ module _ (j : Job) (had olds : ℕ) (ot on ol : List ℕ) (news : ℕ) (nt nn nl
 
         module _ (p : Count) (ep : p ≡ countLeft (versionLeft new-lent)) (zp : p .number ≡ 0) where
           module _ (s s′ : Listing) (es : versionLeft old-lent ≡ some s) (es′ : versionLeft new-lent ≡ some s′) where
-            due-by : (x : Option TestListing) → countsDue j (countLeft (some s)) (countLeft (some s′)) x
+            due-by : (x : Option TestListing) → suiteCounts j (countLeft (some s)) (countLeft (some s′)) x
                 ≡ dueCounts (after (after x none (λ l. choose (sameJob j (jobTests s s′ l)) (some (record { old = s; new = s′; tests = l })) none)) (refused 14 0) (λ h. accepted h))
-            unfolding countsDue dueCounts countLeft jobTests countsBy
+            unfolding suiteCounts dueCounts countLeft jobTests countsBy
             due-by none = refl
             due-by (some l) = due-last s s′ l (sameJob j (jobTests s s′ l))
 
-            due-is : (r : Counts) → r ≡ countsDue j o p (suiteLeft (o .edges) tt tests rows) → r ≡ dueCounts (goesBy lent-job)
+            due-is : (r : Counts) → r ≡ suiteCounts j o p (suiteLeft (o .edges) tt tests rows) → r ≡ dueCounts (goesBy lent-job)
             unfolding heldTests countLeft
             due-is r e =
-                e ∙ ap₂ (λ (a b : Count). countsDue j a b (suiteLeft (a .edges) tt tests rows)) (eo ∙ ap countLeft es) (ep ∙ ap countLeft es′)
+                e ∙ ap₂ (λ (a b : Count). suiteCounts j a b (suiteLeft (a .edges) tt tests rows)) (eo ∙ ap countLeft es) (ep ∙ ap countLeft es′)
                 ∙ due-by (suiteLeft (edgeCount (s .program)) tt tests rows)
                 ∙ sym (ap dueCounts (goes-held (after (suiteLeft (edgeCount (s .program)) tt tests rows) none (λ l. choose (sameJob j (jobTests s s′ l)) (some (record { old = s; new = s′; tests = l })) none)) (simp (es, es′))))
 
-          pub due-done : (r : Counts) → r ≡ countsDue j o p (suiteLeft (o .edges) tt tests rows) → r ≡ dueCounts (goesBy lent-job)
+          pub due-done : (r : Counts) → r ≡ suiteCounts j o p (suiteLeft (o .edges) tt tests rows) → r ≡ dueCounts (goesBy lent-job)
           due-done r e =
               let s = some-old (versionLeft old-lent) o eo zo in
               let s′ = some-old (versionLeft new-lent) p ep zp in
@@ -305,7 +305,7 @@ module _ (side olds : ℕ) (on : List ℕ) (news : ℕ) (nn : List ℕ) (n : ℕ
   unfolding labelBySide choose
   side-none z e = simp (ne-eqb _ _ z, ne-eqb _ _ e)
 
--- ---- `label_in`
+-- ---- `label_on`
 
 abbrev spanOf : Label → Span
 spanOf r = record { start = r .start; len = r .len }

@@ -35,9 +35,9 @@ loadedJob j olds ot ol news nt nl text tests rows w =
 unfoldable pub countsBy : Count → Count → ℕ → Counts
 countsBy o p n = record { number = 0; place = 0; «old_nodes» = o .nodes; «old_edges» = o .edges; «new_nodes» = p .nodes; «new_edges» = p .edges; tests = n }
 
-unfoldable pub countsDue : Job → Count → Count → Option TestListing → Counts
-countsDue j o p none = refusedCounts 14 0
-countsDue j o p (some l) = choose (sameJob j (jobAt (stageAfter read-tests) o p (testCount (l .suite)))) (countsBy o p (testCount (l .suite))) (refusedCounts 14 0)
+unfoldable pub suiteCounts : Job → Count → Count → Option TestListing → Counts
+suiteCounts j o p none = refusedCounts 14 0
+suiteCounts j o p (some l) = choose (sameJob j (jobAt (stageAfter read-tests) o p (testCount (l .suite)))) (countsBy o p (testCount (l .suite))) (refusedCounts 14 0)
 
 -- `due`: the refusal, or the counts of what is held.
 unfoldable pub dueCounts : Reading AllRead → Counts
@@ -69,7 +69,7 @@ labelOfNode count nodes n = choose (ltb n count) (record { start = getD nodes (4
 unfoldable pub labelBySide : ℕ → ℕ → List ℕ → ℕ → List ℕ → ℕ → Label
 labelBySide side olds on news nn n = choose (eqb side 0) (labelOfNode olds on n) (choose (eqb side 1) (labelOfNode news nn n) noLabel)
 
--- `label_in`: where the label stands.
+-- `label_on`: where the label stands.
 pub record SpanIs (s : Span) (r : Label) : Type 0 where
   pub start-is : r .start ≡ s .start
   pub len-is : r .len ≡ s .len

@@ -19,14 +19,14 @@ ghost use Rattle.rules.specs.Job.{requestBy};
 ghost use Rattle.requests.specs.Requests.{asked};
 ghost use Rattle.lent_job.specs.Held.{lent, numbers, suiteLeft};
 ghost use Rattle.lent_job.specs.Calls.{Shown, goesBy, labelPartCall, labelSpanCall, lentCall, lentJob};
-ghost use Rattle.job_calls.specs.Loaded.{CalledOn, SpanIs, dueCounts, labelBySide, labelOfNode, loadedJob, countsDue};
+ghost use Rattle.job_calls.specs.Loaded.{CalledOn, SpanIs, dueCounts, labelBySide, labelOfNode, loadedJob, suiteCounts};
 
 // ---- 13 and 14
 
 // The counts, where the tables of the tests and the job are what reading leaves, else 14.
 fn suite_due(job: Job, o: Count, p: Count, tt: &[u8], tests: &[usize], rows: &[u64]) -> Counts
     requires { ⌜ o .edges ≤ 1024 ⌝ }
-    ensures { λ r. ⌜ r ≡ countsDue job o p (suiteLeft (o .edges) (now (tt .entry)) (now (tests .entry)) (now (rows .entry))) ⌝ }
+    ensures { λ r. ⌜ r ≡ suiteCounts job o p (suiteLeft (o .edges) (now (tt .entry)) (now (tests .entry)) (now (rows .entry))) ⌝ }
 {
     let mut names = [0usize; 400];
     let mut words = [0u64; 3200];
@@ -235,7 +235,7 @@ fn label_of(side: usize, olds: usize, on: &[usize], news: usize, nn: &[usize], n
     Label { start: 0, len: 0 }
 }
 
-// Finds a label, by side and node number. The two texts have one lifetime, since a caller shows a part of either.
+// Finds a label, by side and node number. The two texts have one lifetime, since those that `label_shown` hands on do.
 pub fn label_on<'a>(
     job: Job,
     olds: usize,

@@ -7,6 +7,7 @@ use Prim.Native.Nat.{ℕ, zero, suc, _+_, _*_, _/_, _%_, _≤_, _<_}
 use native.Mathlib.Omega.{arith}
 use lib.Dec.{eqb}
 use lib.ListN.{drop, length, length-append, take}
+use lib.Seq.{take-append-seam}
 use borrow.Author.Tests.{eq-eqb, eqb-true, lt-ltb, ltb-true}
 use Rattle.laws.specs.Tests.{after, choose, has}
 use Rattle.laws.specs.Lists.{choose-yes}
@@ -17,10 +18,10 @@ use Rattle.rules.specs.ProgramFile.{Listing, readListing}
 use Rattle.rules.specs.SuiteFile.{coverageAt, readTests, testCount, testName}
 use Rattle.rules.specs.Closing.{repeated}
 use Rattle.rules.specs.Sheet.{crossed, leftOff, vLine}
-use Rattle.rules.specs.Job.{Given, Request, Span, Version, answering, bySide, check-sheet, hasNode, labelAnswer, labelPart, labelShown, labelSpan, nowhere, outcome, packed, packedSpan, passed, readJob, readNewAnswer, readOldAnswer, readTestsAnswer, refusal, serving, show-label, spanShown, success, write-record, write-sheet, wrote}
-use Rattle.rules.specs.Promises.{MarksTrue, Plain, RunsAlike}
+use Rattle.rules.specs.Job.{Given, Request, Span, Version, answering, bySide, check-sheet, hasNode, labelAnswer, labelPart, labelShown, labelSpan, labelling, no-request, nowhere, outcome, packed, packedSpan, passed, readJob, readNewAnswer, readOldAnswer, readTestsAnswer, refusal, requestBy, serving, show-label, spanShown, success, write-record, write-sheet, wrote}
+use Rattle.rules.specs.Promises.{MarksTrue, Plain, RunsAlike, comesWithText, writes}
 use Rattle.rules.specs.Theorems.{answers-plain, demand3, label-shown, program-placed, too-long}
-use Rattle.rules.specs.Proofs.Exported.{zero-passed}
+use Rattle.rules.specs.Proofs.Exported.{written, zero-passed}
 use Rattle.rules.specs.Proofs.JobLaws.{known, outcome-wrote}
 use Rattle.records.specs.declared.Job.{Job}
 use Rattle.lent_job.specs.Held.{AllRead, Lent, heldNew, heldOld}
@@ -165,6 +166,24 @@ labels-few k side n =
     by (suc zero) h o q = span-few (versionOf (k .new) (h .new)) q n _ refl
     by (suc (suc m)) h o q = (omega arith, omega arith)
 
+-- Where the request for a label is refused, it stands nowhere: `ry_job_label` returns 0.
+pub nowhere-refused : (k : LentJob) (side n q p : ℕ) → labelCall k side n ≡ refusal q p → packedSpan (labelSpanCall k side n) ≡ 0
+unfolding lentCall labelSpanCall spanBy serving labelling spanShown bySide packedSpan outcome
+nowhere-refused k side n q p e = go (goesBy k) e
+  where
+    chosen : (u : Bool) (s : Span) → choose u success (refusal 6 0) ≡ refusal q p → packedSpan (choose u s nowhere) ≡ 0
+    chosen true s f = absurd (true≢false (let z : true ≡ false = cc in z))
+    chosen false s f = refl
+
+    by : (m : ℕ) (h : AllRead) → labelling (givenBy h) m n ≡ refusal q p → packedSpan (spanShown (versionOf (k .old) (h .old)) (versionOf (k .new) (h .new)) m n) ≡ 0
+    by zero h f = chosen (hasNode (h .old .program) n) (labelSpan (versionOf (k .old) (h .old)) n) f
+    by (suc zero) h f = chosen (hasNode (h .new .program) n) (labelSpan (versionOf (k .new) (h .new)) n) f
+    by (suc (suc m)) h f = refl
+
+    go : (x : Reading AllRead) → outcome x (λ h. labelling (givenBy h) side n) ≡ refusal q p → packedSpan (spanBy x k side n) ≡ 0
+    go (refused a b) f = refl
+    go (accepted h) f = by side h f
+
 -- ---- number 0 is success, the others are few, and a place fits beside them
 
 due-plain : (n : ℕ) → (n ≡ 0 → ⊥) → n ≤ 14 → Plain (refusal n 0)
@@ -265,14 +284,63 @@ lent-demand3 St Out k =
       marked = λ i room line e. d .marked i room line (call-texts (write-record i) k [] room line e);
     }
 
--- The output of a check is of no matter.
-check-any : (k : LentJob) (sheet : Bytes) (room : ℕ) → lentCall check-sheet k sheet room ≡ checkCall k sheet
-unfolding lentCall serving
-check-any k sheet room = refl
+-- What a call returned below 4,294,967,296, and left in its output.
+call-written : (q : Request) (k : LentJob) (input : Bytes) (r : ℕ) (j j′ : Job) (w w′ out out′ : List ℕ) → Called (lentCall q k input (length out)) r j j′ w w′ out out′ → r < 4294967296
+    → (b : Bytes) × (lentCall q k input (length out) ≡ wrote b) × (r ≡ length b) × (out′ ≡ b ++ drop r out)
+call-written q k input r j j′ w w′ out out′ c l = written _ (lent-plain q k input (length out)) out out′ r (c .answer-is) (c .output-is) l
 
--- By the contract of `ry_job_call`: where a check returns 0, every test with no R line on the sheet goes the same in both versions.
-pub left-off-alike {ℓ κ} : (St : Type ℓ) (Out : Type κ) (k : LentJob) (sheet : Bytes) (r : ℕ) (j j′ : Job) (w w′ out out′ : List ℕ)
-    → Called (lentCall check-sheet k sheet (length out)) r j j′ w w′ out out′ → r ≡ 0
-    → (g : Given) × (readTexts k ≡ accepted g) × ((i : ℕ) → i < testCount (g .suite) → leftOff sheet (testName (g .suite) i) ≡ true → RunsAlike St Out g i)
-left-off-alike St Out k sheet r j j′ w w′ out out′ c z =
-    lent-demand3 St Out k .checker sheet (zero-passed (checkCall k sheet) (lent-plain check-sheet k sheet 0) (sym (c .answer-is ∙ ap packed (check-any k sheet (length out))) ∙ z))
+-- An input that a request does not come with, and an output that it does not write to, are of no matter.
+input-any : (q : Request) (k : LentJob) (input : Bytes) (room : ℕ) → comesWithText q ≡ false → lentCall q k input room ≡ lentCall q k [] room
+unfolding lentCall serving
+input-any write-sheet k input room e = refl
+input-any (write-record i) k input room e = refl
+input-any check-sheet k input room e = absurd (true≢false e)
+input-any (show-label side n) k input room e = refl
+input-any no-request k input room e = refl
+
+output-any : (q : Request) (k : LentJob) (input : Bytes) (room : ℕ) → writes q ≡ false → lentCall q k input room ≡ lentCall q k input 0
+unfolding lentCall serving
+output-any write-sheet k input room e = absurd (true≢false e)
+output-any (write-record i) k input room e = absurd (true≢false e)
+output-any check-sheet k input room e = refl
+output-any (show-label side n) k input room e = refl
+output-any no-request k input room e = refl
+
+module _ {ℓ κ} (St : Type ℓ) (Out : Type κ) (k : LentJob) where
+  -- The same, of the numbers that `ry_job_call` returns and the output that it leaves, by its contract.
+  pub record LentExported : Type (ℓ ⊔ κ) where
+    -- The request 2 returns 0: every test with no R line on the sheet goes the same.
+    pub checker : (a b : ℕ) (sheet : Bytes) (r : ℕ) (j j′ : Job) (w w′ out out′ : List ℕ) → Called (lentCall (requestBy 2 a b) k sheet (length out)) r j j′ w w′ out out′ → r ≡ 0
+        → (g : Given) × (readTexts k ≡ accepted g) × ((i : ℕ) → i < testCount (g .suite) → leftOff sheet (testName (g .suite) i) ≡ true → RunsAlike St Out g i)
+    -- The request 0 returns a number below 4,294,967,296: so many bytes of a sheet stand at the front of the output, and the request 2 passes them.
+    pub passes : (a b : ℕ) (input : Bytes) (r : ℕ) (j j′ : Job) (w w′ out out′ : List ℕ) → Called (lentCall (requestBy 0 a b) k input (length out)) r j j′ w w′ out out′ → r < 4294967296
+        → (sheet : Bytes) × (r ≡ length sheet) × (out′ ≡ sheet ++ drop r out) × ((c d room : ℕ) → packed (lentCall (requestBy 2 c d) k sheet room) ≡ 0)
+    -- A test with no R line among these bytes is left off by the selector: it is not repeated.
+    pub unlisted : (a b : ℕ) (input : Bytes) (r : ℕ) (j j′ : Job) (w w′ out out′ : List ℕ) → Called (lentCall (requestBy 0 a b) k input (length out)) r j j′ w w′ out out′ → r < 4294967296
+        → (g : Given) → readTexts k ≡ accepted g → (i : ℕ) → leftOff (take r out′) (testName (g .suite) i) ≡ true → has (repeated (g .old) (g .new) (g .suite .coverages)) i ≡ false
+    -- The request 1 for the test i returns one below it: so many bytes of a record line, whose marks are true if the selector leaves the test off.
+    pub marked : (i b : ℕ) (input : Bytes) (r : ℕ) (j j′ : Job) (w w′ out out′ : List ℕ) → Called (lentCall (requestBy 1 i b) k input (length out)) r j j′ w w′ out out′ → r < 4294967296
+        → (g : Given) × (readTexts k ≡ accepted g) × (marks : Bytes) × (length marks ≡ edgeCount (g .new))
+        × (out′ ≡ textOf (vLine (testName (g .suite) i) (crossed (g .old) (coverageAt (g .suite) i)) marks ∷ []) ++ drop r out)
+        × (has (repeated (g .old) (g .new) (g .suite .coverages)) i ≡ false → MarksTrue St Out g i marks)
+
+pub lent-exported {ℓ κ} : (St : Type ℓ) (Out : Type κ) (k : LentJob) → LentExported St Out k
+unfolding requestBy choose packed
+lent-exported St Out k =
+    let d = lent-demand3 St Out k in
+    record {
+      checker = λ a b sheet r j j′ w w′ out out′ c z.
+          d .checker sheet (zero-passed (checkCall k sheet) (lent-plain check-sheet k sheet 0) (sym (c .answer-is ∙ ap packed (output-any check-sheet k sheet (length out) refl)) ∙ z));
+      passes = λ a b input r j j′ w w′ out out′ c l.
+          let u = call-written write-sheet k input r j j′ w w′ out out′ c l in
+          let p = d .passes (length out) (u .0) (sym (input-any write-sheet k input (length out) refl) ∙ u .1) in
+          (u .0, u .2, u .3, λ e f room. ap packed (output-any check-sheet k (u .0) room refl ∙ p .0));
+      unlisted = λ a b input r j j′ w w′ out out′ c l g e i h.
+          let u = call-written write-sheet k input r j j′ w w′ out out′ c l in
+          let f : take r out′ ≡ u .0 = ap₂ (λ (n : ℕ) (x : Bytes). take n x) (u .2) (u .3) ∙ take-append-seam (u .0) (drop r out) in
+          d .unlisted (length out) (u .0) (sym (input-any write-sheet k input (length out) refl) ∙ u .1) g e i (subst (λ (x : Bytes). leftOff x (testName (g .suite) i) ≡ true) f h);
+      marked = λ i b input r j j′ w w′ out out′ c l.
+          let u = call-written (write-record i) k input r j j′ w w′ out out′ c l in
+          let m = d .marked i (length out) (u .0) (sym (input-any (write-record i) k input (length out) refl) ∙ u .1) in
+          (m .0, m .1, m .2, m .3, u .3 ∙ ap (λ (x : Bytes). x ++ drop r out) (m .4), m .5);
+    }

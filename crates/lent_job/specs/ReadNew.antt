@@ -10,7 +10,7 @@ use Rattle.reader.specs.declared.Count.{Count}
 use Rattle.records.specs.declared.Job.{Job}
 use Rattle.records.specs.declared.Node.{Node}
 use Rattle.lent_job.specs.Held.{Lent, counted, heldOld, jobAt}
-use Rattle.lent_job.specs.ReadOld.{roomy, programRead, LeftBy}
+use Rattle.lent_job.specs.ReadOld.{roomy, programRead, ProgramLeftBy}
 
 -- 14 where the old version v and the job are not what reading the old text leaves, else 0.
 unfoldable pub oldHeldDue : Job → Lent → ℕ
@@ -39,4 +39,4 @@ newJob j (accepted s) = withNew j (counted s)
 
 -- `ry_job_read_new`, with the old version v.
 pub record ReadNew (j : Job) (v : Lent) (text : Bytes) (n : List Node) (l w : List ℕ) (r : ℕ) (j′ : Job) (n′ : List Node) (l′ w′ : List ℕ) : Type 0 where
-  pub left : LeftBy (newJob j) (newRead j v (length n) (length l) (length w) text) n l w r j′ n′ l′ w′
+  pub left : ProgramLeftBy (newJob j) (newRead j v (length n) (length l) (length w) text) n l w r j′ n′ l′ w′

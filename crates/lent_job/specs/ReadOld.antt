@@ -73,7 +73,7 @@ oldJob j (accepted s) = jobOld s
 -- ---- the contract
 
 -- Reading a program over lent memory: the answer in one number, the job, the nodes and the links; records and entries beyond the counts stay, and the scratch is zero.
-pub record LeftBy (after : Reading Listing → Job) (a : Reading Listing) (n : List Node) (l w : List ℕ) (r : ℕ) (j′ : Job) (n′ : List Node) (l′ w′ : List ℕ) : Type 0 where
+pub record ProgramLeftBy (after : Reading Listing → Job) (a : Reading Listing) (n : List Node) (l w : List ℕ) (r : ℕ) (j′ : Job) (n′ : List Node) (l′ w′ : List ℕ) : Type 0 where
   pub answer-is : r ≡ packed (readAnswer a)
   pub job-is : j′ ≡ after a
   pub nodes-are : n′ ≡ sets n 0 (recordsRead a)
@@ -82,4 +82,4 @@ pub record LeftBy (after : Reading Listing → Job) (a : Reading Listing) (n : L
 
 -- `ry_job_read_old`
 pub record ReadOld (j : Job) (text : Bytes) (n : List Node) (l w : List ℕ) (r : ℕ) (j′ : Job) (n′ : List Node) (l′ w′ : List ℕ) : Type 0 where
-  pub left : LeftBy (oldJob j) (oldRead j (length n) (length l) (length w) text) n l w r j′ n′ l′ w′
+  pub left : ProgramLeftBy (oldJob j) (oldRead j (length n) (length l) (length w) text) n l w r j′ n′ l′ w′

@@ -1,9 +1,13 @@
--- Refusals of the lent job: 13 wherever the job is at another stage, before anything else is asked; and what is lent is as it was.
+-- Refusals of the lent job: 13 wherever the job is at another stage, before anything else is asked; then 14 wherever what is lent is too short or not what reading leaves, before the
+-- text of the call is looked at; and what is lent is as it was.
 use mathlib.Core.Path.{_≡_, refl, ap, _∙_, subst}
+use mathlib.Core.Bool.{Bool, true, false}
 use mathlib.Core.List.{List}
-use Prim.Native.Nat.{ℕ}
+use mathlib.Core.Option.{none}
+use Prim.Native.Nat.{ℕ, _<_}
+use lib.Dec.{leb}
 use lib.ListN.{length}
-use borrow.Author.Tests.{ne-eqb}
+use borrow.Author.Tests.{eq-eqb, lt-leb, ne-eqb}
 use Rattle.laws.specs.Tests.{choose}
 use Rattle.rules.specs.Text.{Reading, Bytes, refused}
 use Rattle.rules.specs.ProgramFile.{Listing}
@@ -11,11 +15,12 @@ use Rattle.rules.specs.SuiteFile.{TestListing}
 use Rattle.rules.specs.Job.{Outcome, Request, ofStage, outcome, outputAfter, refusal}
 use Rattle.records.specs.declared.Job.{Job}
 use Rattle.records.specs.declared.Node.{Node}
-use Rattle.lent_job.specs.Held.{Lent}
-use Rattle.lent_job.specs.ReadOld.{LeftBy, ReadOld, linksRead, oldDue, oldJob, oldRead, pastDue, recordsRead}
-use Rattle.lent_job.specs.ReadNew.{ReadNew, newDue, newJob, newRead}
-use Rattle.lent_job.specs.ReadTests.{ReadTests, TestsLeftBy, namesLeft, rowsLeft, testsDue, testsJob, testsRead}
-use Rattle.lent_job.specs.Calls.{Called, LentJob, goesBy, lentCall}
+use Rattle.records.specs.Jobs.{fresh, sameJob}
+use Rattle.lent_job.specs.Held.{Lent, heldNew, heldOld}
+use Rattle.lent_job.specs.ReadOld.{ProgramLeftBy, ReadOld, freshDue, linksRead, oldDue, oldJob, oldRead, pastDue, recordsRead, roomy}
+use Rattle.lent_job.specs.ReadNew.{ReadNew, newDue, newJob, newRead, oldHeldDue}
+use Rattle.lent_job.specs.ReadTests.{ReadTests, TestsLeftBy, bothDue, namesLeft, rowsLeft, testsDue, testsJob, testsRead}
+use Rattle.lent_job.specs.Calls.{Called, LentJob, goesBy, holding, lentCall}
 
 -- ---- 13
 
@@ -36,11 +41,64 @@ pub stage-request : (q : Request) (k : LentJob) (input : Bytes) (room : ℕ) →
 unfolding lentCall goesBy ofStage outcome choose
 stage-request q k input room h = simp (ne-eqb (k .job .stage) 3 h)
 
+-- ---- 14, at the right stage
+
+module _ (j : Job) (v v′ : Lent) (n l w : ℕ) (text : Bytes) where
+  -- Too short.
+  pub short-old : j .stage ≡ 0 → roomy 512 6080 n l w ≡ false → oldRead j n l w text ≡ refused 14 0
+  unfolding oldDue pastDue ofStage choose
+  short-old s h = simp (eq-eqb (j .stage) 0 s, h)
+
+  pub short-new : j .stage ≡ 1 → roomy 512 6080 n l w ≡ false → newRead j v n l w text ≡ refused 14 0
+  unfolding newDue pastDue ofStage choose
+  short-new s h = simp (eq-eqb (j .stage) 1 s, h)
+
+  pub short-tests : j .stage ≡ 2 → roomy 400 3200 n l w ≡ false → testsRead j v v′ n l w text ≡ refused 14 0
+  unfolding testsDue pastDue ofStage choose
+  short-tests s h = simp (eq-eqb (j .stage) 2 s, h)
+
+  -- Not what reading leaves.
+  pub job-spoilt : j .stage ≡ 0 → sameJob j fresh ≡ false → oldRead j n l w text ≡ refused 14 0
+  unfolding oldDue freshDue pastDue ofStage choose
+  job-spoilt s h = either (roomy 512 6080 n l w) refl
+    where
+      either : (u : Bool) → roomy 512 6080 n l w ≡ u → oldRead j n l w text ≡ refused 14 0
+      either true e = simp (eq-eqb (j .stage) 0 s, e, h)
+      either false e = simp (eq-eqb (j .stage) 0 s, e)
+
+  pub old-spoilt : j .stage ≡ 1 → heldOld j v ≡ none → newRead j v n l w text ≡ refused 14 0
+  unfolding newDue oldHeldDue pastDue ofStage choose
+  old-spoilt s h = either (roomy 512 6080 n l w) refl
+    where
+      either : (u : Bool) → roomy 512 6080 n l w ≡ u → newRead j v n l w text ≡ refused 14 0
+      either true e = simp (eq-eqb (j .stage) 1 s, e, h)
+      either false e = simp (eq-eqb (j .stage) 1 s, e)
+
+  pub both-spoilt : j .stage ≡ 2 → heldNew j v v′ ≡ none → testsRead j v v′ n l w text ≡ refused 14 0
+  unfolding testsDue bothDue pastDue ofStage choose
+  both-spoilt s h = either (roomy 400 3200 n l w) refl
+    where
+      either : (u : Bool) → roomy 400 3200 n l w ≡ u → testsRead j v v′ n l w text ≡ refused 14 0
+      either true e = simp (eq-eqb (j .stage) 2 s, e, h)
+      either false e = simp (eq-eqb (j .stage) 2 s, e)
+
+pub short-request : (q : Request) (k : LentJob) (input : Bytes) (room : ℕ) → k .job .stage ≡ 3 → k .scratch < 16912 → lentCall q k input room ≡ refusal 14 0
+unfolding lentCall goesBy ofStage outcome choose
+short-request q k input room s h = simp (eq-eqb (k .job .stage) 3 s, lt-leb 16912 (k .scratch) h)
+
+pub tables-spoilt : (q : Request) (k : LentJob) (input : Bytes) (room : ℕ) → k .job .stage ≡ 3 → holding k ≡ none → lentCall q k input room ≡ refusal 14 0
+unfolding lentCall goesBy ofStage outcome choose
+tables-spoilt q k input room s h = either (leb 16912 (k .scratch)) refl
+  where
+    either : (u : Bool) → leb 16912 (k .scratch) ≡ u → lentCall q k input room ≡ refusal 14 0
+    either true e = simp (eq-eqb (k .job .stage) 3 s, e, h)
+    either false e = simp (eq-eqb (k .job .stage) 3 s, e)
+
 -- ---- what is lent
 
 -- A program is refused: the job, the nodes and the links are as they were.
 module _ (after : Reading Listing → Job) (k p : ℕ) (n : List Node) (l w : List ℕ) (r : ℕ) (j′ : Job) (n′ : List Node) (l′ w′ : List ℕ) where
-  kept-by : (j : Job) → after (refused k p) ≡ j → LeftBy after (refused k p) n l w r j′ n′ l′ w′ → (j′ ≡ j) × (n′ ≡ n) × (l′ ≡ l)
+  kept-by : (j : Job) → after (refused k p) ≡ j → ProgramLeftBy after (refused k p) n l w r j′ n′ l′ w′ → (j′ ≡ j) × (n′ ≡ n) × (l′ ≡ l)
   unfolding recordsRead linksRead
   kept-by j s h = (h .job-is ∙ s, h .nodes-are, h .links-are)
 
@@ -48,13 +106,13 @@ pub old-refused : (j : Job) (text : Bytes) (n : List Node) (l w : List ℕ) (r :
     → (k p : ℕ) → oldRead j (length n) (length l) (length w) text ≡ refused k p → (j′ ≡ j) × (n′ ≡ n) × (l′ ≡ l)
 unfolding oldJob
 old-refused j text n l w r j′ n′ l′ w′ h k p e =
-    kept-by (oldJob j) k p n l w r j′ n′ l′ w′ j refl (subst (λ (a : Reading Listing). LeftBy (oldJob j) a n l w r j′ n′ l′ w′) e (h .left))
+    kept-by (oldJob j) k p n l w r j′ n′ l′ w′ j refl (subst (λ (a : Reading Listing). ProgramLeftBy (oldJob j) a n l w r j′ n′ l′ w′) e (h .left))
 
 pub new-refused : (j : Job) (v : Lent) (text : Bytes) (n : List Node) (l w : List ℕ) (r : ℕ) (j′ : Job) (n′ : List Node) (l′ w′ : List ℕ) → ReadNew j v text n l w r j′ n′ l′ w′
     → (k p : ℕ) → newRead j v (length n) (length l) (length w) text ≡ refused k p → (j′ ≡ j) × (n′ ≡ n) × (l′ ≡ l)
 unfolding newJob
 new-refused j v text n l w r j′ n′ l′ w′ h k p e =
-    kept-by (newJob j) k p n l w r j′ n′ l′ w′ j refl (subst (λ (a : Reading Listing). LeftBy (newJob j) a n l w r j′ n′ l′ w′) e (h .left))
+    kept-by (newJob j) k p n l w r j′ n′ l′ w′ j refl (subst (λ (a : Reading Listing). ProgramLeftBy (newJob j) a n l w r j′ n′ l′ w′) e (h .left))
 
 -- The tests are refused: the job and the tables are as they were.
 pub tests-refused : (j : Job) (v v′ : Lent) (text : Bytes) (t w s : List ℕ) (r : ℕ) (j′ : Job) (t′ w′ s′ : List ℕ) → ReadTests j v v′ text t w s r j′ t′ w′ s′

@@ -31,7 +31,7 @@ use Rattle.records.specs.Jobs.{sameJob, job-self}
 use Rattle.records.specs.Nodes.{flat}
 use Rattle.lent_job.specs.Held.{Lent, Versions, lent, longEnough, leftBy, versionLeft, testsLong, testsBy as suiteBy, suiteLeft, jobOld, jobNew, jobTests, heldOld, heldNew, heldTests}
 use Rattle.lent_job.specs.HeldLaws.{procsOf, edgesOf, headsOf, sound-of, held-old-parts, held-new-parts}
-use Rattle.lent_job.specs.ReadOld.{roomy, freshDue, oldDue, oldRead, readAnswer, nodeRecords, recordsRead, linksRead, oldJob, LeftBy, ReadOld, pastDue}
+use Rattle.lent_job.specs.ReadOld.{roomy, freshDue, oldDue, oldRead, readAnswer, nodeRecords, recordsRead, linksRead, oldJob, ProgramLeftBy, ReadOld, pastDue}
 use Rattle.lent_job.specs.ReadLaws.{none-due, records-after, roomy-parts}
 use Rattle.lent_job.specs.ReadNew.{oldHeldDue, newDue, newRead, newJob, withNew, ReadNew}
 use Rattle.lent_job.specs.ReadTests.{bothDue, testsDue, testsRead, withTests, testsJob, namesLeft, rowsLeft, TestsLeftBy, ReadTests}
@@ -142,7 +142,7 @@ module _ (j : Job) (text : Bytes) (n : List Node) (l w : List ℕ) (r : ℕ) (j�
   pub old-held : heldOld j′ (lent text n′ l′) ≡ some s
   unfolding recordsRead linksRead
   old-held =
-      let b : LeftBy (oldJob j) (accepted s) n l w r j′ n′ l′ w′ = subst (λ (a : Reading Listing). LeftBy (oldJob j) a n l w r j′ n′ l′ w′) e (h .left) in
+      let b : ProgramLeftBy (oldJob j) (accepted s) n l w r j′ n′ l′ w′ = subst (λ (a : Reading Listing). ProgramLeftBy (oldJob j) a n l w r j′ n′ l′ w′) e (h .left) in
       ap (λ (k : Job). heldOld k (lent text n′ l′)) (b .job-is ∙ job-old j s)
       ∙ ap₂ (λ (x : List Node) (y : List ℕ). heldOld (jobOld s) (lent text x y)) (b .nodes-are) (b .links-are)
       ∙ held-by _ (version-again text s (due-none _ _ s e .1) n l (read-old-due .0) (read-old-due .1))
@@ -170,7 +170,7 @@ module _ (j : Job) (v : Lent) (text : Bytes) (n : List Node) (l w : List ℕ) (r
   pub new-held : heldNew j′ v (lent text n′ l′) ≡ some (record { old = o; new = p })
   unfolding recordsRead linksRead
   new-held =
-      let b : LeftBy (newJob j) (accepted p) n l w r j′ n′ l′ w′ = subst (λ (a : Reading Listing). LeftBy (newJob j) a n l w r j′ n′ l′ w′) e (h .left) in
+      let b : ProgramLeftBy (newJob j) (accepted p) n l w r j′ n′ l′ w′ = subst (λ (a : Reading Listing). ProgramLeftBy (newJob j) a n l w r j′ n′ l′ w′) e (h .left) in
       let parts : (versionLeft v ≡ some o) × (j ≡ jobOld o) = held-old-parts j v o held in
       ap (λ (k : Job). heldNew k v (lent text n′ l′)) (b .job-is ∙ job-new j o p (parts .1))
       ∙ ap₂ (λ (x : List Node) (y : List ℕ). heldNew (jobNew o p) v (lent text x y)) (b .nodes-are) (b .links-are)

@@ -14,13 +14,8 @@ ghost use Rattle.rules.specs.Job.{requestBy};
 ghost use Rattle.checker.specs.Checking.{Checks};
 ghost use Rattle.requests.specs.Requests.{LabelTold, Served, asked, nodesOn};
 
-// The limit on pairs, and the number of the refusal where more exist.
-const MAX_PAIRS: usize = 4096;
-
-const TOO_MANY: usize = 15;
-
 // What is asked: the sheet; the record line of a test; the check of the sheet that the request comes with; the label of a node, by side and
-// node number; nothing that there is.
+// node number; no request that there is.
 pub enum Request {
     Sheet,
     Record(usize),
@@ -96,8 +91,8 @@ fn sheet(
     ensures { λ r. ⌜ Done (now (w .entry)) (now (w .exit)) (now (out .entry)) (now (out .exit)) (SheetDone maxPairs tooMany (memory (now (ot .entry)) (now (on .entry)) (now (ol .entry))) (memory (now (nt .entry)) (now (nn .entry)) (now (nl .entry))) (now (tt .entry)) (now (tests .entry)) (now (rows .entry)) had (now (w .entry)) (now (out .entry)) r (now (out .exit))) ⌝ }
 {
     work::write_sheet(
-        MAX_PAIRS,
-        TOO_MANY,
+        work::MAX_PAIRS,
+        work::TOO_MANY,
         ot,
         on,
         ol,
@@ -133,8 +128,8 @@ fn record(
     ensures { λ r. ⌜ Done (now (w .entry)) (now (w .exit)) (now (out .entry)) (now (out .exit)) (RecordDone maxPairs tooMany (memory (now (ot .entry)) (now (on .entry)) (now (ol .entry))) (memory (now (nt .entry)) (now (nn .entry)) (now (nl .entry))) (now (tt .entry)) (now (tests .entry)) (now (rows .entry)) had test (now (w .entry)) (now (out .entry)) r (now (out .exit))) ⌝ }
 {
     work::write_record(
-        MAX_PAIRS,
-        TOO_MANY,
+        work::MAX_PAIRS,
+        work::TOO_MANY,
         ot,
         on,
         ol,
@@ -176,7 +171,7 @@ fn check(
     let n = had.tests;
     let mut sets = [0u64; 20];
     checker::check_sheet(
-        MAX_PAIRS,
+        work::MAX_PAIRS,
         ot,
         on,
         ol,

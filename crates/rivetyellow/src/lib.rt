@@ -1,7 +1,7 @@
-// The calls for host programs in C. They return number * 4,294,967,296 + place: the number is 0 for success, and the place is then how many
-// bytes were written. Those of the first part take texts, numbers and an output and run a whole job in their own frames. Those of the second
-// part are the calls of a lent job: they work over a job record, nodes, tables and scratch that the caller lends. They answer for every text,
-// number and lent memory.
+// The calls for host programs in C. They return number * 4,294,967,296 + place, where nothing else is said: the number is 0 for success, and the
+// place is then how many bytes were written. Those of the first part take texts, numbers and an output and run a whole job in their own frames.
+// Those of the second part are the calls of a lent job: they work over a job record, nodes, tables and scratch that the caller lends. They answer
+// for every text, number and lent memory; a refusal leaves the output as it was.
 use answer::Answer;
 use answer::pack;
 use records::Job;

@@ -16,7 +16,7 @@ use Rattle.rules.specs.Check.{broken}
 
 -- ---- stages
 
--- What is asked of a job that has read its tests: write the sheet; write the record line of the test i; check a sheet; show the label of the node n of a side; or nothing that there is.
+-- What is asked of a job that has read its tests: write the sheet; write the record line of the test i; check a sheet; show the label of the node n of a side; no request that there is.
 pub data Request : Type 0 where
   write-sheet : Request
   write-record : ℕ → Request
@@ -69,7 +69,7 @@ abbrev pub placeOf : Outcome → ℕ
 placeOf (wrote b) = length b
 placeOf (refusal k p) = p
 
--- The answer of a whole-job call in one number.
+-- The answer of a call in one number.
 unfoldable pub packed : Outcome → ℕ
 packed o = numberOf o * 4294967296 + placeOf o
 

@@ -17,7 +17,7 @@ use Rattle.rules.specs.Run.{Config, Meaning, ended, run, start, trail}
 use Rattle.rules.specs.Closing.{Counterparts, Coverage, Dangerous, Pair, alike, dangers, fits, holds, joined, pairs, repeated}
 use Rattle.rules.specs.Sheet.{Sheet, SheetLine, crossed, d-line, end-line, head-line, leftOff, m-line, no-form, r-line, rLine, sheetForm, sheetLines, sheetText, vLine}
 use Rattle.rules.specs.Check.{rule1, rule2, rule3, rule4, rule5}
-use Rattle.rules.specs.Job.{Given, Outcome, Request, Version, answering, check-sheet, checkAnswer, givenOf, labelPart, labelShown, labelling, lastNumber, no-request, numberOf, outputAfter, packed, passed, placeOf, readJob, readNewAnswer, readOldAnswer, readTestsAnswer, recordAnswer, recordBytes, refusal, requestBy, sheetAnswer, sheetBytes, show-label, success, write-record, write-sheet, wrote}
+use Rattle.rules.specs.Job.{Given, Outcome, Request, Version, answering, check-sheet, checkAnswer, givenOf, labelPart, labelShown, labelSpan, lastNumber, no-request, numberOf, outputAfter, packed, packedSpan, passed, placeOf, readJob, readNewAnswer, readOldAnswer, readTestsAnswer, recordAnswer, recordBytes, refusal, requestBy, serving, sheetAnswer, sheetBytes, show-label, spanShown, success, write-record, write-sheet, wrote}
 use Rattle.rules.specs.Layout.{Follows, SheetFollows, SuiteFollows, writeProgram, writeSuite}
 use Rattle.rules.specs.Places.{Placed, TestsPlaced}
 
@@ -45,19 +45,19 @@ abbrev pub Unpacks : Type 0
 Unpacks = (o : Outcome) → Plain o → (out : Bytes) → Returns o out
 
 -- The numbers that a request may give once the texts are read; so the check never gives 15 or 16, nor 3, 5 or 6 for a line of a sheet.
-abbrev pub numbersOf : Request → List ℕ
-numbersOf write-sheet = tooMany ∷ 16 ∷ []
-numbersOf (write-record i) = 6 ∷ tooMany ∷ 16 ∷ []
-numbersOf check-sheet = 1 ∷ 2 ∷ 4 ∷ 11 ∷ 12 ∷ []
-numbersOf (show-label side n) = 6 ∷ []
-numbersOf no-request = 6 ∷ []
+abbrev pub requestNumbers : Request → List ℕ
+requestNumbers write-sheet = tooMany ∷ 16 ∷ []
+requestNumbers (write-record i) = 6 ∷ tooMany ∷ 16 ∷ []
+requestNumbers check-sheet = 1 ∷ 2 ∷ 4 ∷ 11 ∷ 12 ∷ []
+requestNumbers (show-label side n) = 6 ∷ []
+requestNumbers no-request = 6 ∷ []
 
 -- The numbers that reading a program, reading a test file and a request may give.
 pub record NumbersGiven : Type 0 where
   pub of-program : (text : Bytes) (k p : ℕ) → readProgram text ≡ refused k p → has (1 ∷ 2 ∷ 3 ∷ 4 ∷ 5 ∷ 6 ∷ 7 ∷ 8 ∷ 9 ∷ []) k ≡ true
   pub of-tests : (m : ℕ) (text : Bytes) (k p : ℕ) → readSuite m text ≡ refused k p → has (1 ∷ 2 ∷ 4 ∷ 5 ∷ 10 ∷ []) k ≡ true
   pub of-request : (q : Request) (old new tests input : Bytes) (room : ℕ) (g : Given) → readJob old new tests ≡ accepted g → (k p : ℕ) → answering q old new tests input room ≡ refusal k p
-      → has (numbersOf q) k ≡ true
+      → has (requestNumbers q) k ≡ true
 
 -- 1: exactly where the text is too long; its place is 0.
 pub record TooLong : Type 0 where
@@ -90,10 +90,33 @@ TextsRefused = (old new tests : Bytes) (k p : ℕ) → readJob old new tests ≡
 abbrev pub RecordUnnamed : Type 0
 RecordUnnamed = (old new tests : Bytes) (g : Given) → readJob old new tests ≡ accepted g → (i room : ℕ) → testCount (g .suite) ≤ i → recordAnswer old new tests i room ≡ refusal 6 0
 
--- A request by a number that no request has is refused with 6.
-abbrev pub RequestUnnamed : Type 0
-RequestUnnamed = (old new tests : Bytes) (g : Given) → readJob old new tests ≡ accepted g → (n a b : ℕ) (input : Bytes) (room : ℕ) → 3 < n
-    → answering (requestBy n a b) old new tests input room ≡ refusal 6 0
+-- The requests by their numbers; one by another number is refused with 6.
+pub record RequestsNumbered : Type 0 where
+  pub sheet-0 : (a b : ℕ) → requestBy 0 a b ≡ write-sheet
+  pub record-1 : (a b : ℕ) → requestBy 1 a b ≡ write-record a
+  pub check-2 : (a b : ℕ) → requestBy 2 a b ≡ check-sheet
+  pub label-3 : (a b : ℕ) → requestBy 3 a b ≡ show-label a b
+  pub unnamed : (old new tests : Bytes) (g : Given) → readJob old new tests ≡ accepted g → (n a b : ℕ) (input : Bytes) (room : ℕ) → 3 < n
+      → answering (requestBy n a b) old new tests input room ≡ refusal 6 0
+
+-- Which requests come with a text, and which write. A text that a request does not come with, and an output that it does not write to, are of no matter.
+abbrev pub comesWithText : Request → Bool
+comesWithText write-sheet = false
+comesWithText (write-record i) = false
+comesWithText check-sheet = true
+comesWithText (show-label side n) = false
+comesWithText no-request = false
+
+abbrev pub writes : Request → Bool
+writes write-sheet = true
+writes (write-record i) = true
+writes check-sheet = false
+writes (show-label side n) = false
+writes no-request = false
+
+pub record UnusedIgnored (q : Request) (old new tests : Bytes) : Type 0 where
+  pub no-text : comesWithText q ≡ false → (input : Bytes) (room : ℕ) → answering q old new tests input room ≡ answering q old new tests [] room
+  pub no-output : writes q ≡ false → (input : Bytes) (room : ℕ) → answering q old new tests input room ≡ answering q old new tests input 0
 
 -- A sheet and a record line are written, refused with 15 or refused with 16, each exactly for its reason.
 
@@ -160,16 +183,17 @@ LineMissing =
     (old new tests : Bytes) (g : Given) → readJob old new tests ≡ accepted g → (c : Sheet) → SheetFollows maxPairs (g .old) (g .new) (g .suite) c
     → (ls ms : List Bytes) (m : Bytes) → sheetLines (g .suite .names) c ≡ ls ++ (m ∷ ms) → checkAnswer old new tests (textOf ls) ≡ refusal 11 (suc (length ls))
 
--- A label is shown by side, 0 old and 1 new, and node number; 6 where there is no such side, or no such node of its version, and then nothing is shown.
-abbrev pub labelTold : Version → Version → TestListing → ℕ → ℕ → Outcome
-labelTold old new tests side n = labelling (givenOf (old .listing) (new .listing) tests) side n
+-- The answer to the request for a label, of two versions that were read and the tests.
+abbrev pub labelTold : Version → Version → TestListing → Bytes → ℕ → ℕ → ℕ → Outcome
+labelTold old new tests input room side n = serving (show-label side n) (givenOf (old .listing) (new .listing) tests) input room
 
-pub record LabelsAnswered (old new : Version) (tests : TestListing) : Type 0 where
-  pub old-shown : (n : ℕ) → n < nodeCount (old .listing .program) → (labelTold old new tests 0 n ≡ success) × (labelShown old new 0 n ≡ labelPart old n)
-  pub new-shown : (n : ℕ) → n < nodeCount (new .listing .program) → (labelTold old new tests 1 n ≡ success) × (labelShown old new 1 n ≡ labelPart new n)
-  pub no-old-node : (n : ℕ) → nodeCount (old .listing .program) ≤ n → (labelTold old new tests 0 n ≡ refusal 6 0) × (labelShown old new 0 n ≡ [])
-  pub no-new-node : (n : ℕ) → nodeCount (new .listing .program) ≤ n → (labelTold old new tests 1 n ≡ refusal 6 0) × (labelShown old new 1 n ≡ [])
-  pub no-side : (side n : ℕ) → 1 < side → (labelTold old new tests side n ≡ refusal 6 0) × (labelShown old new side n ≡ [])
+-- A label is shown by side, 0 old and 1 new, and node number; 6 where there is no such side, or no such node of its version, and then nothing is shown, and it stands nowhere.
+pub record LabelsAnswered (old new : Version) (tests : TestListing) (input : Bytes) (room : ℕ) : Type 0 where
+  pub old-shown : (n : ℕ) → n < nodeCount (old .listing .program) → (labelTold old new tests input room 0 n ≡ success) × (labelShown old new 0 n ≡ labelPart old n) × (spanShown old new 0 n ≡ labelSpan old n)
+  pub new-shown : (n : ℕ) → n < nodeCount (new .listing .program) → (labelTold old new tests input room 1 n ≡ success) × (labelShown old new 1 n ≡ labelPart new n) × (spanShown old new 1 n ≡ labelSpan new n)
+  pub no-old-node : (n : ℕ) → nodeCount (old .listing .program) ≤ n → (labelTold old new tests input room 0 n ≡ refusal 6 0) × (labelShown old new 0 n ≡ []) × (packedSpan (spanShown old new 0 n) ≡ 0)
+  pub no-new-node : (n : ℕ) → nodeCount (new .listing .program) ≤ n → (labelTold old new tests input room 1 n ≡ refusal 6 0) × (labelShown old new 1 n ≡ []) × (packedSpan (spanShown old new 1 n) ≡ 0)
+  pub no-side : (side n : ℕ) → 1 < side → (labelTold old new tests input room side n ≡ refusal 6 0) × (labelShown old new side n ≡ []) × (packedSpan (spanShown old new side n) ≡ 0)
 
 -- ==== demand 2: files, pairs, dangerous edges, tests to repeat, records
 

@@ -1,11 +1,12 @@
 -- The promises, proved, in the order of Promises.
 use Rattle.rules.specs.Text.{Bytes}
+use Prim.Native.Nat.{ℕ}
 use mathlib.Core.List.{List}
 use Rattle.rules.specs.Graph.{Program}
 use Rattle.rules.specs.SuiteFile.{TestListing}
 use Rattle.rules.specs.Closing.{Coverage}
 use Rattle.rules.specs.Sheet.{Sheet}
-use Rattle.rules.specs.Job.{Version}
+use Rattle.rules.specs.Job.{Request, Version}
 use Rattle.rules.specs.Promises.{
   AlikeExact,
   AnswersPlain,
@@ -27,7 +28,7 @@ use Rattle.rules.specs.Promises.{
   ProgramWellFormed,
   RecordShort,
   RecordUnnamed,
-  RequestUnnamed,
+  RequestsNumbered,
   RulesExact,
   SuiteLayout,
   SuitePlaced,
@@ -35,6 +36,7 @@ use Rattle.rules.specs.Promises.{
   TextsRefused,
   TooLong,
   Unpacks,
+  UnusedIgnored,
   WritesExactly,
 }
 use Rattle.rules.specs.Proofs.Answers as Answers
@@ -76,8 +78,11 @@ texts-refused = Refused.texts-first
 pub record-unnamed : RecordUnnamed
 record-unnamed = Refused.no-test
 
-pub request-unnamed : RequestUnnamed
-request-unnamed = Refused.no-such-request
+pub requests-numbered : RequestsNumbered
+requests-numbered = Refused.numbered
+
+pub unused-ignored : (q : Request) (old new tests : Bytes) → UnusedIgnored q old new tests
+unused-ignored = Refused.unused
 
 pub writes-exactly : WritesExactly
 writes-exactly = written-exactly
@@ -94,7 +99,7 @@ line-above = Checked.line-above
 pub line-missing : LineMissing
 line-missing = Checked.line-missing
 
-pub labels-answered : (old new : Version) (tests : TestListing) → LabelsAnswered old new tests
+pub labels-answered : (old new : Version) (tests : TestListing) (input : Bytes) (room : ℕ) → LabelsAnswered old new tests input room
 labels-answered = Refused.labels-answered
 
 -- ---- demand 2

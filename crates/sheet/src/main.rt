@@ -5,11 +5,6 @@ use intake::Counts;
 ghost use Prim.Native.Nat.{_≤_};
 ghost use Rattle.intake.specs.Ready.{Few};
 
-// The limit on pairs, and the number of the refusal where more exist.
-const MAX_PAIRS: usize = 4096;
-
-const TOO_MANY: usize = 15;
-
 // Prints what was written, or the refusal, and says whether it was written.
 fn print(answer: Answer, out: &[u8]) -> bool {
     let number = answer.number;
@@ -82,9 +77,9 @@ fn lines(
 {
     let mut w = [0usize; 16912];
     let mut set = [0u64; 16];
-    let pairs = work::select(MAX_PAIRS, ot, on, ol, nt, nn, nl, &mut w, &mut set);
-    if MAX_PAIRS < pairs {
-        files::print_answer(b"refused", TOO_MANY, 0);
+    let pairs = work::select(work::MAX_PAIRS, ot, on, ol, nt, nn, nl, &mut w, &mut set);
+    if work::MAX_PAIRS < pairs {
+        files::print_answer(b"refused", work::TOO_MANY, 0);
         return;
     }
     let edges = had.old_edges;

@@ -8,6 +8,11 @@ ghost use Rattle.intake.specs.Ready.{Few};
 ghost use Rattle.versions.specs.Memory.{memory};
 ghost use Rattle.work.specs.Work.{Done, RecordDone, RecordFrom, Selected, SheetDone};
 
+// The limit on pairs, and the number of the refusal where more exist, as the callers give them.
+pub const MAX_PAIRS: usize = 4096;
+
+pub const TOO_MANY: usize = 15;
+
 // Finds the pairs of two versions, and their dangerous edges: the number of pairs, or one more than the limit where there are more; what the
 // table and the set hold then is left open.
 pub fn select(

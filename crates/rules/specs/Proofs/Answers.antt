@@ -19,7 +19,7 @@ use Rattle.rules.specs.Closing.{Coverage, holds}
 use Rattle.rules.specs.Sheet.{Sheet, crossed, marksOf, readSheet, recordText, vLine}
 use Rattle.rules.specs.Check.{broken, rule1, rule2, rule3, rule4, rule5}
 use Rattle.rules.specs.Job.{Given, Outcome, Request, answering, bySide, check-sheet, checkAnswer, checking, judged, labelling, lastNumber, no-request, outcome, passed, readJob, readNewAnswer, readOldAnswer, readTestsAnswer, recordAnswer, recordBytes, refusal, serving, sheetBytes, show-label, success, write-record, write-sheet, writing, wrote}
-use Rattle.rules.specs.Promises.{AnswersPlain, NumbersGiven, Plain, TooLong, numbersOf}
+use Rattle.rules.specs.Promises.{AnswersPlain, NumbersGiven, Plain, TooLong, requestNumbers}
 use Rattle.rules.specs.Proofs.JobLaws.{known, marks-length, outcome-wrote, record-wrote, wrote-choose, wrote-same}
 use Rattle.rules.specs.Proofs.Numbers.{Any, Good, Refusal, allOf, big, good-number, job-good, passes-of, program-good, program-long, programNumbers, sheet-good, sheet-long, sheetNumbers, suite-good, suite-long, suiteNumbers}
 use Rattle.rules.specs.Proofs.ReadBack.{name-short, written-passes}
@@ -62,11 +62,11 @@ broken-few : (old new : Program) (suite : List Coverage) (s : Sheet) → broken 
 unfolding broken
 broken-few old new suite s = omega (arith, failed-few 1 (rule1 old new s ∷ rule2 old new s ∷ rule3 old new s ∷ rule4 old new s ∷ rule5 suite s ∷ []))
 
-checking-told : (limit : ℕ) (g : Given) (sheet : Bytes) → Told (numbersOf check-sheet) (checking limit g sheet)
+checking-told : (limit : ℕ) (g : Given) (sheet : Bytes) → Told (requestNumbers check-sheet) (checking limit g sheet)
 unfolding judged allOf has _or_ _and_
 checking-told limit g sheet =
-    outcome-told (1 ∷ sheetNumbers) (numbersOf check-sheet) _ _ refl (sheet-good limit (g .old) (g .new) (g .suite) sheet)
-    (λ s. choose-told (numbersOf check-sheet) _ _ _ tt (refl, broken-few (g .old) (g .new) (g .suite .coverages) s))
+    outcome-told (1 ∷ sheetNumbers) (requestNumbers check-sheet) _ _ refl (sheet-good limit (g .old) (g .new) (g .suite) sheet)
+    (λ s. choose-told (requestNumbers check-sheet) _ _ _ tt (refl, broken-few (g .old) (g .new) (g .suite .coverages) s))
 
 more-told : (ks js : List ℕ) (o : Outcome) → allOf (has js) ks ≡ true → Told ks o → Told js o
 more-told ks js (wrote b) s t = tt
@@ -130,19 +130,19 @@ record-short old new tests i room b e =
 -- ---- requests
 
 -- Each request is refused only with its numbers.
-serving-told : (q : Request) (g : Given) (input : Bytes) (room : ℕ) → Told (numbersOf q) (serving q g input room)
+serving-told : (q : Request) (g : Given) (input : Bytes) (room : ℕ) → Told (requestNumbers q) (serving q g input room)
 unfolding serving labelling bySide has _or_
-serving-told write-sheet g input room = writing-told (numbersOf write-sheet) maxPairs tooMany g room (sheetBytes g) refl refl
+serving-told write-sheet g input room = writing-told (requestNumbers write-sheet) maxPairs tooMany g room (sheetBytes g) refl refl
 serving-told (write-record i) g input room =
-    choose-told (numbersOf (write-record i)) _ _ _ (writing-told (numbersOf (write-record i)) maxPairs tooMany g room (recordBytes g i) refl refl) (refl, let z : 0 < big = omega arith in z)
+    choose-told (requestNumbers (write-record i)) _ _ _ (writing-told (requestNumbers (write-record i)) maxPairs tooMany g room (recordBytes g i) refl refl) (refl, let z : 0 < big = omega arith in z)
 serving-told check-sheet g input room = checking-told maxPairs g input
-serving-told (show-label zero n) g input room = choose-told (numbersOf (show-label zero n)) _ _ _ tt (refl, let z : 0 < big = omega arith in z)
-serving-told (show-label (suc zero) n) g input room = choose-told (numbersOf (show-label (suc zero) n)) _ _ _ tt (refl, let z : 0 < big = omega arith in z)
+serving-told (show-label zero n) g input room = choose-told (requestNumbers (show-label zero n)) _ _ _ tt (refl, let z : 0 < big = omega arith in z)
+serving-told (show-label (suc zero) n) g input room = choose-told (requestNumbers (show-label (suc zero) n)) _ _ _ tt (refl, let z : 0 < big = omega arith in z)
 serving-told (show-label (suc (suc side)) n) g input room = (refl, let z : 0 < big = omega arith in z)
 serving-told no-request g input room = (refl, let z : 0 < big = omega arith in z)
 
 -- They are some of all.
-numbers-few : (q : Request) → allOf (has allNumbers) (numbersOf q) ≡ true
+numbers-few : (q : Request) → allOf (has allNumbers) (requestNumbers q) ≡ true
 unfolding allOf has _or_ _and_
 numbers-few write-sheet = refl
 numbers-few (write-record i) = refl
@@ -176,7 +176,7 @@ plain-answers old new tests =
       of-tests = plain _ (outcome-told _ allNumbers _ _ refl (job-good old new tests) (λ g. tt)) (unwritten _ (success-only _ _ (λ g. nothing-wrote)));
       of-request = λ q input room.
           plain _
-          (outcome-told _ allNumbers _ _ refl (job-good old new tests) (λ g. more-told (numbersOf q) allNumbers (serving q g input room) (numbers-few q) (serving-told q g input room)))
+          (outcome-told _ allNumbers _ _ refl (job-good old new tests) (λ g. more-told (requestNumbers q) allNumbers (serving q g input room) (numbers-few q) (serving-told q g input room)))
           (λ b e. answering-short q old new tests input room b e);
     }
 
@@ -196,7 +196,7 @@ numbers-given =
       of-program = λ text k p e. good-number Any (1 ∷ programNumbers) (readProgram text) k p (program-good text) e;
       of-tests = λ m text k p e. good-number Any (1 ∷ suiteNumbers) (readSuite m text) k p (suite-good m text) e;
       of-request = λ q old new tests input room g r k p e.
-          told-number (numbersOf q) (serving q g input room) k p (serving-told q g input room) (sym (answered q old new tests input room g r) ∙ e);
+          told-number (requestNumbers q) (serving q g input room) k p (serving-told q g input room) (sym (answered q old new tests input room g r) ∙ e);
     }
 
 -- A refusal with 1 is that of reading the sheet.

@@ -42,7 +42,7 @@ zero-passed o h e =
 -- ---- demand 3
 
 -- What a call returned below 4,294,967,296, and left in its output.
-written : (o : Outcome) → Plain o → (out out′ : Bytes) (r : ℕ) → r ≡ packed o → out′ ≡ outputAfter o out → r < 4294967296 → (b : Bytes) × (o ≡ wrote b) × (r ≡ length b) × (out′ ≡ b ++ drop r out)
+pub written : (o : Outcome) → Plain o → (out out′ : Bytes) (r : ℕ) → r ≡ packed o → out′ ≡ outputAfter o out → r < 4294967296 → (b : Bytes) × (o ≡ wrote b) × (r ≡ length b) × (out′ ≡ b ++ drop r out)
 written o h out out′ r e l s =
     let w = returned o h out .success-below (subst (λ (k : ℕ). k < 4294967296) e s) in
     let n : r ≡ length (w .0) = e ∙ w .2 in

@@ -1,16 +1,18 @@
 -- Refusals of texts and of a call's own numbers, each for its reason.
 use mathlib.Core.Path.{_≡_, refl, ap, _∙_}
+use mathlib.Core.Bool.{true≢false}
 use mathlib.Core.List.{[]}
 use Prim.Native.Nat.{ℕ, zero, suc, _<_}
 use native.Mathlib.Omega.{arith}
 use borrow.Author.Tests.{le-ltb, lt-ltb, ne-eqb}
+use Rattle.laws.specs.Tests.{choose}
 use Rattle.laws.specs.Lists.{choose-yes, choose-no}
 use Rattle.rules.specs.Text.{Reading, Bytes, maxPairs, then, tooMany}
 use Rattle.rules.specs.Graph.{Program, nodeCount}
 use Rattle.rules.specs.ProgramFile.{readProgram}
 use Rattle.rules.specs.SuiteFile.{TestListing, testCount}
-use Rattle.rules.specs.Job.{Given, Outcome, Request, Version, answering, bySide, hasNode, labelShown, labelling, no-request, outcome, readJob, readNewAnswer, readOldAnswer, readTestsAnswer, recording, refusal, requestBy, serving, success}
-use Rattle.rules.specs.Promises.{LabelsAnswered, RecordUnnamed, RequestUnnamed, TextsRead, TextsRefused, labelTold}
+use Rattle.rules.specs.Job.{Given, Outcome, Request, Version, answering, bySide, check-sheet, hasNode, labelShown, labelSpan, labelling, no-request, nowhere, outcome, packedSpan, readJob, readNewAnswer, readOldAnswer, readTestsAnswer, recording, refusal, requestBy, serving, show-label, spanShown, success, write-record, write-sheet}
+use Rattle.rules.specs.Promises.{LabelsAnswered, RecordUnnamed, RequestsNumbered, TextsRead, TextsRefused, UnusedIgnored, labelTold}
 
 -- ---- texts
 
@@ -47,23 +49,38 @@ no-number n a b l =
     ∙ choose-no _ _ (ne-eqb n 2 (λ e. let z : ⊥ = omega arith in z))
     ∙ choose-no _ _ (ne-eqb n 3 (λ e. let z : ⊥ = omega arith in z))
 
-pub no-such-request : RequestUnnamed
-unfolding answering serving outcome
-no-such-request old new tests g e n a b input room l =
-    ap (λ (q : Request). answering q old new tests input room) (no-number n a b l) ∙ ap (λ (x : Reading Given). outcome x (λ h. refusal 6 0)) e
-
-pub labels-answered : (old new : Version) (tests : TestListing) → LabelsAnswered old new tests
-unfolding labelling labelShown bySide hasNode
-labels-answered old new tests =
+pub numbered : RequestsNumbered
+unfolding answering serving outcome requestBy choose
+numbered =
     record {
-      old-shown = λ n h. let t = lt-ltb n (nodeCount (old .listing .program)) h in (choose-yes _ _ t, choose-yes _ _ t);
-      new-shown = λ n h. let t = lt-ltb n (nodeCount (new .listing .program)) h in (choose-yes _ _ t, choose-yes _ _ t);
-      no-old-node = λ n h. let t = le-ltb n (nodeCount (old .listing .program)) h in (choose-no _ _ t, choose-no _ _ t);
-      no-new-node = λ n h. let t = le-ltb n (nodeCount (new .listing .program)) h in (choose-no _ _ t, choose-no _ _ t);
+      sheet-0 = λ a b. refl;
+      record-1 = λ a b. refl;
+      check-2 = λ a b. refl;
+      label-3 = λ a b. refl;
+      unnamed = λ old new tests g e n a b input room l.
+          ap (λ (q : Request). answering q old new tests input room) (no-number n a b l) ∙ ap (λ (x : Reading Given). outcome x (λ h. refusal 6 0)) e;
+    }
+
+pub unused : (q : Request) (old new tests : Bytes) → UnusedIgnored q old new tests
+unfolding answering serving
+unused write-sheet old new tests = record { no-text = λ e input room. refl; no-output = λ e. absurd (true≢false e) }
+unused (write-record i) old new tests = record { no-text = λ e input room. refl; no-output = λ e. absurd (true≢false e) }
+unused check-sheet old new tests = record { no-text = λ e. absurd (true≢false e); no-output = λ e input room. refl }
+unused (show-label side n) old new tests = record { no-text = λ e input room. refl; no-output = λ e input room. refl }
+unused no-request old new tests = record { no-text = λ e input room. refl; no-output = λ e input room. refl }
+
+pub labels-answered : (old new : Version) (tests : TestListing) (input : Bytes) (room : ℕ) → LabelsAnswered old new tests input room
+unfolding serving labelling labelShown spanShown packedSpan bySide hasNode
+labels-answered old new tests input room =
+    record {
+      old-shown = λ n h. let t = lt-ltb n (nodeCount (old .listing .program)) h in (choose-yes _ _ t, choose-yes _ _ t, choose-yes _ _ t);
+      new-shown = λ n h. let t = lt-ltb n (nodeCount (new .listing .program)) h in (choose-yes _ _ t, choose-yes _ _ t, choose-yes _ _ t);
+      no-old-node = λ n h. let t = le-ltb n (nodeCount (old .listing .program)) h in (choose-no _ _ t, choose-no _ _ t, ap packedSpan (choose-no (labelSpan old n) nowhere t));
+      no-new-node = λ n h. let t = le-ltb n (nodeCount (new .listing .program)) h in (choose-no _ _ t, choose-no _ _ t, ap packedSpan (choose-no (labelSpan new n) nowhere t));
       no-side = other-side;
     }
   where
-    other-side : (side n : ℕ) → 1 < side → (labelTold old new tests side n ≡ refusal 6 0) × (labelShown old new side n ≡ [])
+    other-side : (side n : ℕ) → 1 < side → (labelTold old new tests input room side n ≡ refusal 6 0) × (labelShown old new side n ≡ []) × (packedSpan (spanShown old new side n) ≡ 0)
     other-side zero n h = absurd (let z : ⊥ = omega arith in z)
     other-side (suc zero) n h = absurd (let z : ⊥ = omega arith in z)
-    other-side (suc (suc s)) n h = (refl, refl)
+    other-side (suc (suc s)) n h = (refl, refl, refl)
