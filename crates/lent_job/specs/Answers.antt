@@ -168,7 +168,7 @@ labels-few k side n =
 
 -- Where the request for a label is refused, it stands nowhere: `ry_job_label` returns 0.
 pub nowhere-refused : (k : LentJob) (side n q p : ℕ) → labelCall k side n ≡ refusal q p → packedSpan (labelSpanCall k side n) ≡ 0
-unfolding lentCall labelSpanCall spanBy serving labelling spanShown bySide packedSpan outcome
+unfolding lentCall labelSpanCall spanBy serving labelling spanShown bySide packedSpan outcome choose
 nowhere-refused k side n q p e = go (goesBy k) e
   where
     chosen : (u : Bool) (s : Span) → choose u success (refusal 6 0) ≡ refusal q p → packedSpan (choose u s nowhere) ≡ 0
