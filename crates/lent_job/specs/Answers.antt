@@ -18,11 +18,12 @@ use Rattle.rules.specs.ProgramFile.{Listing, readListing}
 use Rattle.rules.specs.SuiteFile.{coverageAt, readTests, testCount, testName}
 use Rattle.rules.specs.Closing.{repeated}
 use Rattle.rules.specs.Sheet.{crossed, leftOff, vLine}
-use Rattle.rules.specs.Job.{Given, Request, Span, Version, answering, bySide, check-sheet, hasNode, labelAnswer, labelPart, labelShown, labelSpan, labelling, no-request, nowhere, outcome, packed, packedSpan, passed, readJob, readNewAnswer, readOldAnswer, readTestsAnswer, refusal, requestBy, serving, show-label, spanShown, success, write-record, write-sheet, wrote}
+use Rattle.rules.specs.Job.{Given, Request, Span, Version, answering, bySide, check-sheet, hasNode, labelAnswer, labelPart, labelShown, labelSpan, labelling, nowhere, outcome, packed, packedSpan, passed, readJob, readNewAnswer, readOldAnswer, readTestsAnswer, refusal, requestBy, serving, show-label, spanShown, success, write-record, write-sheet, wrote}
 use Rattle.rules.specs.Promises.{MarksTrue, Plain, RunsAlike, comesWithText, writes}
 use Rattle.rules.specs.Theorems.{answers-plain, demand3, label-shown, program-placed, too-long}
 use Rattle.rules.specs.Proofs.Exported.{written, zero-passed}
 use Rattle.rules.specs.Proofs.JobLaws.{known, outcome-wrote}
+use Rattle.rules.specs.Proofs.Refused.{outcome-same, room-unused, text-unused}
 use Rattle.records.specs.declared.Job.{Job}
 use Rattle.lent_job.specs.Held.{AllRead, Lent, heldNew, heldOld}
 use Rattle.lent_job.specs.HeldLaws.{held-new-parts, held-tests-parts, texts-accepted, version-read}
@@ -291,20 +292,12 @@ call-written q k input r j j′ w w′ out out′ c l = written _ (lent-plain q 
 
 -- An input that a request does not come with, and an output that it does not write to, are of no matter.
 input-any : (q : Request) (k : LentJob) (input : Bytes) (room : ℕ) → comesWithText q ≡ false → lentCall q k input room ≡ lentCall q k [] room
-unfolding lentCall serving
-input-any write-sheet k input room e = refl
-input-any (write-record i) k input room e = refl
-input-any check-sheet k input room e = absurd (true≢false e)
-input-any (show-label side n) k input room e = refl
-input-any no-request k input room e = refl
+unfolding lentCall
+input-any q k input room e = outcome-same (goesBy k) _ _ (λ h. text-unused q e (givenBy h) input room)
 
 output-any : (q : Request) (k : LentJob) (input : Bytes) (room : ℕ) → writes q ≡ false → lentCall q k input room ≡ lentCall q k input 0
-unfolding lentCall serving
-output-any write-sheet k input room e = absurd (true≢false e)
-output-any (write-record i) k input room e = absurd (true≢false e)
-output-any check-sheet k input room e = refl
-output-any (show-label side n) k input room e = refl
-output-any no-request k input room e = refl
+unfolding lentCall
+output-any q k input room e = outcome-same (goesBy k) _ _ (λ h. room-unused q e (givenBy h) input room)
 
 module _ {ℓ κ} (St : Type ℓ) (Out : Type κ) (k : LentJob) where
   -- The same, of the numbers that `ry_job_call` returns and the output that it leaves, by its contract.

@@ -1,18 +1,18 @@
 -- Refusals of texts and of a call's own numbers, each for its reason.
 use mathlib.Core.Path.{_≡_, refl, ap, _∙_}
-use mathlib.Core.Bool.{true≢false}
+use mathlib.Core.Bool.{false, true≢false}
 use mathlib.Core.List.{[]}
 use Prim.Native.Nat.{ℕ, zero, suc, _<_}
 use native.Mathlib.Omega.{arith}
 use borrow.Author.Tests.{le-ltb, lt-ltb, ne-eqb}
 use Rattle.laws.specs.Tests.{choose}
 use Rattle.laws.specs.Lists.{choose-yes, choose-no}
-use Rattle.rules.specs.Text.{Reading, Bytes, maxPairs, then, tooMany}
+use Rattle.rules.specs.Text.{Reading, Bytes, accepted, maxPairs, refused, then, tooMany}
 use Rattle.rules.specs.Graph.{Program, nodeCount}
 use Rattle.rules.specs.ProgramFile.{readProgram}
 use Rattle.rules.specs.SuiteFile.{TestListing, testCount}
 use Rattle.rules.specs.Job.{Given, Outcome, Request, Version, answering, bySide, check-sheet, hasNode, labelShown, labelSpan, labelling, no-request, nowhere, outcome, packedSpan, readJob, readNewAnswer, readOldAnswer, readTestsAnswer, recording, refusal, requestBy, serving, show-label, spanShown, success, write-record, write-sheet}
-use Rattle.rules.specs.Promises.{LabelsAnswered, RecordUnnamed, RequestsNumbered, TextsRead, TextsRefused, UnusedIgnored, labelTold}
+use Rattle.rules.specs.Promises.{LabelsAnswered, RecordUnnamed, RequestsNumbered, TextsRead, TextsRefused, UnusedIgnored, comesWithText, labelTold, writes}
 
 -- ---- texts
 
@@ -61,13 +61,36 @@ numbered =
           ap (λ (q : Request). answering q old new tests input room) (no-number n a b l) ∙ ap (λ (x : Reading Given). outcome x (λ h. refusal 6 0)) e;
     }
 
+-- What a request does not use.
+pub text-unused : (q : Request) → comesWithText q ≡ false → (g : Given) (input : Bytes) (room : ℕ) → serving q g input room ≡ serving q g [] room
+unfolding serving
+text-unused write-sheet e g input room = refl
+text-unused (write-record i) e g input room = refl
+text-unused check-sheet e g input room = absurd (true≢false e)
+text-unused (show-label side n) e g input room = refl
+text-unused no-request e g input room = refl
+
+pub room-unused : (q : Request) → writes q ≡ false → (g : Given) (input : Bytes) (room : ℕ) → serving q g input room ≡ serving q g input 0
+unfolding serving
+room-unused write-sheet e g input room = absurd (true≢false e)
+room-unused (write-record i) e g input room = absurd (true≢false e)
+room-unused check-sheet e g input room = refl
+room-unused (show-label side n) e g input room = refl
+room-unused no-request e g input room = refl
+
+-- Two continuations that agree.
+pub outcome-same : {A : Type 0} (a : Reading A) (f h : A → Outcome) → ((x : A) → f x ≡ h x) → outcome a f ≡ outcome a h
+unfolding outcome
+outcome-same (refused k p) f h e = refl
+outcome-same (accepted x) f h e = e x
+
 pub unused : (q : Request) (old new tests : Bytes) → UnusedIgnored q old new tests
-unfolding answering serving
-unused write-sheet old new tests = record { no-text = λ e input room. refl; no-output = λ e. absurd (true≢false e) }
-unused (write-record i) old new tests = record { no-text = λ e input room. refl; no-output = λ e. absurd (true≢false e) }
-unused check-sheet old new tests = record { no-text = λ e. absurd (true≢false e); no-output = λ e input room. refl }
-unused (show-label side n) old new tests = record { no-text = λ e input room. refl; no-output = λ e input room. refl }
-unused no-request old new tests = record { no-text = λ e input room. refl; no-output = λ e input room. refl }
+unfolding answering
+unused q old new tests =
+    record {
+      no-text = λ e input room. outcome-same (readJob old new tests) _ _ (λ g. text-unused q e g input room);
+      no-output = λ e input room. outcome-same (readJob old new tests) _ _ (λ g. room-unused q e g input room);
+    }
 
 pub labels-answered : (old new : Version) (tests : TestListing) (input : Bytes) (room : ℕ) → LabelsAnswered old new tests input room
 unfolding serving labelling labelShown spanShown packedSpan bySide hasNode
