@@ -48,7 +48,7 @@
  *   A call of the lent job tests RY_WRONG_STAGE, then RY_LENT_MEMORY_WRONG.
  *   A call reads its texts to their ends in the order old, new, tests, sheet;
  *   the first refusal is the answer. Then, as far as the call gives them,
- *   RY_CLAIM_FALSE, RY_NOT_NAMED for the call's own numbers,
+ *   RY_NOT_NAMED for the call's own numbers, RY_CLAIM_FALSE,
  *   RY_TOO_MANY_PAIRS, RY_OUTPUT_SHORT.
  *   A text is judged line by line, so its first offending line is named.
  */
