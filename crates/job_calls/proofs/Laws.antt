@@ -26,7 +26,7 @@ use Rattle.intake.specs.declared.Counts.{Counts}
 use Rattle.intake.specs.Ready.{Few, Ready, refusedCounts}
 use Rattle.intake.proofs.Laws.{few-none}
 use Rattle.work.specs.Work.{Done}
-use Rattle.requests.specs.Requests.{Served}
+use Rattle.requests.specs.Requests.{Served, refusalOf}
 use Rattle.records.specs.declared.Job.{Job}
 use Rattle.records.specs.declared.Node.{Node}
 use Rattle.records.specs.Jobs.{sameJob}
@@ -270,11 +270,12 @@ module _ (j : Job) (olds : ℕ) (ot on ol : List ℕ) (news : ℕ) (nt nn nl tt 
     abbrev call-loaded : ℕ → Outcome
     call-loaded room = lentCall q (loadedJob j olds ot ol news nt nl tt tests rows w) input room
 
-    pub call-stop : (out : Bytes) → (had .number ≡ 0 → ⊥) → Told (call-loaded (length out)) (record { number = had .number; place = had .place }) out out
+    pub call-stop : (out : Bytes) (r : Answer) → (had .number ≡ 0 → ⊥) → r ≡ refusalOf had → Told (call-loaded (length out)) r out out
     unfolding lentCall
-    call-stop out z =
-        subst (λ (k : LentJob). Told (lentCall q k input (length out)) (record { number = had .number; place = had .place }) out out) is-loaded
-        (told-as (due-stops the-job had eh _ z) (refusal-told (had .number) (had .place) out))
+    call-stop out r z er =
+        subst (λ (x : Answer). Told (call-loaded (length out)) x out out) (sym er)
+        (subst (λ (k : LentJob). Told (lentCall q k input (length out)) (refusalOf had) out out) is-loaded
+        (told-as (due-stops the-job had eh _ z) (refusal-told (had .number) (had .place) out)))
 
     pub call-goes : (w₁ w′ out out′ : List ℕ) (r : Answer) → had .number ≡ 0 → Done w₁ w′ out out′ (Served q (memory ot on ol) (memory nt nn nl) tt tests rows had input out r out′) → Told (call-loaded (length out)) r out out′
     unfolding lentCall Served

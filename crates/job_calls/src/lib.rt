@@ -135,10 +135,7 @@ fn call_in(
         w,
     );
     if had.number != 0 {
-        return Answer {
-            number: had.number,
-            place: had.place,
-        };
+        return requests::unread(had);
     }
     requests::serve(
         ot,

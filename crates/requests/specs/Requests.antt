@@ -27,6 +27,10 @@ unfoldable pub Served : Asked → Memory → Memory → Bytes → List ℕ → L
 Served q v v′ tt tests rows had input out r out′ =
     (g : Given) → Ready v v′ tt tests rows had g → Told (serving q g input (length out)) r out out′
 
+-- `unread`: number and place of a job that was not read.
+abbrev pub refusalOf : Counts → Answer
+refusalOf had = record { number = had .number; place = had .place }
+
 -- `nodes_on`: how many nodes the version of a side has, by the counts of a job that was read.
 unfoldable pub nodesOn : Counts → ℕ → ℕ
 nodesOn had side = choose (eqb side 0) (had .«old_nodes») (choose (eqb side 1) (had .«new_nodes») 0)

@@ -12,7 +12,7 @@ ghost use Rattle.work.specs.Work.{Done, RecordDone, SheetDone};
 ghost use Rattle.rules.specs.Text.{maxPairs, tooMany};
 ghost use Rattle.rules.specs.Job.{requestBy};
 ghost use Rattle.checker.specs.Checking.{Checks};
-ghost use Rattle.requests.specs.Requests.{LabelTold, Served, asked, nodesOn};
+ghost use Rattle.requests.specs.Requests.{LabelTold, Served, asked, nodesOn, refusalOf};
 
 // What is asked: the sheet; the record line of a test; the check of the sheet that the request comes with; the label of a node, by side and
 // node number; no request that there is.
@@ -41,6 +41,16 @@ pub fn by_number(number: usize, a: usize, b: usize) -> Request
         return Request::Label(a, b);
     }
     Request::Unknown
+}
+
+// The answer where a job was not read: its refusal.
+pub fn unread(had: Counts) -> Answer
+    ensures { λ r. ⌜ r ≡ refusalOf had ⌝ }
+{
+    Answer {
+        number: had.number,
+        place: had.place,
+    }
 }
 
 // How many nodes the version of a side has: 0 the old one, 1 the new one, and none where there is no such side.

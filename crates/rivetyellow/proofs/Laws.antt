@@ -19,7 +19,7 @@ use Rattle.intake.specs.Ready.{JobRead, JobTold, Ready}
 use Rattle.intake.proofs.Laws.{program-of, program-refused}
 use Rattle.work.specs.Work.{Done}
 use Rattle.requests.specs.declared.Request.the-variants.{Check, Record, Sheet}
-use Rattle.requests.specs.Requests.{Served, asked}
+use Rattle.requests.specs.Requests.{Served, asked, refusalOf}
 
 -- A number and a place are those of an outcome.
 abbrev Numbered : Outcome → ℕ → ℕ → Type 0
@@ -111,9 +111,9 @@ module _ (old ow new nw tt tests rows : List ℕ) (had : Counts) (j : JobRead ol
       let a = goes (readJob old new tt) (j .told) z in
       told-as (outcome-goes (readJob old new tt) f (a .0) (a .1)) (k (a .0) (a .2))
 
-  pub whole-stop : (q : Asked) (input out : Bytes) → (had .number ≡ 0 → ⊥) → Told (answering q old new tt input (length out)) (record { number = had .number; place = had .place }) out out
+  pub whole-stop : (q : Asked) (input out : Bytes) (r : Answer) → (had .number ≡ 0 → ⊥) → r ≡ refusalOf had → Told (answering q old new tt input (length out)) r out out
   unfolding answering
-  whole-stop q input out z = job-stop _ out z
+  whole-stop q input out r z e = subst (λ (x : Answer). Told (answering q old new tt input (length out)) x out out) (sym e) (job-stop _ out z)
 
   pub whole-goes : (q : Asked) (input ol nl w w′ out out′ : List ℕ) (r : Answer) → had .number ≡ 0 → ol ≡ linksOf ow → nl ≡ linksOf nw
       → Done w w′ out out′ (Served q (memory old ow ol) (memory new nw nl) tt tests rows had input out r out′) → Told (answering q old new tt input (length out)) r out out′

@@ -79,10 +79,7 @@ fn whole_job(
     let mut rows = [0u64; 3200];
     let had = intake::read_job(old, new, tt, &mut ow, &mut nw, &mut tests, &mut rows);
     if had.number != 0 {
-        return Answer {
-            number: had.number,
-            place: had.place,
-        };
+        return requests::unread(had);
     }
     let mut w = [0usize; 16912];
     let ol = reader::links(&ow);

@@ -1,6 +1,6 @@
 use mathlib.Core.Path.{refl}
 use borrow.Author.Needs.{needs}
-use Rattle.job_calls.proofs.Laws.{all, call-goes, due-asks, due-few, unloads, wide}
+use Rattle.job_calls.proofs.Laws.{call-goes, call-stop, due-asks, due-few, unloads, wide}
 use Rattle.job_calls.proofs.call_in.Statement.{statement}
 use Rattle.job_calls.proofs.call_in.Tie as tie
 
@@ -31,11 +31,14 @@ slice-aggregate-due-2 c = search needs
 due-requires : tie.Need-due-requires
 due-requires c κs = search needs
 
+unread-requires : tie.Need-unread-requires
+unread-requires c κs = search needs
+
 same-length : tie.Need-same-length
 same-length c = search needs
 
 returns : tie.Need-returns
-returns c = search (all, needs)
+returns c = call-stop _ _ _ _ _ _ _ _ _ _ _ _ _ (unloads _ _ _ _ 0 refl (c .before .before .before .before .before .before .before .before .before .before .before .before .before .before .before .before .run .ensures) (c .before .before .before .before .before .before .before .before .before .before .before .before .before .before .before .copy .ensures)) (unloads _ _ _ _ 2048 refl (c .before .before .before .before .before .before .before .before .before .before .before .run2 .ensures) (c .before .before .before .before .before .before .before .before .before .before .copy2 .ensures)) _ _ (c .before .before .before .before .before .due .ensures) _ _ _ (c .before .if1 .taken) (c .unread .ensures)
 
 slice-aggregate-serve : tie.Need-slice-aggregate-serve
 slice-aggregate-serve c = search needs
@@ -68,6 +71,7 @@ call-in-spec =
     slice-aggregate-due
     slice-aggregate-due-2
     due-requires
+    unread-requires
     same-length
     returns
     slice-aggregate-serve

@@ -18,6 +18,9 @@ slice-aggregate-read-job-4 c = search needs
 read-job-requires : tie.Need-read-job-requires
 read-job-requires c κs = search needs
 
+unread-requires : tie.Need-unread-requires
+unread-requires c κs = search needs
+
 returns : tie.Need-returns
 returns c = search (all, needs)
 
@@ -66,6 +69,7 @@ whole-job-spec =
     slice-aggregate-read-job-3
     slice-aggregate-read-job-4
     read-job-requires
+    unread-requires
     returns
     slice-aggregate-links
     links-requires
