@@ -12,7 +12,7 @@ use Rattle.rules.specs.Closing.{MayGoOn, Pair, dangers, pairs}
 use Rattle.rules.specs.ProgramFile.{Listing}
 use Rattle.pairset.specs.Store.{dangerIn, newAt, oldAt, pairBase, pairsIn}
 use Rattle.versions.specs.Memory.{InMemory, Memory, memory}
-use Rattle.versions.specs.Held.{PairsHeld}
+use Rattle.versions.specs.PairsHeld.{PairsHeld}
 use Rattle.versions.specs.Groups.{InGroups}
 use Rattle.closure.specs.State.{AllDone, CallDone, EdgeDone, EdgesDone, EntriesDone, Formed, PairDone, PairFollowed, State, Step, Turn}
 

@@ -62,11 +62,11 @@ fn suite_due(job: Job, o: Count, p: Count, tt: &[u8], tests: &[usize], rows: &[u
 // holds afterwards is left open.
 fn due(
     job: Job,
-    olds: usize,
+    oldroom: usize,
     ot: &[u8],
     on: &[usize],
     ol: &[usize],
-    news: usize,
+    newroom: usize,
     nt: &[u8],
     nn: &[usize],
     nl: &[usize],
@@ -75,7 +75,7 @@ fn due(
     rows: &[u64],
     w: &mut [usize],
 ) -> Counts
-    ensures { λ r. ⌜ r ≡ dueCounts (goesBy (lentJob job (numbers olds (now (ot .entry)) (now (on .entry)) (now (ol .entry))) (numbers news (now (nt .entry)) (now (nn .entry)) (now (nl .entry))) (now (tt .entry)) (now (tests .entry)) (now (rows .entry)) (length (now (w .entry))))) ⌝ }
+    ensures { λ r. ⌜ r ≡ dueCounts (goesBy (lentJob job (numbers oldroom (now (ot .entry)) (now (on .entry)) (now (ol .entry))) (numbers newroom (now (nt .entry)) (now (nn .entry)) (now (nl .entry))) (now (tt .entry)) (now (tests .entry)) (now (rows .entry)) (length (now (w .entry))))) ⌝ }
 {
     if job.stage != 3 {
         return refused(13, 0);
@@ -83,11 +83,11 @@ fn due(
     if w.len() < 16912 {
         return refused(14, 0);
     }
-    let o = held::version_left(olds, ot, on, ol, w);
+    let o = held::version_left(oldroom, ot, on, ol, w);
     if o.number != 0 {
         return refused(14, 0);
     }
-    let p = held::version_left(news, nt, nn, nl, w);
+    let p = held::version_left(newroom, nt, nn, nl, w);
     if p.number != 0 {
         return refused(14, 0);
     }
@@ -99,8 +99,8 @@ fn due(
 // Does what is asked; the scratch is then the table of the pairs. What it holds afterwards is left open.
 fn call_in(
     job: Job,
-    olds: usize,
-    news: usize,
+    oldroom: usize,
+    newroom: usize,
     ot: &[u8],
     ol: &[usize],
     nt: &[u8],
@@ -113,7 +113,7 @@ fn call_in(
     w: &mut [usize],
     out: &mut [u8],
 ) -> Answer
-    ensures { λ r. ⌜ Told (lentCall (asked request) (loadedJob job olds (now (ot .entry)) (now (ol .entry)) news (now (nt .entry)) (now (nl .entry)) (now (tt .entry)) (now (tests .entry)) (now (rows .entry)) (now (w .entry))) (now (input .entry)) (length (now (out .entry)))) r (now (out .entry)) (now (out .exit)) ⌝ }
+    ensures { λ r. ⌜ Told (lentCall (asked request) (loadedJob job oldroom (now (ot .entry)) (now (ol .entry)) newroom (now (nt .entry)) (now (nl .entry)) (now (tt .entry)) (now (tests .entry)) (now (rows .entry)) (now (w .entry))) (now (input .entry)) (length (now (out .entry)))) r (now (out .entry)) (now (out .exit)) ⌝ }
 {
     let mut on = [0usize; 2048];
     let mut nn = [0usize; 2048];
@@ -121,11 +121,11 @@ fn call_in(
     copy(&mut nn, 0, run(w, 2048, 2048));
     let had = due(
         job,
-        olds,
+        oldroom,
         ot,
         &on,
         ol,
-        news,
+        newroom,
         nt,
         &nn,
         nl,
@@ -158,8 +158,8 @@ fn call_in(
 // Does what is asked, by the number of the request and two numbers that it may use; `input` is the text that it comes with.
 pub fn call_on(
     job: Job,
-    olds: usize,
-    news: usize,
+    oldroom: usize,
+    newroom: usize,
     ot: &[u8],
     ol: &[usize],
     nt: &[u8],
@@ -174,13 +174,13 @@ pub fn call_on(
     w: &mut [usize],
     out: &mut [u8],
 ) -> Answer
-    ensures { λ r. ⌜ CalledOn (lentCall (requestBy number a b) (loadedJob job olds (now (ot .entry)) (now (ol .entry)) news (now (nt .entry)) (now (nl .entry)) (now (tt .entry)) (now (tests .entry)) (now (rows .entry)) (now (w .entry))) (now (input .entry)) (length (now (out .entry)))) r (now (w .entry)) (now (w .exit)) (now (out .entry)) (now (out .exit)) ⌝ }
+    ensures { λ r. ⌜ CalledOn (lentCall (requestBy number a b) (loadedJob job oldroom (now (ot .entry)) (now (ol .entry)) newroom (now (nt .entry)) (now (nl .entry)) (now (tt .entry)) (now (tests .entry)) (now (rows .entry)) (now (w .entry))) (now (input .entry)) (length (now (out .entry)))) r (now (w .entry)) (now (w .exit)) (now (out .entry)) (now (out .exit)) ⌝ }
 {
     let request = requests::by_number(number, a, b);
     let answer = call_in(
         job,
-        olds,
-        news,
+        oldroom,
+        newroom,
         ot,
         ol,
         nt,
@@ -235,8 +235,8 @@ fn label_of(side: usize, olds: usize, on: &[usize], news: usize, nn: &[usize], n
 // Finds a label, by side and node number. The two texts have one lifetime, since those that `label_shown` hands on do.
 pub fn label_on<'a>(
     job: Job,
-    olds: usize,
-    news: usize,
+    oldroom: usize,
+    newroom: usize,
     ot: &'a [u8],
     ol: &[usize],
     nt: &'a [u8],
@@ -248,7 +248,7 @@ pub fn label_on<'a>(
     node: usize,
     w: &mut [usize],
 ) -> Label
-    ensures { λ r. ⌜ SpanIs (labelSpanCall (loadedJob job olds (now (ot .entry)) (now (ol .entry)) news (now (nt .entry)) (now (nl .entry)) (now (tt .entry)) (now (tests .entry)) (now (rows .entry)) (now (w .entry))) side node) r × (now (w .exit) ≡ replicate (length (now (w .entry))) 0) ⌝ }
+    ensures { λ r. ⌜ SpanIs (labelSpanCall (loadedJob job oldroom (now (ot .entry)) (now (ol .entry)) newroom (now (nt .entry)) (now (nl .entry)) (now (tt .entry)) (now (tests .entry)) (now (rows .entry)) (now (w .entry))) side node) r × (now (w .exit) ≡ replicate (length (now (w .entry))) 0) ⌝ }
 {
     let mut on = [0usize; 2048];
     let mut nn = [0usize; 2048];
@@ -256,11 +256,11 @@ pub fn label_on<'a>(
     copy(&mut nn, 0, run(w, 2048, 2048));
     let had = due(
         job,
-        olds,
+        oldroom,
         ot,
         &on,
         ol,
-        news,
+        newroom,
         nt,
         &nn,
         nl,

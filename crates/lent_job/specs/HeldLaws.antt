@@ -26,7 +26,7 @@ use Rattle.suite.specs.RowLaws.{suite-read}
 use Rattle.versions.specs.Memory.{InMemory, memory}
 use Rattle.program.specs.Lent.{isLeft}
 use Rattle.lent_tests.specs.Lent.{isLeft as testsLeft}
-use Rattle.lent_tests.specs.Held.{after-holds}
+use Rattle.lent_tests.specs.LeftLaws.{after-holds}
 use Rattle.records.specs.declared.Job.{Job}
 use Rattle.records.specs.declared.Node.{Node}
 use Rattle.records.specs.Jobs.{job-same}

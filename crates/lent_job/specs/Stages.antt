@@ -24,7 +24,7 @@ use Rattle.rules.specs.Proofs.ProgramLaws.{Sound}
 use Rattle.graph.specs.Table.{nodeRow, procRow, edgeRow, nodesAfter, linksAfter}
 use Rattle.program.specs.Lent.{isLeft}
 use Rattle.lent_tests.specs.Lent.{testRow, coverageRow, testsAfter, rowsAfter}
-use Rattle.lent_tests.specs.Held.{after-left}
+use Rattle.lent_tests.specs.LeftLaws.{after-left}
 use Rattle.records.specs.declared.Job.{Job}
 use Rattle.records.specs.declared.Node.{Node}
 use Rattle.records.specs.Jobs.{sameJob, job-self}

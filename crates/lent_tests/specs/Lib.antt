@@ -1,3 +1,3 @@
 -- What reading a test file leaves in lent tables, and that such tables hold the suite.
 pub mod Lent
-pub mod Held
+pub mod LeftLaws

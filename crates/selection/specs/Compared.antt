@@ -21,7 +21,7 @@ use Rattle.pairset.specs.StoreLaws.{listed-at, listed-of}
 use Rattle.versions.specs.Memory.{InMemory, memory}
 use Rattle.versions.specs.MemoryLaws.{well-formed}
 use Rattle.versions.specs.Found.{found-at}
-use Rattle.versions.specs.Held.{PairsHeld, goesOn-agree, joined-agree}
+use Rattle.versions.specs.PairsHeld.{PairsHeld, goesOn-agree, joined-agree}
 
 pub record Compared (on ol nn nl w : List ℕ) (c : ℕ) (o p : Listing) : Type 0 where
   pub old-text : Bytes

@@ -3,5 +3,5 @@ pub mod Memory
 pub mod MemoryLaws
 pub mod Found
 pub mod Claims
-pub mod Held
+pub mod PairsHeld
 pub mod Groups

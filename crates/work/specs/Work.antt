@@ -14,7 +14,7 @@ use Rattle.answer.specs.declared.Answer.{Answer}
 use Rattle.answer.specs.Outcomes.{Told}
 use Rattle.pairset.specs.Store.{pairBase}
 use Rattle.versions.specs.Memory.{InMemory, Memory, memory}
-use Rattle.versions.specs.Held.{PairsHeld}
+use Rattle.versions.specs.PairsHeld.{PairsHeld}
 use Rattle.selection.specs.Dangers.{DangerSet}
 use Rattle.intake.specs.declared.Counts.{Counts}
 use Rattle.intake.specs.Ready.{Ready}

@@ -25,7 +25,7 @@ use Rattle.pairset.specs.Store.{newAt, oldAt, pairsIn}
 use Rattle.pairset.specs.StoreLaws.{listed-of}
 use Rattle.suite.specs.Rows.{Holds, rowMeets, rowOnes}
 use Rattle.suite.specs.RowLaws.{common-meets, name-read, ones-are, suite-read}
-use Rattle.versions.specs.Held.{PairsHeld}
+use Rattle.versions.specs.PairsHeld.{PairsHeld}
 use Rattle.writer.specs.Laws.{asc-same, text-append, text-more, those-map, those-self}
 use Rattle.writer.specs.Writes.{Writes, writes-length}
 use Rattle.writer.specs.Texts.{dangerText, pairText, repeatText, shortName, tableText}

@@ -18,7 +18,7 @@ use Rattle.answer.specs.declared.Answer.{Answer}
 use Rattle.answer.specs.Outcomes.{Told}
 use Rattle.text.specs.Puts.{Puts}
 use Rattle.suite.specs.Rows.{Holds, rowOnes}
-use Rattle.versions.specs.Held.{PairsHeld}
+use Rattle.versions.specs.PairsHeld.{PairsHeld}
 use Rattle.writer.specs.Texts.{shortName}
 
 -- ---- answers
