@@ -1,4 +1,4 @@
--- P1 to P8, refusals, and runs, computed by the definitions from the texts to the bytes.
+-- P1 to P8, the change requests of document 02, refusals, and runs, computed by the definitions from the texts to the bytes.
 use mathlib.Core.Path.{_≡_, refl}
 use mathlib.Core.Bool.{Bool, true, false}
 use mathlib.Core.Option.{Option, none, some}
@@ -9,13 +9,15 @@ use Prim.Native.String.{String}
 use Rattle.laws.specs.Tests.{_and_, _or_, _⇒_, isnt, every, any, orElse, ifTrue, first, plus, count, those, has, anyOf, listed, allPairs, anyPair, pick, gridRow, grid, firstFailed, choose, none?, after}
 use Rattle.rules.specs.Text.{Bytes, same, empty, bytes, maxBytes, then, unless, onto, split, joinBy, textOf, between, allBytes, nameByte, labelByte, wordByte, digitByte, isName, isLabel, isWord, isNumber, valueFrom, digits, decimal, readLines, readText, Reading, accepted, refused}
 use Rattle.rules.specs.Graph.{sameKind, orZero, isOf, entry, exit, procOf, leaves, edgeTaken, degree, worded, Program, called}
-use Rattle.rules.specs.ProgramFile.{kindOf, isNode, isEdge, formOf, hasEdge, named, isNodeOf, hasWord, degreeFine, complete, lost, takeLine, stepProgram, finishProgram, readListing, readProgram}
+use Rattle.rules.specs.ProgramFile.{Listing, kindOf, isNode, isEdge, formOf, hasEdge, named, isNodeOf, hasWord, degreeFine, complete, lost, takeLine, stepProgram, finishProgram, readListing, readProgram}
 use Rattle.rules.specs.SuiteFile.{testForm, hexByte, hexValue, bitsOf, noneSet, rowFine, tested, takeTest, stepSuite, readTests, readSuite}
 use Rattle.rules.specs.Run.{Meaning, crossing, edgeAhead, ended, endedAt, listOf, run, start, step, stepAt, trail}
 use Rattle.rules.specs.Closing.{alike, fits, bothCall, fitted, goesOn, joined, byStart, byCall, byEdge, follows, grown, dangerousAt, dangerous, closed, pairs, dangers, meets, repeated, carries, carriesOnly, mark, sameCallee, sameLabel, sameWord}
 use Rattle.rules.specs.Sheet.{selected, mLine, dLine, rLine, endLine, sheetLines, sheetText, markByte, marksOf, crossed, vLine, recordText, sheetForm, before, allBelow, testOf, takeSheetLine, stepSheet, finishSheet, readSheet}
 use Rattle.rules.specs.Check.{entered, keeps, edgeKept, edgesKept, rule1, rule2, rule3, rule4, rule5, broken}
-use Rattle.rules.specs.Job.{Outcome, wrote, refusal, passed, outcome, readJob, writing, sheetBytes, recordBytes, sheetAnswer, recordAnswer, judged, checkAnswer, serving, answering}
+use Rattle.rules.specs.Job.{Outcome, wrote, refusal, passed, outcome, readJob, written, writing, sheetBytes, recordBytes, sheetAnswer, recordAnswer, judged, checkAnswer, bySide, writingBack, programAnswer, serving, answering}
+use Rattle.rules.specs.Layout.{edgeLine, linesOfThose, nodeLine, procLine, procLines, programLines, writeProgram}
+use Rattle.rules.specs.WriteBack.{inPart, ofParts, otherAlone}
 
 -- A job: the texts of the old program, the new one and the tests.
 record Job : Type 0 where
@@ -23,7 +25,7 @@ record Job : Type 0 where
   new : Bytes
   tests : Bytes
 
--- An example: what a call answers, and what document 01 says.
+-- An example: what a call answers, and what the documents say.
 abbrev pub Example : Type 0
 Example = Outcome × Outcome
 
@@ -108,6 +110,22 @@ examples =
     ∷ checks p2 "sheet,1\nM,0,0\nM,1,1\nM,3,3\nM,4,4\nR,t2\nend,4,0,1\n" (refusal 12 4)
     ∷ []
 
+-- ---- programs written back (document 02, job 1)
+
+-- The program of a side, into an output of `room` bytes.
+back : Job → ℕ → ℕ → Outcome → Example
+back j side room o = (programAnswer (j .old) (j .new) (j .tests) side room, o)
+
+pub backs : List Example
+unfolding back p2 job layers by-layer two-tests calls-itself up
+backs =
+    back p2 0 maxBytes (wrote (bytes layers))
+    ∷ back p2 1 113 (wrote (bytes by-layer))
+    ∷ back p2 1 112 (refusal 16 0)
+    ∷ back p2 2 0 (refusal 6 0)
+    ∷ back (job calls-itself up "") 0 maxBytes (wrote (bytes calls-itself))
+    ∷ []
+
 -- ---- refusals
 
 -- The text t, n times.
@@ -172,9 +190,9 @@ refusals =
 
 -- ---- the statement
 
--- The definitions answer P1 to P8, and the refusals, as document 01 says: one statement over their list, by computation.
-pub examples-answered : answered (examples ++ refusals) ≡ true
-unfolding answered sameOutcome examples refusals
+-- The definitions answer P1 to P8, and the refusals, as document 01 says, and the change requests as document 02 does: one statement over their list, by computation.
+pub examples-answered : answered (examples ++ (backs ++ refusals)) ≡ true
+unfolding answered sameOutcome examples backs refusals
     _and_ _or_ _⇒_ isnt choose every any orElse ifTrue first plus count those has anyOf listed allPairs anyPair pick gridRow grid firstFailed none?
     same empty onto split joinBy textOf between allBytes nameByte labelByte wordByte digitByte isName isLabel isWord isNumber valueFrom digits decimal then unless readLines readText
     sameKind orZero isOf entry exit procOf called leaves edgeTaken degree worded
@@ -183,7 +201,8 @@ unfolding answered sameOutcome examples refusals
     sameLabel sameCallee sameWord alike fits bothCall fitted goesOn joined byStart byCall byEdge follows grown dangerousAt dangerous closed pairs dangers meets repeated carries carriesOnly mark
     selected mLine dLine rLine endLine sheetLines sheetText markByte marksOf crossed vLine recordText sheetForm before allBelow testOf takeSheetLine stepSheet finishSheet readSheet
     entered keeps edgeKept edgesKept rule1 rule2 rule3 rule4 rule5 broken
-    outcome readJob writing sheetBytes recordBytes judged serving answering
+    outcome readJob written writing sheetBytes recordBytes judged serving answering
+    edgeLine linesOfThose nodeLine procLine procLines programLines writeProgram bySide writingBack
 examples-answered = refl
 
 -- ---- runs
@@ -231,3 +250,28 @@ unfolding ran layers by-layer returning nested stopping run step stepAt start tr
     sameKind orZero isOf entry exit procOf called leaves edgeTaken degree worded
     kindOf isNode isEdge formOf hasEdge named isNodeOf hasWord degreeFine complete lost takeLine stepProgram finishProgram readListing readProgram
 runs-computed = (refl, refl, refl, refl, refl, refl)
+
+-- ---- other bytes than names, callees, labels and words (document 02, job 1)
+
+-- The text differs from t, which is accepted, in other bytes alone.
+alone : String → String → Bool
+alone text t = opened (readListing (bytes t))
+  where
+    opened : Reading Listing → Bool
+    opened (refused n p) = false
+    opened (accepted s) = otherAlone (bytes text) (bytes t) s
+
+-- All other bytes may differ, but no byte of a name, a label, a callee or a word; and the text is neither longer nor shorter.
+alone-computed : (alone "xxupxxxxxxxxxxxwindxupxxxxxxxxxxx-xxxxxxx-xxx" calls-itself ≡ true)
+    × (alone "xxu?xxxxxxxxxxxwindxupxxxxxxxxxxx-xxxxxxx-xxx" calls-itself ≡ false)
+    × (alone "xxupxxxxxxxxxxxwin?xupxxxxxxxxxxx-xxxxxxx-xxx" calls-itself ≡ false)
+    × (alone "xxupxxxxxxxxxxxwindx?pxxxxxxxxxxx-xxxxxxx-xxx" calls-itself ≡ false)
+    × (alone "xxupxxxxxxxxxxxwindxupxxxxxxxxxxx-xxxxxxx?xxx" calls-itself ≡ false)
+    × (alone "xxupxxxxxxxxxxxwindxupxxxxxxxxxxx-xxxxxxx-xxxx" calls-itself ≡ false)
+    × (alone "xxupxxxxxxxxxxxwindxupxxxxxxxxxxx-xxxxxxx-xx" calls-itself ≡ false)
+unfolding alone calls-itself otherAlone ofParts inPart
+    _and_ _or_ _⇒_ isnt choose every any orElse ifTrue first plus count
+    same empty onto split between allBytes nameByte labelByte wordByte digitByte isName isLabel isWord isNumber valueFrom then unless readLines readText
+    sameKind orZero isOf entry exit procOf called leaves edgeTaken degree worded
+    kindOf isNode isEdge formOf hasEdge named isNodeOf hasWord degreeFine complete lost takeLine stepProgram finishProgram readListing
+alone-computed = (refl, refl, refl, refl, refl, refl, refl)

@@ -13,21 +13,24 @@ use Rattle.rules.specs.SuiteFile.{TestListing, Suite, coverageAt, readSu
 use Rattle.rules.specs.Closing.{pairs}
 use Rattle.rules.specs.Sheet.{Sheet, readSheet, recordText, selected, sheetText}
 use Rattle.rules.specs.Check.{broken}
+use Rattle.rules.specs.Layout.{writeProgram}
 
 -- ---- stages
 
--- What is asked of a job that has read its tests: write the sheet; write the record line of the test i; check a sheet; show the label of the node n of a side; no request that there is.
+-- What is asked of a job that has read its tests: write the sheet; write the record line of the test i; check a sheet; show the label of the node n of a side; write the program of a
+-- side back; no request that there is.
 pub data Request : Type 0 where
   write-sheet : Request
   write-record : ℕ → Request
   check-sheet : Request
   show-label : ℕ → ℕ → Request
+  write-program : ℕ → Request
   no-request : Request
 
 -- A request as a C program gives it: by its number, with two numbers that it may use.
 unfoldable pub requestBy : ℕ → ℕ → ℕ → Request
 requestBy n a b =
-    choose (eqb n 0) write-sheet (choose (eqb n 1) (write-record a) (choose (eqb n 2) check-sheet (choose (eqb n 3) (show-label a b) no-request)))
+    choose (eqb n 0) write-sheet (choose (eqb n 1) (write-record a) (choose (eqb n 2) check-sheet (choose (eqb n 3) (show-label a b) (choose (eqb n 4) (write-program a) no-request))))
 
 -- The calls of a job; every request is made by one.
 pub data Call : Type 0 where
@@ -119,9 +122,13 @@ readTestsAnswer old new tests = outcome (readJob old new tests) (λ g. success)
 
 -- ---- writing
 
--- `over`: more than `limit` pairs exist; 16: the output, of `room` bytes, is shorter than what must be written.
+-- 16: the output, of `room` bytes, is shorter than what must be written.
+unfoldable pub written : ℕ → Bytes → Outcome
+written room b = choose (ltb room (length b)) (refusal 16 0) (wrote b)
+
+-- `over`: more than `limit` pairs exist; then 16.
 unfoldable pub writing : ℕ → ℕ → Given → ℕ → Bytes → Outcome
-writing limit over g room b = choose (ltb limit (length (pairs (g .old) (g .new)))) (refusal over 0) (choose (ltb room (length b)) (refusal 16 0) (wrote b))
+writing limit over g room b = choose (ltb limit (length (pairs (g .old) (g .new)))) (refusal over 0) (written room b)
 
 -- The sheet that the selector writes; the record line of the test i.
 unfoldable pub sheetBytes : Given → Bytes
@@ -192,6 +199,12 @@ spanShown old new side n = after (bySide old new side) nowhere (λ v. choose (ha
 unfoldable pub packedSpan : Span → ℕ
 packedSpan s = s .start * 4294967296 + s .len
 
+-- ---- writing a program back (document 02, job 1)
+
+-- Write the program of a side back, as a file: 6 where there is no such side.
+unfoldable pub writingBack : Given → ℕ → ℕ → Outcome
+writingBack g side room = after (bySide (g .old) (g .new) side) (refusal 6 0) (λ p. written room (writeProgram p))
+
 -- ---- requests
 
 -- What is asked, of what the texts give, with the text that the request comes with (the sheet to check; the others come with none) and an output of `room` bytes. 6 where nothing is.
@@ -200,6 +213,7 @@ serving write-sheet g input room = writing maxPairs tooMany g room (sheetBytes g
 serving (write-record i) g input room = recording maxPairs tooMany g i room
 serving check-sheet g input room = checking maxPairs g input
 serving (show-label side n) g input room = labelling g side n
+serving (write-program side) g input room = writingBack g side room
 serving no-request g input room = refusal 6 0
 
 -- The same, of the texts of a job.
@@ -218,3 +232,6 @@ checkAnswer old new tests sheet = answering check-sheet old new tests sheet 0
 
 abbrev pub labelAnswer : Bytes → Bytes → Bytes → ℕ → ℕ → Outcome
 labelAnswer old new tests side n = answering (show-label side n) old new tests [] 0
+
+abbrev pub programAnswer : Bytes → Bytes → Bytes → ℕ → ℕ → Outcome
+programAnswer old new tests side room = answering (write-program side) old new tests [] room

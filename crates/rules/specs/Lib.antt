@@ -11,6 +11,8 @@ pub mod Job
 -- The layouts said without reading, and where the parts of a text stand.
 pub mod Layout
 pub mod Places
+-- What the change requests of document 02 add beside requests, in their order.
+pub mod WriteBack
 -- What is promised, as statements; their proofs; P1 to P8, computed.
 pub mod Promises
 pub mod Theorems

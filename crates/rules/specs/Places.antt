@@ -1,6 +1,6 @@
 -- What reading leaves of places: the offsets and line numbers lead to the parts of the text. The tables hold these places.
 use mathlib.Core.Path.{_≡_}
-use mathlib.Core.List.{List, [], _++_}
+use mathlib.Core.List.{List, [], _∷_, _++_}
 use Prim.Native.Nat.{ℕ, _-_, _≤_, _<_}
 use lib.ListN.{length, getD}
 use Rattle.rules.specs.Text.{Bytes, linesOf}
@@ -28,10 +28,11 @@ pub record OnLines {A : Type 0} (lines : List Bytes) (d : A) (line-of : A → By
   pub lines-are : (n : ℕ) → n < length values → getD lines (getD numbers n 0 - 1) [] ≡ line-of (getD values n d)
   pub ascend : (m n : ℕ) → m < n → n < length values → getD numbers m 0 < getD numbers n 0
 
--- The names, labels and words of a program that was read stand at their offsets in the text; its P and N lines at their numbers.
+-- The names, labels and words of a program that was read stand at their offsets in the text, a callee behind its label and a comma; its P and N lines at their numbers.
 pub record Placed (text : Bytes) (s : Listing) : Type 0 where
   pub names : Starts text [] (λ (n : Bytes). n) (s .program .procs) (s .places .nameStarts)
   pub labels : Starts text noNode (λ (v : Node). v .label) (s .program .nodes) (s .places .labelStarts)
+  pub callees : Starts text noNode (λ (v : Node). v .label ++ (44 ∷ v .callee)) (s .program .nodes) (s .places .labelStarts)
   pub words : Starts text noEdge (λ (x : Edge). x .word) (s .program .edges) (s .places .wordStarts)
   pub procLinesAre : OnLines (linesOf text) [] procLine (s .program .procs) (s .places .procLines)
   pub nodeLinesAre : OnLines (linesOf text) noNode nodeLine (s .program .nodes) (s .places .nodeLines)

@@ -17,9 +17,10 @@ use Rattle.rules.specs.Run.{Config, Meaning, ended, run, start, trail}
 use Rattle.rules.specs.Closing.{Counterparts, Coverage, Dangerous, Pair, alike, dangers, fits, holds, joined, pairs, repeated}
 use Rattle.rules.specs.Sheet.{Sheet, SheetLine, crossed, d-line, end-line, head-line, leftOff, m-line, no-form, r-line, rLine, sheetForm, sheetLines, sheetText, vLine}
 use Rattle.rules.specs.Check.{rule1, rule2, rule3, rule4, rule5}
-use Rattle.rules.specs.Job.{Given, Outcome, Request, Version, answering, check-sheet, checkAnswer, givenOf, labelPart, labelShown, labelSpan, lastNumber, no-request, numberOf, outputAfter, packed, packedSpan, passed, placeOf, readJob, readNewAnswer, readOldAnswer, readTestsAnswer, recordAnswer, recordBytes, refusal, requestBy, serving, sheetAnswer, sheetBytes, show-label, spanShown, success, write-record, write-sheet, wrote}
+use Rattle.rules.specs.Job.{Given, Outcome, Request, Version, answering, check-sheet, checkAnswer, givenOf, labelPart, labelShown, labelSpan, lastNumber, no-request, numberOf, outputAfter, packed, packedSpan, passed, placeOf, programAnswer, readJob, readNewAnswer, readOldAnswer, readTestsAnswer, recordAnswer, recordBytes, refusal, requestBy, serving, sheetAnswer, sheetBytes, show-label, spanShown, success, write-program, write-record, write-sheet, written, wrote}
 use Rattle.rules.specs.Layout.{Follows, SheetFollows, SuiteFollows, writeProgram, writeSuite}
 use Rattle.rules.specs.Places.{Placed, TestsPlaced}
+use Rattle.rules.specs.WriteBack.{SameParts, otherAlone}
 
 -- ==== demand 1: what the calls answer, each number for its one reason
 
@@ -50,6 +51,7 @@ requestNumbers write-sheet = tooMany ∷ 16 ∷ []
 requestNumbers (write-record i) = 6 ∷ tooMany ∷ 16 ∷ []
 requestNumbers check-sheet = 1 ∷ 2 ∷ 4 ∷ 11 ∷ 12 ∷ []
 requestNumbers (show-label side n) = 6 ∷ []
+requestNumbers (write-program side) = 6 ∷ 16 ∷ []
 requestNumbers no-request = 6 ∷ []
 
 -- The numbers that reading a program, reading a test file and a request may give.
@@ -96,7 +98,8 @@ pub record RequestsNumbered : Type 0 where
   pub record-1 : (a b : ℕ) → requestBy 1 a b ≡ write-record a
   pub check-2 : (a b : ℕ) → requestBy 2 a b ≡ check-sheet
   pub label-3 : (a b : ℕ) → requestBy 3 a b ≡ show-label a b
-  pub unnamed : (old new tests : Bytes) (g : Given) → readJob old new tests ≡ accepted g → (n a b : ℕ) (input : Bytes) (room : ℕ) → 3 < n
+  pub program-4 : (a b : ℕ) → requestBy 4 a b ≡ write-program a
+  pub unnamed : (old new tests : Bytes) (g : Given) → readJob old new tests ≡ accepted g → (n a b : ℕ) (input : Bytes) (room : ℕ) → 4 < n
       → answering (requestBy n a b) old new tests input room ≡ refusal 6 0
 
 -- Which requests come with a text, and which write. A text that a request does not come with, and an output that it does not write to, are of no matter.
@@ -105,6 +108,7 @@ comesWithText write-sheet = false
 comesWithText (write-record i) = false
 comesWithText check-sheet = true
 comesWithText (show-label side n) = false
+comesWithText (write-program side) = false
 comesWithText no-request = false
 
 abbrev pub writes : Request → Bool
@@ -112,6 +116,7 @@ writes write-sheet = true
 writes (write-record i) = true
 writes check-sheet = false
 writes (show-label side n) = false
+writes (write-program side) = true
 writes no-request = false
 
 pub record UnusedIgnored (q : Request) (old new tests : Bytes) : Type 0 where
@@ -298,6 +303,25 @@ pub record Demand2 (old new tests : Bytes) : Type 0 where
   pub sheet-exact : (room : ℕ) (sheet : Bytes) → sheetAnswer old new tests room ≡ wrote sheet → (g : Given) × (readJob old new tests ≡ accepted g) × SheetExact g sheet
   pub line-exact : (i room : ℕ) (line : Bytes) → recordAnswer old new tests i room ≡ wrote line
       → (g : Given) × (readJob old new tests ≡ accepted g) × (i < testCount (g .suite)) × LineExact (g .old) (g .new) (testName (g .suite) i) (coverageAt (g .suite) i) line
+
+-- ---- programs written back (document 02, job 1)
+
+-- Every accepted file read and written is unchanged byte for byte.
+abbrev pub WrittenUnchanged : Type 0
+WrittenUnchanged = (text : Bytes) (p : Program) → readProgram text ≡ accepted p → writeProgram p ≡ text
+
+-- The call writes the text of its side, 0 the old one and 1 the new one, or refuses with 16; of another side it refuses with 6.
+pub record ProgramsBack (old new tests : Bytes) (room : ℕ) : Type 0 where
+  pub old-back : programAnswer old new tests 0 room ≡ written room old
+  pub new-back : programAnswer old new tests 1 room ≡ written room new
+  pub no-side : (side : ℕ) → 1 < side → programAnswer old new tests side room ≡ refusal 6 0
+
+abbrev pub BackExactly : Type 0
+BackExactly = (old new tests : Bytes) (g : Given) → readJob old new tests ≡ accepted g → (room : ℕ) → ProgramsBack old new tests room
+
+-- A text differs from one that is read in other bytes than names, callees, labels and words alone exactly if it is as long and has these at their places.
+abbrev pub OtherBytesAlone : Type 0
+OtherBytesAlone = (text t : Bytes) (s : Listing) → readListing t ≡ accepted s → (otherAlone text t s ≡ true) ↔ SameParts text t s
 
 -- ==== demand 3: a test that is left off goes the same
 

@@ -12,11 +12,12 @@ pub mod Marks
 pub mod JobLaws
 pub mod ReadBack
 pub mod Numbers
-pub mod Answers
 pub mod WriteProgram
 pub mod WriteSuite
 pub mod SheetLayout
 pub mod Places
+pub mod BackLaws
+pub mod Answers
 pub mod Selection
 pub mod Written
 pub mod Exported

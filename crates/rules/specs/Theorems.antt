@@ -10,6 +10,7 @@ use Rattle.rules.specs.Job.{Request, Version}
 use Rattle.rules.specs.Promises.{
   AlikeExact,
   AnswersPlain,
+  BackExactly,
   ClaimsFalse,
   ClosingRulesExact,
   Demand2,
@@ -22,6 +23,7 @@ use Rattle.rules.specs.Promises.{
   LineMissing,
   LookupsExact,
   NumbersGiven,
+  OtherBytesAlone,
   PassesExactly,
   ProgramLayout,
   ProgramPlaced,
@@ -38,8 +40,10 @@ use Rattle.rules.specs.Promises.{
   Unpacks,
   UnusedIgnored,
   WritesExactly,
+  WrittenUnchanged,
 }
 use Rattle.rules.specs.Proofs.Answers as Answers
+use Rattle.rules.specs.Proofs.BackLaws.{alone-by-parts, back-unchanged, programs-back}
 use Rattle.rules.specs.Proofs.Checked as Checked
 use Rattle.rules.specs.Proofs.Closure.{exact}
 use Rattle.rules.specs.Proofs.Exported.{exported, returned}
@@ -133,6 +137,15 @@ closing-rules-exact old new p p′ e e′ = exact p p′ (read-well-formed old p
 
 pub demand2 : (old new tests : Bytes) → Demand2 old new tests
 demand2 = selection-exact
+
+pub written-unchanged : WrittenUnchanged
+written-unchanged = back-unchanged
+
+pub back-exactly : BackExactly
+back-exactly = programs-back
+
+pub other-bytes-alone : OtherBytesAlone
+other-bytes-alone = alone-by-parts
 
 -- ---- demand 3
 

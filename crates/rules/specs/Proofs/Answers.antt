@@ -18,8 +18,10 @@ use Rattle.rules.specs.SuiteFile.{coverageAt, readSuite, testName}
 use Rattle.rules.specs.Closing.{Coverage, holds}
 use Rattle.rules.specs.Sheet.{Sheet, crossed, marksOf, readSheet, recordText, vLine}
 use Rattle.rules.specs.Check.{broken, rule1, rule2, rule3, rule4, rule5}
-use Rattle.rules.specs.Job.{Given, Outcome, Request, answering, bySide, check-sheet, checkAnswer, checking, judged, labelling, lastNumber, no-request, outcome, passed, readJob, readNewAnswer, readOldAnswer, readTestsAnswer, recordAnswer, recordBytes, refusal, serving, sheetBytes, show-label, success, write-record, write-sheet, writing, wrote}
+use Rattle.rules.specs.Job.{Given, Outcome, Request, answering, bySide, check-sheet, checkAnswer, checking, judged, labelling, lastNumber, no-request, outcome, passed, readJob, readNewAnswer, readOldAnswer, readTestsAnswer, recordAnswer, recordBytes, refusal, serving, sheetBytes, show-label, success, write-program, write-record, write-sheet, writing, writingBack, written, wrote}
+use Rattle.rules.specs.Layout.{writeProgram}
 use Rattle.rules.specs.Promises.{AnswersPlain, NumbersGiven, Plain, TooLong, requestNumbers}
+use Rattle.rules.specs.Proofs.BackLaws.{back-short}
 use Rattle.rules.specs.Proofs.JobLaws.{known, marks-length, outcome-wrote, record-wrote, wrote-choose, wrote-same}
 use Rattle.rules.specs.Proofs.Numbers.{Any, Good, Refusal, allOf, big, good-number, job-good, passes-of, program-good, program-long, programNumbers, sheet-good, sheet-long, sheetNumbers, suite-good, suite-long, suiteNumbers}
 use Rattle.rules.specs.Proofs.ReadBack.{name-short, written-passes}
@@ -47,9 +49,13 @@ told-number : (ks : List ℕ) (o : Outcome) (k p : ℕ) → Told ks o → o ≡ 
 told-number ks (wrote b) k p t e = absurd (true≢false (let z : true ≡ false = cc in z))
 told-number ks (refusal j q) k p t e = subst (λ (i : ℕ). has ks i ≡ true) (let z : j ≡ k = cc in z) (t .0)
 
+written-told : (ks : List ℕ) (room : ℕ) (b : Bytes) → has ks 16 ≡ true → Told ks (written room b)
+unfolding written
+written-told ks room b k = choose-told ks _ _ _ (k, let z : 0 < big = omega arith in z) tt
+
 writing-told : (ks : List ℕ) (limit over : ℕ) (g : Given) (room : ℕ) (b : Bytes) → has ks over ≡ true → has ks 16 ≡ true → Told ks (writing limit over g room b)
 unfolding writing
-writing-told ks limit over g room b h k = choose-told ks _ _ _ (h, let z : 0 < big = omega arith in z) (choose-told ks _ _ _ (k, let z : 0 < big = omega arith in z) tt)
+writing-told ks limit over g room b h k = choose-told ks _ _ _ (h, let z : 0 < big = omega arith in z) (written-told ks room b k)
 
 -- The place of a broken rule is at most 5.
 failed-few : (k : ℕ) (l : List Bool) → firstFailed k l ≤ k + length l
@@ -131,7 +137,7 @@ record-short old new tests i room b e =
 
 -- Each request is refused only with its numbers.
 serving-told : (q : Request) (g : Given) (input : Bytes) (room : ℕ) → Told (requestNumbers q) (serving q g input room)
-unfolding serving labelling bySide has _or_
+unfolding serving labelling writingBack bySide has _or_
 serving-told write-sheet g input room = writing-told (requestNumbers write-sheet) maxPairs tooMany g room (sheetBytes g) refl refl
 serving-told (write-record i) g input room =
     choose-told (requestNumbers (write-record i)) _ _ _ (writing-told (requestNumbers (write-record i)) maxPairs tooMany g room (recordBytes g i) refl refl) (refl, let z : 0 < big = omega arith in z)
@@ -139,6 +145,9 @@ serving-told check-sheet g input room = checking-told maxPairs g input
 serving-told (show-label zero n) g input room = choose-told (requestNumbers (show-label zero n)) _ _ _ tt (refl, let z : 0 < big = omega arith in z)
 serving-told (show-label (suc zero) n) g input room = choose-told (requestNumbers (show-label (suc zero) n)) _ _ _ tt (refl, let z : 0 < big = omega arith in z)
 serving-told (show-label (suc (suc side)) n) g input room = (refl, let z : 0 < big = omega arith in z)
+serving-told (write-program zero) g input room = written-told (requestNumbers (write-program zero)) room (writeProgram (g .old)) refl
+serving-told (write-program (suc zero)) g input room = written-told (requestNumbers (write-program (suc zero))) room (writeProgram (g .new)) refl
+serving-told (write-program (suc (suc side))) g input room = (refl, let z : 0 < big = omega arith in z)
 serving-told no-request g input room = (refl, let z : 0 < big = omega arith in z)
 
 -- They are some of all.
@@ -148,6 +157,7 @@ numbers-few write-sheet = refl
 numbers-few (write-record i) = refl
 numbers-few check-sheet = refl
 numbers-few (show-label side n) = refl
+numbers-few (write-program side) = refl
 numbers-few no-request = refl
 
 -- To show a label writes nothing.
@@ -164,6 +174,7 @@ answering-short write-sheet old new tests input room b e = omega (arith, written
 answering-short (write-record i) old new tests input room b e = omega (arith, record-short old new tests i room b e)
 answering-short check-sheet old new tests input room b e = unwritten _ (success-only _ _ (λ g. success-only _ _ (judged-wrote g))) b e
 answering-short (show-label side n) old new tests input room b e = unwritten _ (success-only _ _ (λ g. labelling-wrote g side n)) b e
+answering-short (write-program side) old new tests input room b e = omega (arith, back-short old new tests side room b e)
 answering-short no-request old new tests input room b e = unwritten _ (success-only _ _ (λ g c f. absurd (true≢false (let z : true ≡ false = cc in z)))) b e
 
 pub plain-answers : (old new tests : Bytes) → AnswersPlain old new tests

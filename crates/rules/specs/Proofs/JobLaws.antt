@@ -18,7 +18,7 @@ use Rattle.rules.specs.SuiteFile.{Suite, testCount, testName, coverageAt
 use Rattle.rules.specs.Closing.{pairs, repeated, Coverage, holds, Mark, mark-0, mark-1, mark-?, mark}
 use Rattle.rules.specs.Sheet.{Sheet, selected, rLine, sheetText, markByte, marksOf, crossed, vLine, recordText, among, leftOff, SheetLine, head-line, m-line, d-line, r-line, end-line, no-form, sheetForm, SheetRead, noSheet, allBelow, testOf, going, addR, takeSheetLine, stepSheet, finishSheet, readSheet}
 use Rattle.rules.specs.Check.{broken}
-use Rattle.rules.specs.Job.{Given, readJob, Outcome, wrote, refusal, passed, outcome, writing, sheetBytes, recordBytes, sheetAnswer, recordAnswer, judged, checkAnswer, serving, answering}
+use Rattle.rules.specs.Job.{Given, readJob, Outcome, wrote, refusal, passed, outcome, writing, written, sheetBytes, recordBytes, sheetAnswer, recordAnswer, judged, checkAnswer, serving, answering}
 use Rattle.rules.specs.Promises.{RunsAlike, MarksTrue}
 use Rattle.rules.specs.Proofs.Lockstep.{checked}
 use Rattle.rules.specs.Proofs.Marks.{marks-true}
@@ -83,12 +83,16 @@ pub never-wrote : {b : Bytes} {k p : ℕ} → wrote b ≡ refusal k p → ⊥
 never-wrote e = true≢false (let z : true ≡ false = cc in z)
 
 -- Something was written: not too many pairs, room enough, and these are the bytes.
+pub written-wrote : (room : ℕ) (b c : Bytes) → written room b ≡ wrote c → (length b ≤ room) × (b ≡ c)
+unfolding written
+written-wrote room b c e = let v = choose-wrote _ _ _ _ _ e in (ltb-false _ _ (v .0), wrote-same (v .1))
+
 pub writing-wrote : (limit over : ℕ) (g : Given) (room : ℕ) (b c : Bytes) → writing limit over g room b ≡ wrote c → (length (pairs (g .old) (g .new)) ≤ limit) × (length b ≤ room) × (b ≡ c)
 unfolding writing
 writing-wrote limit over g room b c e =
     let u = choose-wrote _ _ _ _ _ e in
-    let v = choose-wrote _ _ _ _ _ (u .1) in
-    (ltb-false _ _ (u .0), ltb-false _ _ (v .0), wrote-same (v .1))
+    let v = written-wrote room b c (u .1) in
+    (ltb-false _ _ (u .0), v .0, v .1)
 
 -- ---- R lines of a sheet that was read
 

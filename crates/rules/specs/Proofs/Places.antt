@@ -174,6 +174,7 @@ line-taken n at s malformed t e = absurd (true≢false (let z : true ≡ false =
 record Sofar (ls : List Bytes) (s : Listing) : Type 0 where
   names : Starts (textOf ls) [] (λ (n : Bytes). n) (s .program .procs) (s .places .nameStarts)
   labels : Starts (textOf ls) noNode (λ (v : Node). v .label) (s .program .nodes) (s .places .labelStarts)
+  callees : Starts (textOf ls) noNode (λ (v : Node). v .label ++ (44 ∷ v .callee)) (s .program .nodes) (s .places .labelStarts)
   words : Starts (textOf ls) noEdge (λ (x : Edge). x .word) (s .program .edges) (s .places .wordStarts)
   on-procs : OnLines ls [] procLine (s .program .procs) (s .places .procLines)
   on-nodes : OnLines ls noNode nodeLine (s .program .nodes) (s .places .nodeLines)
@@ -184,6 +185,7 @@ sofar-more ls l s p =
     record {
       names = starts-line ls l _ _ _ _ (p .names);
       labels = starts-line ls l _ _ _ _ (p .labels);
+      callees = starts-line ls l _ _ _ _ (p .callees);
       words = starts-line ls l _ _ _ _ (p .words);
       on-procs = lines-more ls (l ∷ []) _ _ _ _ (p .on-procs);
       on-nodes = lines-more ls (l ∷ []) _ _ _ _ (p .on-nodes);
@@ -204,6 +206,7 @@ sofar-line ls l s (proc-line name) f p =
     record {
       names = starts-add _ [] (λ (n : Bytes). n) (s .program .procs) (s .places .nameStarts) name _ (q .names) (part-new ls (bytes "P,") name [] l _ is refl);
       labels = q .labels;
+      callees = q .callees;
       words = q .words;
       on-procs = lines-add ls l [] procLine (s .program .procs) (s .places .procLines) name line (p .on-procs);
       on-nodes = q .on-nodes;
@@ -218,6 +221,8 @@ sofar-line ls l s (node-line kind label callee) f p =
     record {
       names = q .names;
       labels = starts-add _ noNode (λ (v : Node). v .label) (s .program .nodes) (s .places .labelStarts) v _ (q .labels) (part-new ls front label (44 ∷ callee) l _ is (omega arith));
+      callees = starts-add _ noNode (λ (v : Node). v .label ++ (44 ∷ v .callee)) (s .program .nodes) (s .places .labelStarts) v _ (q .callees)
+          (part-new ls front (label ++ (44 ∷ callee)) [] l _ (is ∙ ap (λ (r : Bytes). front ++ r) (sym (append-nil (label ++ (44 ∷ callee))))) (omega arith));
       words = q .words;
       on-procs = q .on-procs;
       on-nodes = lines-add ls l noNode nodeLine (s .program .nodes) (s .places .nodeLines) v line (p .on-nodes);
@@ -231,6 +236,7 @@ sofar-line ls l s (edge-line from word to) f p =
     record {
       names = q .names;
       labels = q .labels;
+      callees = q .callees;
       words = starts-add _ noEdge (λ (x : Edge). x .word) (s .program .edges) (s .places .wordStarts) x _ (q .words) (part-new ls front word (44 ∷ to) l _ is (omega arith));
       on-procs = q .on-procs;
       on-nodes = q .on-nodes;
@@ -255,7 +261,7 @@ on-none d f =
     }
 
 sofar-none : Sofar [] nothingRead
-sofar-none = record { names = starts-none _ _; labels = starts-none _ _; words = starts-none _ _; on-procs = on-none _ _; on-nodes = on-none _ _ }
+sofar-none = record { names = starts-none _ _; labels = starts-none _ _; callees = starts-none _ _; words = starts-none _ _; on-procs = on-none _ _; on-nodes = on-none _ _ }
 
 -- The places of an accepted program text lead to its parts.
 pub listing-placed : (text : Bytes) (s : Listing) → readListing text ≡ accepted s → Placed text s
@@ -272,6 +278,7 @@ listing-placed text s e =
         record {
           names = subst (λ (x : Bytes). Starts x [] (λ (n : Bytes). n) (s .program .procs) (s .places .nameStarts)) whole (p .names);
           labels = subst (λ (x : Bytes). Starts x noNode (λ (v : Node). v .label) (s .program .nodes) (s .places .labelStarts)) whole (p .labels);
+          callees = subst (λ (x : Bytes). Starts x noNode (λ (v : Node). v .label ++ (44 ∷ v .callee)) (s .program .nodes) (s .places .labelStarts)) whole (p .callees);
           words = subst (λ (x : Bytes). Starts x noEdge (λ (x : Edge). x .word) (s .program .edges) (s .places .wordStarts)) whole (p .words);
           procLinesAre = subst (λ (x : List Bytes). OnLines x [] procLine (s .program .procs) (s .places .procLines)) (sym e) (lines-more ls ([] ∷ []) _ _ _ _ (p .on-procs));
           nodeLinesAre = subst (λ (x : List Bytes). OnLines x noNode nodeLine (s .program .nodes) (s .places .nodeLines)) (sym e) (lines-more ls ([] ∷ []) _ _ _ _ (p .on-nodes));

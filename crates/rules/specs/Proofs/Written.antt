@@ -11,7 +11,7 @@ use Rattle.laws.specs.Lists.{choose-yes, choose-no}
 use Rattle.rules.specs.Text.{Reading, Bytes, maxPairs, tooMany}
 use Rattle.rules.specs.SuiteFile.{testCount}
 use Rattle.rules.specs.Closing.{pairs}
-use Rattle.rules.specs.Job.{Given, Outcome, answering, outcome, recordBytes, recording, refusal, serving, sheetBytes, writing, wrote}
+use Rattle.rules.specs.Job.{Given, Outcome, answering, outcome, recordBytes, recording, refusal, serving, sheetBytes, writing, written, wrote}
 use Rattle.rules.specs.Promises.{Writes, WritesExactly}
 use Rattle.rules.specs.Proofs.JobLaws.{never-wrote, writing-wrote}
 
@@ -23,12 +23,12 @@ module _ (limit over : ℕ) (apart : over ≡ 16 → ⊥) (g : Given) (room : �
   n = length (pairs (g .old) (g .new))
 
   -- Where the pairs are few enough, 16 is judged; `over` is answered only where they are not; 16 only where the output is short.
-  few-pairs : n ≤ limit → writing limit over g room b ≡ choose (ltb room (length b)) (refusal 16 0) (wrote b)
+  few-pairs : n ≤ limit → writing limit over g room b ≡ written room b
   unfolding writing
   few-pairs h = choose-no _ _ (le-ltb limit n h)
 
   many-pairs : writing limit over g room b ≡ refusal over 0 → limit < n
-  unfolding writing choose
+  unfolding writing written choose
   many-pairs e = go (ltb limit n) (ltb room (length b)) refl e
     where
       go : (t u : Bool) → ltb limit n ≡ t → choose t (refusal over 0) (choose u (refusal 16 0) (wrote b)) ≡ refusal over 0 → limit < n
@@ -37,7 +37,7 @@ module _ (limit over : ℕ) (apart : over ≡ 16 → ⊥) (g : Given) (room : �
       go false false h e = absurd (never-wrote e)
 
   short-room : writing limit over g room b ≡ refusal 16 0 → (n ≤ limit) × (room < length b)
-  unfolding writing choose
+  unfolding writing written choose
   short-room e = go (ltb limit n) (ltb room (length b)) refl refl e
     where
       go : (t u : Bool) → ltb limit n ≡ t → ltb room (length b) ≡ u → choose t (refusal over 0) (choose u (refusal 16 0) (wrote b)) ≡ refusal 16 0 → (n ≤ limit) × (room < length b)
@@ -46,7 +46,7 @@ module _ (limit over : ℕ) (apart : over ≡ 16 → ⊥) (g : Given) (room : �
       go false false h k e = absurd (never-wrote e)
 
   writing-exact : Writes limit over g room b (writing limit over g room b)
-  unfolding writing
+  unfolding writing written
   writing-exact =
       record {
         written = λ c. (writing-wrote limit over g room b c, λ h. few-pairs (h .0) ∙ choose-no _ _ (le-ltb room (length b) (h .1)) ∙ ap wrote (h .2));
