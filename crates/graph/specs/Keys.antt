@@ -18,7 +18,7 @@ abbrev pub wordKey : Bytes → ℕ
 wordKey = number 256 itself
 
 -- A byte of a word is a digit, and not 0.
-digit-of : (x : ℕ) → wordByte x ≡ true → (0 < x) × (x < 256)
+pub digit-of : (x : ℕ) → wordByte x ≡ true → (0 < x) × (x < 256)
 unfolding wordByte between
 digit-of x h =
     let a : 33 ≤ x = leb-true 33 x (and-left _ _ (and-left _ _ h)) in

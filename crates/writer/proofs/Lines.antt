@@ -1,5 +1,5 @@
 -- The lines, from the runs that the code writes.
-use mathlib.Core.List.{List, [], _∷_, _++_}
+use mathlib.Core.List.{List, [], _∷_}
 use Prim.Native.Nat.{ℕ, _+_, _^_, _≤_, _<_}
 use native.Mathlib.Omega.{arith}
 use lib.ListN.{length}
@@ -7,7 +7,7 @@ use Rattle.rules.specs.Text.{Bytes, decimal, joinBy, textOf}
 use Rattle.rules.specs.Proofs.TextLaws.{decimal-most}
 use Rattle.rules.specs.Sheet.{dLine, endLine, headLine, mLine, rLine, vLine}
 use Rattle.text.specs.Puts.{Puts, puts-then, puts-length}
-use Rattle.writer.specs.Writes.{Writes, writes-of, writes-then, writes-length}
+use Rattle.writer.specs.Writes.{Writes, writes-byte, writes-of, writes-then, writes-length}
 
 -- A number has at most 20 digits.
 decimal-fits : (x : ℕ) → x < 2 ^ 64 → length (decimal x) ≤ 20
@@ -15,10 +15,6 @@ decimal-fits x h = decimal-most 19 x (omega arith)
 
 pub decimal-room : {o o₁ : List ℕ} {at b r : ℕ} (x : ℕ) → Puts o at (b ∷ []) r o₁ → at ≤ 2 ^ 33 → x < 2 ^ 64 → r + length (decimal x) < 2 ^ 64
 decimal-room x p h k = omega (arith, decimal-fits x k, p .next)
-
--- One byte more.
-writes-byte : {o o₁ o₂ xs : List ℕ} {at m b r₁ r₂ : ℕ} → Writes o at xs m r₁ o₁ → Puts o₁ r₁ (b ∷ []) r₂ o₂ → Writes o at (xs ++ (b ∷ [])) (m + 1) r₂ o₂
-writes-byte p q = writes-then p (writes-of 1 q (omega arith))
 
 -- ---- two runs
 

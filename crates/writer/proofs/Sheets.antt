@@ -17,7 +17,7 @@ use Rattle.rules.specs.Graph.{Program, edgeCount, nodeCount}
 use Rattle.rules.specs.Closing.{dangers, dangerous, holds, meets, pairs, repeated}
 use Rattle.rules.specs.SuiteFile.{TestListing, coverageAt, readTests, testCount, testName}
 use Rattle.rules.specs.Sheet.{Sheet, crossed, dLine, endLine, headLine, mLine, rLine, recordText, selected, sheetLines, sheetText, vLine}
-use Rattle.rules.specs.Job.{outputAfter, refusal, wrote}
+use Rattle.rules.specs.Job.{outputAfter, refusal, written, wrote}
 use Rattle.rules.specs.Proofs.Closure.{dangers-inside, pairs-ascend, pairs-inside}
 use Rattle.answer.specs.Outcomes.{Told, refusal-told, told-as}
 use Rattle.text.specs.Puts.{Puts, puts-front, puts-length, puts-measure, puts-then}
@@ -30,7 +30,7 @@ use Rattle.writer.specs.Laws.{asc-same, text-append, text-more, those-ma
 use Rattle.writer.specs.Writes.{Writes, writes-length}
 use Rattle.writer.specs.Texts.{dangerText, pairText, repeatText, shortName, tableText}
 use Rattle.writer.specs.Claims.{NewBelow, Pairs, PairsPut}
-use Rattle.writer.specs.Sheets.{Marked, RecordWrites, RecordWritten, Selection, Selects, SheetPut, SheetPuts, SheetWrites, SheetWritten, recordLine, recordOf, sheetOf, written}
+use Rattle.writer.specs.Sheets.{Marked, RecordWrites, RecordWritten, Selection, Selects, SheetPut, SheetPuts, SheetWrites, SheetWritten, TextWritten, recordLine, recordOf, sheetOf}
 
 -- ---- the tests that were read
 
@@ -187,12 +187,23 @@ told-put o {vs} {o₂} {k} h w =
     let q : written (length o) vs ≡ wrote vs = choose-no _ _ (le-ltb (length o) (length vs) h) in
     told-as q (record { answered = record { number-is = refl; place-is = omega (arith, w .next) }; output-is = puts-front w h })
 
+-- Where there is not, nothing is.
+told-none : (o vs : List ℕ) → length o < length vs → Told (written (length o) vs) (record { number = 16; place = 0 }) o o
+unfolding written
+told-none o vs h =
+    let q : written (length o) vs ≡ refusal 16 0 = choose-yes _ _ (lt-ltb (length o) (length vs) h) in
+    told-as q (refusal-told 16 0 o)
+
+-- `write_text`
+pub text-written : (o : List ℕ) {vs o₂ : List ℕ} {k : ℕ} → length vs ≤ length o → Puts o 0 vs k o₂ → TextWritten vs o (record { number = 0; place = k }) o₂
+text-written o h w = record { told = told-put o h w; size = puts-length w }
+
+pub text-short : (o vs : List ℕ) → length o < length vs → TextWritten vs o (record { number = 16; place = 0 }) o
+text-short o vs h = record { told = told-none o vs h; size = refl }
+
 module _ {vs o₁ : List ℕ} {n : ℕ} (o : List ℕ) (p : Puts [] 0 vs n o₁) where
   told-short : length o < n → Told (written (length o) vs) (record { number = 16; place = 0 }) o o
-  unfolding written
-  told-short h =
-      let q : written (length o) vs ≡ refusal 16 0 = choose-yes _ _ (lt-ltb (length o) (length vs) (omega (arith, puts-measure p .0))) in
-      told-as q (refusal-told 16 0 o)
+  told-short h = told-none o vs (omega (arith, puts-measure p .0))
 
   told-written : {o₂ : List ℕ} {k : ℕ} → n ≤ length o → Puts o 0 vs k o₂ → Told (written (length o) vs) (record { number = 0; place = n }) o o₂
   told-written {o₂} {k} h w =
@@ -277,3 +288,5 @@ module _ (text : Bytes) (tests rows : List ℕ) (i : ℕ) (marks : Bytes) (edges
       }
 
 pub ruleset records = (marks-short, record-short, record-written)
+
+pub ruleset texts = (text-written, text-short)

@@ -2,10 +2,9 @@
 use mathlib.Core.Path.{_≡_}
 use mathlib.Core.List.{List, [], _∷_}
 use Prim.Native.Nat.{ℕ, _≤_, _<_}
-use lib.Dec.{ltb}
 use lib.ListN.{length, take}
 use borrow.Author.Tests.{le-ltb}
-use Rattle.laws.specs.Tests.{choose, has}
+use Rattle.laws.specs.Tests.{has}
 use Rattle.laws.specs.Lists.{choose-no}
 use Rattle.laws.specs.Bits.{bitIn}
 use Rattle.rules.specs.Text.{Bytes, accepted, maxBytes, textOf}
@@ -13,7 +12,7 @@ use Rattle.rules.specs.Graph.{Program, edgeCount, nodeCount}
 use Rattle.rules.specs.Closing.{dangers, pairs}
 use Rattle.rules.specs.SuiteFile.{TestListing, coverageAt, readTests, testCount, testName}
 use Rattle.rules.specs.Sheet.{marksOf, recordText, selected, sheetText, vLine}
-use Rattle.rules.specs.Job.{Given, Outcome, refusal, writing, wrote}
+use Rattle.rules.specs.Job.{Given, writing, written}
 use Rattle.answer.specs.declared.Answer.{Answer}
 use Rattle.answer.specs.Outcomes.{Told}
 use Rattle.text.specs.Puts.{Puts}
@@ -23,14 +22,15 @@ use Rattle.writer.specs.Texts.{shortName}
 
 -- ---- answers
 
--- What becomes of the bytes b in an output of `room` bytes: they are written, or 16 where it is shorter.
-unfoldable pub written : ℕ → Bytes → Outcome
-written room b = choose (ltb room (length b)) (refusal 16 0) (wrote b)
-
--- It is the rules' answer where the pairs are not too many.
+-- Where the pairs are not too many, 16 alone is judged.
 pub writing-written : (limit over : ℕ) (g : Given) (room : ℕ) (b : Bytes) → length (pairs (g .old) (g .new)) ≤ limit → writing limit over g room b ≡ written room b
-unfolding writing written
+unfolding writing
 writing-written limit over g room b h = choose-no _ _ (le-ltb limit (length (pairs (g .old) (g .new))) h)
+
+-- `write_text`: the text written, or refused and nothing changed.
+pub record TextWritten (text o : Bytes) (r : Answer) (o′ : Bytes) : Type 0 where
+  pub told : Told (written (length o) text) r o o′
+  pub size : length o′ ≡ length o
 
 -- ---- the sheet
 

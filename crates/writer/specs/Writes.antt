@@ -1,6 +1,6 @@
 -- A writer that also bounds how many bytes it writes.
 use mathlib.Core.Path.{_≡_}
-use mathlib.Core.List.{List, [], _++_}
+use mathlib.Core.List.{List, [], _∷_, _++_}
 use Prim.Native.Nat.{ℕ, _+_, _≤_}
 use native.Mathlib.Omega.{arith}
 use lib.ListN.{length}
@@ -22,6 +22,14 @@ writes-none o at = record { puts = puts-none o at; within = omega arith }
 -- Two runs in a row are one.
 pub writes-then : {o o₁ o₂ xs ys : List ℕ} {at m n r₁ r₂ : ℕ} → Writes o at xs m r₁ o₁ → Writes o₁ r₁ ys n r₂ o₂ → Writes o at (xs ++ ys) (m + n) r₂ o₂
 writes-then p q = record { puts = puts-then (p .puts) (q .puts); within = omega (arith, p .within, q .within) }
+
+-- One byte more.
+pub writes-byte : {o o₁ o₂ xs : List ℕ} {at m b r₁ r₂ : ℕ} → Writes o at xs m r₁ o₁ → Puts o₁ r₁ (b ∷ []) r₂ o₂ → Writes o at (xs ++ (b ∷ [])) (m + 1) r₂ o₂
+writes-byte p q = writes-then p (writes-of 1 q (omega arith))
+
+-- A larger bound.
+pub writes-most : {o o₁ vs : List ℕ} {at m r : ℕ} (most : ℕ) → Writes o at vs m r o₁ → m ≤ most → Writes o at vs most r o₁
+writes-most most p h = record { puts = p .puts; within = omega (arith, p .within) }
 
 -- The slice keeps its length.
 pub writes-length : {o o₁ vs : List ℕ} {at m r : ℕ} → Writes o at vs m r o₁ → length o₁ ≡ length o

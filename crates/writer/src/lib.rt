@@ -1,4 +1,4 @@
-// Sheets and record lines, written into a lent output. A writer stores only inside its output and answers the place behind what it writes, so
+// Sheets, record lines and texts, written into a lent output. A writer stores only inside its output and answers the place behind what it writes, so
 // that writing into no bytes measures. What is written for tables that hold no selection, or no test and marks, is left open, the output's length
 // excepted.
 use answer::Answer;
@@ -12,14 +12,14 @@ ghost use Rattle.rules.specs.Text.{decimal, textOf};
 ghost use Rattle.rules.specs.Sheet.{dLine, endLine, headLine, mLine, rLine, vLine};
 ghost use Rattle.suite.specs.Rows.{rowMeets};
 ghost use Rattle.writer.specs.Claims.{PairsPut, PartnersPut};
-ghost use Rattle.writer.specs.Sheets.{RecordWritten, SheetPut, SheetWritten, selection};
+ghost use Rattle.writer.specs.Sheets.{RecordWritten, SheetPut, SheetWritten, TextWritten, selection};
 ghost use Rattle.writer.specs.Texts.{dangerText, repeatText, shortName};
 ghost use Rattle.writer.specs.Writes.{Writes};
 
 // ---- lines
 
 // A comma and a number.
-fn put_field(out: &mut [u8], at: usize, x: usize) -> usize
+pub fn put_field(out: &mut [u8], at: usize, x: usize) -> usize
     requires { ⌜ at ≤ 2 ^ 33 ⌝ }
     ensures { λ r. ⌜ Writes (now (out .entry)) at (44 ∷ decimal x) 21 r (now (out .exit)) ⌝ }
 {
@@ -332,4 +332,20 @@ pub fn write_record(
         number: 0,
         place: len,
     }
+}
+
+// ---- a text
+
+// Writes a text, or refuses with 16 where the output is shorter.
+pub fn write_text(text: &[u8], out: &mut [u8]) -> Answer
+    ensures { λ r. ⌜ TextWritten (now (text .entry)) (now (out .entry)) r (now (out .exit)) ⌝ }
+{
+    if out.len() < text.len() {
+        return Answer {
+            number: 16,
+            place: 0,
+        };
+    }
+    let place = text::put_bytes(out, 0, text);
+    Answer { number: 0, place }
 }

@@ -1,0 +1,25 @@
+use borrow.Author.Needs.{needs}
+use Rattle.writeback.proofs.All.{all}
+use Rattle.writeback.proofs.word_start.Statement.{statement}
+use Rattle.writeback.proofs.word_start.Tie as tie
+
+returns : tie.Need-returns
+returns c = search (all, needs)
+
+mul-get : tie.Need-mul-get
+mul-get c = search needs
+
+add-get : tie.Need-add-get
+add-get c = search needs
+
+add-get-2 : tie.Need-add-get-2
+add-get-2 c = search needs
+
+get-requires : tie.Need-get-requires
+get-requires c κs = search needs
+
+returns-2 : tie.Need-returns-2
+returns-2 c = search needs
+
+pub word-start-spec : {M : Type 1} → statement M
+word-start-spec = tie.close (tie.spec returns mul-get add-get add-get-2 get-requires returns-2)
