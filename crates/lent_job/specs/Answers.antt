@@ -1,4 +1,5 @@
--- Past 13 and 14 a request is answered as the definitions over the job's three texts do. So what is proved of those holds of the lent job, demand 3 entire.
+-- Past 13 and 14 a request is answered as the definitions over the three texts that it goes by do: those lent, or of a program that is written back those that stand for them
+-- (ProgramBack). So what is proved of those holds of the lent job, demand 3 entire.
 use mathlib.Core.Path.{_≡_, refl, sym, ap, ap₂, _∙_, subst}
 use mathlib.Core.Bool.{Bool, true, false, true≢false}
 use mathlib.Core.Option.{Option, none, some}
@@ -10,7 +11,7 @@ use lib.ListN.{drop, length, length-append, take}
 use lib.Seq.{take-append-seam}
 use borrow.Author.Tests.{eq-eqb, eqb-true, lt-ltb, ltb-true}
 use Rattle.laws.specs.Tests.{after, choose, has}
-use Rattle.laws.specs.Lists.{choose-yes}
+use Rattle.laws.specs.Lists.{choose-no, choose-yes}
 use Rattle.laws.specs.Slices.{below-or}
 use Rattle.rules.specs.Text.{Reading, Bytes, accepted, maxBytes, refused, textOf}
 use Rattle.rules.specs.Graph.{Program, edgeCount, labelAt, nodeCount}
@@ -26,14 +27,14 @@ use Rattle.rules.specs.Proofs.JobLaws.{known, outcome-wrote}
 use Rattle.rules.specs.Proofs.Refused.{outcome-same, room-unused, text-unused}
 use Rattle.records.specs.declared.Job.{Job}
 use Rattle.lent_job.specs.Held.{AllRead, Lent, heldNew, heldOld}
-use Rattle.lent_job.specs.HeldLaws.{held-new-parts, held-tests-parts, texts-accepted, version-read}
+use Rattle.lent_job.specs.HeldLaws.{after-some, chosen-some, held-new-parts, held-tests-parts, texts-accepted, version-read}
 use Rattle.lent_job.specs.ReadOld.{freshDue, oldDue, oldRead, pastDue, readAnswer}
 use Rattle.lent_job.specs.ReadLaws.{answer-old}
 use Rattle.lent_job.specs.ReadNew.{newDue, newRead, oldHeldDue}
 use Rattle.lent_job.specs.ReadTests.{bothDue, testsDue, testsRead}
 use Rattle.lent_job.specs.Stages.{answer-tests, edges-new}
 use Rattle.lent_job.specs.Progress.{both-were-held, program-of}
-use Rattle.lent_job.specs.Calls.{Called, LentJob, checkCall, givenBy, goesBy, labelCall, labelPartCall, labelSpanCall, lentCall, recordCall, sheetCall, shownBy, spanBy, versionOf}
+use Rattle.lent_job.specs.Calls.{Called, LentJob, checkCall, givenBy, goesBy, held, heldBack, holding, labelCall, labelPartCall, labelSpanCall, lentCall, othersAlone, recordCall, sheetCall, shownBy, spanBy, takesParts, versionOf, writtenBack}
 use Rattle.lent_job.specs.DueLaws.{due-cases, goes-held}
 
 -- The texts of a job.
@@ -42,9 +43,31 @@ readTexts k = readJob (k .old .text) (k .new .text) (k .testsText)
 
 -- ---- the answers are those of the texts
 
--- What a request goes by is what the three texts give: they are accepted.
-pub texts-given : (k : LentJob) (h : AllRead) → goesBy k ≡ accepted h → readTexts k ≡ accepted (givenBy h)
-texts-given k h e = texts-accepted (k .job) (k .old) (k .new) (k .testsText) (k .tests) (k .rows) h (goes-held k h e)
+-- What is held is what the three texts give: they are accepted.
+pub texts-given : (k : LentJob) (h : AllRead) → held k ≡ some h → readTexts k ≡ accepted (givenBy h)
+texts-given k h e = texts-accepted (k .job) (k .old) (k .new) (k .testsText) (k .tests) (k .rows) h e
+
+-- The job whose texts a request goes by: those lent, or those that the tables write back.
+unfoldable pub servedBy : Request → LentJob → LentJob
+servedBy q k = choose (takesParts q) (writtenBack k) k
+
+pub served-held : (q : Request) (k : LentJob) (h : AllRead) → goesBy k (holding q k) ≡ accepted h → held (servedBy q k) ≡ some h
+unfolding holding servedBy heldBack choose
+served-held q k h e = go (takesParts q) (goes-held k (holding q k) h e)
+  where
+    go : (u : Bool) → choose u (heldBack k) (held k) ≡ some h → held (choose u (writtenBack k) k) ≡ some h
+    go true d =
+        let p = after-some (held (writtenBack k)) (λ g. choose (othersAlone k g) (some g) none) h d in
+        p .1 ∙ ap some (chosen-some (othersAlone k (p .0)) (p .0) h (p .2) .1)
+    go false d = d
+
+-- A request that goes on is answered as those texts are, and they are accepted.
+pub served-answer : (q : Request) (k : LentJob) (h : AllRead) → goesBy k (holding q k) ≡ accepted h → (input : Bytes) (room : ℕ)
+    → lentCall q k input room ≡ answering q (servedBy q k .old .text) (servedBy q k .new .text) (servedBy q k .testsText) input room
+unfolding lentCall answering outcome
+served-answer q k h e input room =
+    ap (λ (x : Reading AllRead). outcome x (λ y. serving q (givenBy y) input room)) e
+    ∙ sym (ap (λ (x : Reading Given). outcome x (λ g. serving q g input room)) (texts-given (servedBy q k) h (served-held q k h e)))
 
 -- The answers of the job k, whose texts give g.
 pub record ByTexts (k : LentJob) (g : Given) : Type 0 where
@@ -53,22 +76,23 @@ pub record ByTexts (k : LentJob) (g : Given) : Type 0 where
   pub reads-old : readOldAnswer (k .old .text) ≡ success
   pub reads-new : readNewAnswer (k .old .text) (k .new .text) ≡ success
   pub reads-tests : readTestsAnswer (k .old .text) (k .new .text) (k .testsText) ≡ success
-  -- Number, place and bytes written are those of the texts, for every request.
-  pub answer-is : (q : Request) (input : Bytes) (room : ℕ) → lentCall q k input room ≡ answering q (k .old .text) (k .new .text) (k .testsText) input room
+  -- Number, place and bytes written are those of the texts, for every request that goes by the lent texts as they are (of the others see ProgramBack).
+  pub answer-is : (q : Request) → takesParts q ≡ false → (input : Bytes) (room : ℕ) → lentCall q k input room ≡ answering q (k .old .text) (k .new .text) (k .testsText) input room
 
 -- Where a call goes by what job and tables hold, the answers are those of the texts.
-pub by-texts : (k : LentJob) (h : AllRead) → goesBy k ≡ accepted h → ByTexts k (givenBy h)
-unfolding lentCall answering readOldAnswer readNewAnswer readTestsAnswer outcome
+pub by-texts : (k : LentJob) (h : AllRead) → goesBy k (held k) ≡ accepted h → ByTexts k (givenBy h)
+unfolding lentCall answering holding readOldAnswer readNewAnswer readTestsAnswer outcome
 by-texts k h e =
-    let r = texts-given k h e in
+    let r = texts-given k h (goes-held k (held k) h e) in
     let n = known (k .old .text) (k .new .text) (k .testsText) (givenBy h) r in
     record {
       reads = r;
       reads-old = ap (λ (x : Reading Program). outcome x (λ p. success)) (n .reads-old);
       reads-new = ap₂ (λ (x y : Reading Program). outcome x (λ p. outcome y (λ q. success))) (n .reads-old) (n .reads-new);
       reads-tests = ap (λ (x : Reading Given). outcome x (λ g. success)) r;
-      answer-is = λ q input room.
-          ap (λ (x : Reading AllRead). outcome x (λ y. serving q (givenBy y) input room)) e ∙ sym (ap (λ (x : Reading Given). outcome x (λ g. serving q g input room)) r);
+      answer-is = λ q t input room.
+          ap (λ (x : Reading AllRead). outcome x (λ y. serving q (givenBy y) input room)) (ap (goesBy k) (choose-no _ _ t) ∙ e)
+          ∙ sym (ap (λ (x : Reading Given). outcome x (λ g. serving q g input room)) r);
     }
 
 -- ---- labels
@@ -99,7 +123,7 @@ unfolding hasNode
 part-label v e n b = choose-yes _ _ (lt-ltb _ _ b) ∙ label-shown v e n b
 
 -- A label stands within its text, which is short.
-text-short : (text : Bytes) (s : Listing) → readListing text ≡ accepted s → length text ≤ maxBytes
+pub text-short : (text : Bytes) (s : Listing) → readListing text ≡ accepted s → length text ≤ maxBytes
 text-short text s e =
     below-or maxBytes (length text)
     (λ b. absurd (true≢false (let c : refused 1 0 ≡ accepted (s .program) = sym (too-long .of-program text 0 .1 (b, refl)) ∙ program-of text s e in let z : true ≡ false = cc in z)))
@@ -131,16 +155,16 @@ part-at v e n r b er =
     let c : r / 4294967296 ≡ labelSpan v n .start = omega (arith, q, i, s) in
     ap₂ (λ (x y : ℕ). take x (drop y (v .text))) a c ∙ label-shown v e n b
 
-pub labels-by-texts : (k : LentJob) (h : AllRead) → goesBy k ≡ accepted h → LabelsByTexts k h
+pub labels-by-texts : (k : LentJob) (h : AllRead) → goesBy k (held k) ≡ accepted h → LabelsByTexts k h
 unfolding labelPartCall labelSpanCall shownBy spanBy labelShown spanShown bySide
 labels-by-texts k h e =
-    let p = held-tests-parts (k .job) (k .old) (k .new) (k .testsText) (k .tests) (k .rows) h (goes-held k h e) in
+    let p = held-tests-parts (k .job) (k .old) (k .new) (k .testsText) (k .tests) (k .rows) h (goes-held k (held k) h e) in
     let o = version-read (k .old) (h .old) (p .0) in
     let q = version-read (k .new) (h .new) (p .1) in
     record {
       old-read = o;
       new-read = q;
-      answer-is = λ side n. by-texts k h e .answer-is (show-label side n) [] 0;
+      answer-is = λ side n. by-texts k h e .answer-is (show-label side n) refl [] 0;
       part-is = λ side n. ap (λ (x : Reading AllRead). shownBy x k side n) e;
       span-is = λ side n. ap (λ (x : Reading AllRead). spanBy x k side n) e;
       old-label = λ n b. ap (λ (x : Reading AllRead). shownBy x k 0 n) e ∙ part-label (versionOf (k .old) (h .old)) o n b;
@@ -153,9 +177,9 @@ labels-by-texts k h e =
 pub labels-few : (k : LentJob) (side n : ℕ) → (labelSpanCall k side n .start < 4294967296) × (labelSpanCall k side n .len < 4294967296)
 unfolding labelSpanCall spanBy spanShown bySide
 labels-few k side n =
-    due-cases k (λ m a b e. few _ (ap (λ (x : Reading AllRead). spanBy x k side n) e) (omega arith, omega arith))
-    (λ h e room held.
-    let p = held-tests-parts (k .job) (k .old) (k .new) (k .testsText) (k .tests) (k .rows) h held in
+    due-cases k (held k) (λ m a b e. few _ (ap (λ (x : Reading AllRead). spanBy x k side n) e) (omega arith, omega arith))
+    (λ h e room had.
+    let p = held-tests-parts (k .job) (k .old) (k .new) (k .testsText) (k .tests) (k .rows) h had in
     few _ (ap (λ (x : Reading AllRead). spanBy x k side n) e) (by side h (version-read (k .old) (h .old) (p .0)) (version-read (k .new) (h .new) (p .1))))
   where
     few : (s : Span) → labelSpanCall k side n ≡ s → (s .start < 4294967296) × (s .len < 4294967296) → (labelSpanCall k side n .start < 4294967296) × (labelSpanCall k side n .len < 4294967296)
@@ -169,8 +193,8 @@ labels-few k side n =
 
 -- Where the request for a label is refused, it stands nowhere: `ry_job_label` returns 0.
 pub nowhere-refused : (k : LentJob) (side n q p : ℕ) → labelCall k side n ≡ refusal q p → packedSpan (labelSpanCall k side n) ≡ 0
-unfolding lentCall labelSpanCall spanBy serving labelling spanShown bySide packedSpan outcome choose
-nowhere-refused k side n q p e = go (goesBy k) e
+unfolding lentCall holding labelSpanCall spanBy serving labelling spanShown bySide packedSpan outcome choose
+nowhere-refused k side n q p e = go (goesBy k (held k)) e
   where
     chosen : (u : Bool) (s : Span) → choose u success (refusal 6 0) ≡ refusal q p → packedSpan (choose u s nowhere) ≡ 0
     chosen true s f = absurd (true≢false (let z : true ≡ false = cc in z))
@@ -194,9 +218,10 @@ due-plain n a b = record { zero-succeeds = λ z. absurd (a z); few-numbers = ome
 pub lent-plain : (q : Request) (k : LentJob) (input : Bytes) (room : ℕ) → Plain (lentCall q k input room)
 unfolding lentCall outcome
 lent-plain q k input room =
-    due-cases k
+    due-cases k (holding q k)
     (λ n a b e. subst Plain (sym (ap (λ (x : Reading AllRead). outcome x (λ h. serving q (givenBy h) input room)) e)) (due-plain n (λ z. let y : ⊥ = omega arith in y) b))
-    (λ h e long held. subst Plain (sym (by-texts k h e .answer-is q input room)) (answers-plain (k .old .text) (k .new .text) (k .testsText) .of-request q input room))
+    (λ h e long had.
+    subst Plain (sym (served-answer q k h e input room)) (answers-plain (servedBy q k .old .text) (servedBy q k .new .text) (servedBy q k .testsText) .of-request q input room))
 
 -- Of the calls that read.
 past-plain : {A : Type 0} (due : ℕ) (a : Reading A) → due ≤ 14 → (due ≡ 0 → Plain (readAnswer a)) → Plain (readAnswer (pastDue due a))
@@ -247,13 +272,13 @@ tests-plain j v v′ t r w text =
 -- ---- demand 3
 
 -- A request that wrote went by what job and tables hold.
-call-wrote : (q : Request) (k : LentJob) (input : Bytes) (room : ℕ) (b : Bytes) → lentCall q k input room ≡ wrote b → (h : AllRead) × (goesBy k ≡ accepted h)
-unfolding lentCall
-call-wrote q k input room b e = let u = outcome-wrote _ _ _ e in (u .0, u .1)
+call-wrote : (q : Request) → takesParts q ≡ false → (k : LentJob) (input : Bytes) (room : ℕ) (b : Bytes) → lentCall q k input room ≡ wrote b → (h : AllRead) × (goesBy k (held k) ≡ accepted h)
+unfolding lentCall holding
+call-wrote q t k input room b e = let u = outcome-wrote _ _ _ e in (u .0, sym (ap (goesBy k) (choose-no _ _ t)) ∙ u .1)
 
-call-texts : (q : Request) (k : LentJob) (input : Bytes) (room : ℕ) (b : Bytes) → lentCall q k input room ≡ wrote b
+call-texts : (q : Request) → takesParts q ≡ false → (k : LentJob) (input : Bytes) (room : ℕ) (b : Bytes) → lentCall q k input room ≡ wrote b
     → answering q (k .old .text) (k .new .text) (k .testsText) input room ≡ wrote b
-call-texts q k input room b e = let u = call-wrote q k input room b e in sym (by-texts k (u .0) (u .1) .answer-is q input room) ∙ e
+call-texts q t k input room b e = let u = call-wrote q t k input room b e in sym (by-texts k (u .0) (u .1) .answer-is q t input room) ∙ e
 
 module _ {ℓ κ} (St : Type ℓ) (Out : Type κ) where
   -- Demand 3 of the lent job k, as `Demand3` has it of texts.
@@ -276,28 +301,28 @@ pub lent-demand3 {ℓ κ} : (St : Type ℓ) (Out : Type κ) (k : LentJob) → Le
 lent-demand3 St Out k =
     let d = demand3 St Out (k .old .text) (k .new .text) (k .testsText) in
     record {
-      checker = λ sheet e. d .checker sheet (call-texts check-sheet k sheet 0 [] e);
+      checker = λ sheet e. d .checker sheet (call-texts check-sheet refl k sheet 0 [] e);
       passes = λ room sheet e.
-          let u = call-wrote write-sheet k [] room sheet e in
-          let p = d .passes room sheet (call-texts write-sheet k [] room sheet e) in
-          (by-texts k (u .0) (u .1) .answer-is check-sheet sheet 0 ∙ p .0, p .1);
-      unlisted = λ room sheet e g r i l. d .unlisted room sheet (call-texts write-sheet k [] room sheet e) g r i l;
-      marked = λ i room line e. d .marked i room line (call-texts (write-record i) k [] room line e);
+          let u = call-wrote write-sheet refl k [] room sheet e in
+          let p = d .passes room sheet (call-texts write-sheet refl k [] room sheet e) in
+          (by-texts k (u .0) (u .1) .answer-is check-sheet refl sheet 0 ∙ p .0, p .1);
+      unlisted = λ room sheet e g r i l. d .unlisted room sheet (call-texts write-sheet refl k [] room sheet e) g r i l;
+      marked = λ i room line e. d .marked i room line (call-texts (write-record i) refl k [] room line e);
     }
 
 -- What a call returned below 4,294,967,296, and left in its output.
-call-written : (q : Request) (k : LentJob) (input : Bytes) (r : ℕ) (j j′ : Job) (w w′ out out′ : List ℕ) → Called (lentCall q k input (length out)) r j j′ w w′ out out′ → r < 4294967296
+pub call-written : (q : Request) (k : LentJob) (input : Bytes) (r : ℕ) (j j′ : Job) (w w′ out out′ : List ℕ) → Called (lentCall q k input (length out)) r j j′ w w′ out out′ → r < 4294967296
     → (b : Bytes) × (lentCall q k input (length out) ≡ wrote b) × (r ≡ length b) × (out′ ≡ b ++ drop r out)
 call-written q k input r j j′ w w′ out out′ c l = written _ (lent-plain q k input (length out)) out out′ r (c .answer-is) (c .output-is) l
 
 -- An input that a request does not come with, and an output that it does not write to, are of no matter.
 input-any : (q : Request) (k : LentJob) (input : Bytes) (room : ℕ) → comesWithText q ≡ false → lentCall q k input room ≡ lentCall q k [] room
 unfolding lentCall
-input-any q k input room e = outcome-same (goesBy k) _ _ (λ h. text-unused q e (givenBy h) input room)
+input-any q k input room e = outcome-same (goesBy k (holding q k)) _ _ (λ h. text-unused q e (givenBy h) input room)
 
 output-any : (q : Request) (k : LentJob) (input : Bytes) (room : ℕ) → writes q ≡ false → lentCall q k input room ≡ lentCall q k input 0
 unfolding lentCall
-output-any q k input room e = outcome-same (goesBy k) _ _ (λ h. room-unused q e (givenBy h) input room)
+output-any q k input room e = outcome-same (goesBy k (holding q k)) _ _ (λ h. room-unused q e (givenBy h) input room)
 
 module _ {ℓ κ} (St : Type ℓ) (Out : Type κ) (k : LentJob) where
   -- The same, of the numbers that `ry_job_call` returns and the output that it leaves, by its contract.

@@ -13,12 +13,12 @@ use Rattle.rules.specs.Proofs.TextLaws.{accepted-same}
 use Rattle.records.specs.declared.Job.{Job}
 use Rattle.lent_job.specs.Held.{AllRead, jobTests}
 use Rattle.lent_job.specs.HeldLaws.{held-tests-parts}
-use Rattle.lent_job.specs.Calls.{LentJob, goesBy, holding, requestScratch}
+use Rattle.lent_job.specs.Calls.{LentJob, goesBy, held, requestScratch}
 
--- The cases, of any claim.
-module _ {X : Type 0} (k : LentJob) (no : (n : ℕ) → 13 ≤ n → n ≤ 14 → goesBy k ≡ refused n 0 → X)
-    (yes : (h : AllRead) → goesBy k ≡ accepted h → requestScratch ≤ k .scratch → holding k ≡ some h → X) where
-  case-held : eqb (k .job .stage) 3 ≡ true → leb requestScratch (k .scratch) ≡ true → (x : Option AllRead) → holding k ≡ x → X
+-- The cases, of any claim, where x is what job and tables hold.
+module _ {X : Type 0} (k : LentJob) (x : Option AllRead) (no : (n : ℕ) → 13 ≤ n → n ≤ 14 → goesBy k x ≡ refused n 0 → X)
+    (yes : (h : AllRead) → goesBy k x ≡ accepted h → requestScratch ≤ k .scratch → x ≡ some h → X) where
+  case-held : eqb (k .job .stage) 3 ≡ true → leb requestScratch (k .scratch) ≡ true → (y : Option AllRead) → x ≡ y → X
   unfolding goesBy ofStage choose
   case-held a b none e = no 14 (omega arith) (omega arith) (simp (a, b, e))
   case-held a b (some h) e = yes h (simp (a, b, e)) (leb-true _ _ b) e
@@ -37,17 +37,20 @@ module _ {X : Type 0} (k : LentJob) (no : (n : ℕ) → 13 ≤ n → n ≤ 14 �
   due-cases = case-stage _ refl
 
 -- A call that goes by what was read goes by what job and tables hold.
-pub goes-held : (k : LentJob) (h : AllRead) → goesBy k ≡ accepted h → holding k ≡ some h
-goes-held k h e =
-    due-cases k (λ n a b d. let c : refused n 0 ≡ accepted h = sym d ∙ e in absurd (true≢false (let z : true ≡ false = cc in z)))
-    (λ g d room held. held ∙ ap some (accepted-same (sym d ∙ e)))
+pub goes-held : (k : LentJob) (x : Option AllRead) (h : AllRead) → goesBy k x ≡ accepted h → x ≡ some h
+goes-held k x h e =
+    due-cases k x (λ n a b d. let c : refused n 0 ≡ accepted h = sym d ∙ e in absurd (true≢false (let z : true ≡ false = cc in z)))
+    (λ g d room had. had ∙ ap some (accepted-same (sym d ∙ e)))
+
+-- At stage 3, and where the scratch is long enough, a call goes by what is held.
+pub goes-on : (k : LentJob) (x : Option AllRead) (h : AllRead) → k .job .stage ≡ 3 → requestScratch ≤ k .scratch → x ≡ some h → goesBy k x ≡ accepted h
+unfolding goesBy ofStage choose
+goes-on k x h stage room e = simp (eq-eqb _ _ stage, le-leb requestScratch _ room, e)
 
 -- The stage of a job that is held is 3.
-held-stage : (k : LentJob) (h : AllRead) → holding k ≡ some h → k .job .stage ≡ 3
+pub held-stage : (k : LentJob) (h : AllRead) → held k ≡ some h → k .job .stage ≡ 3
 unfolding jobTests stageAfter
 held-stage k h e = ap (λ (j : Job). j .stage) (held-tests-parts (k .job) (k .old) (k .new) (k .testsText) (k .tests) (k .rows) h e .3)
 
--- Where job and tables are held and the scratch is long enough a call goes by what is held.
-pub held-goes : (k : LentJob) (h : AllRead) → holding k ≡ some h → requestScratch ≤ k .scratch → goesBy k ≡ accepted h
-unfolding goesBy ofStage choose
-held-goes k h e room = simp (eq-eqb _ _ (held-stage k h e), le-leb requestScratch _ room, e)
+pub held-goes : (k : LentJob) (h : AllRead) → held k ≡ some h → requestScratch ≤ k .scratch → goesBy k (held k) ≡ accepted h
+held-goes k h e room = goes-on k (held k) h (held-stage k h e) room e

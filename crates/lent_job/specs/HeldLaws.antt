@@ -207,11 +207,11 @@ module _ (m : ℕ) (text : Bytes) (t w : List ℕ) (l : TestListing) (e : suiteL
 
 -- ---- what is held, taken apart
 
-after-some : {A B : Type 0} (x : Option A) (f : A → Option B) (b : B) → after x none f ≡ some b → (a : A) × (x ≡ some a) × (f a ≡ some b)
+pub after-some : {A B : Type 0} (x : Option A) (f : A → Option B) (b : B) → after x none f ≡ some b → (a : A) × (x ≡ some a) × (f a ≡ some b)
 after-some none f b e = absurd (true≢false (let z : true ≡ false = cc in z))
 after-some (some a) f b e = (a, refl, e)
 
-chosen-some : {A : Type 0} (u : Bool) (a b : A) → choose u (some a) none ≡ some b → (u ≡ true) × (a ≡ b)
+pub chosen-some : {A : Type 0} (u : Bool) (a b : A) → choose u (some a) none ≡ some b → (u ≡ true) × (a ≡ b)
 unfolding choose
 chosen-some true a b e = (refl, let z : a ≡ b = cc in z)
 chosen-some false a b e = absurd (true≢false (let z : true ≡ false = cc in z))

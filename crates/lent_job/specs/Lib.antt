@@ -9,5 +9,6 @@ pub mod Progress
 pub mod Calls
 pub mod DueLaws
 pub mod Answers
-pub mod Chain
 pub mod Refusals
+pub mod ProgramBack
+pub mod Chain

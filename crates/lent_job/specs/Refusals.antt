@@ -12,7 +12,7 @@ use Rattle.laws.specs.Tests.{choose}
 use Rattle.rules.specs.Text.{Reading, Bytes, refused}
 use Rattle.rules.specs.ProgramFile.{Listing}
 use Rattle.rules.specs.SuiteFile.{TestListing}
-use Rattle.rules.specs.Job.{Outcome, Request, ofStage, outcome, outputAfter, refusal}
+use Rattle.rules.specs.Job.{Outcome, Request, check-sheet, no-request, ofStage, outcome, outputAfter, refusal, show-label, write-program, write-record, write-sheet}
 use Rattle.records.specs.declared.Job.{Job}
 use Rattle.records.specs.declared.Node.{Node}
 use Rattle.records.specs.Jobs.{fresh, sameJob}
@@ -20,7 +20,7 @@ use Rattle.lent_job.specs.Held.{Lent, heldNew, heldOld}
 use Rattle.lent_job.specs.ReadOld.{ProgramLeftBy, ReadOld, freshDue, linksRead, oldDue, oldJob, oldRead, pastDue, recordsRead, roomy}
 use Rattle.lent_job.specs.ReadNew.{ReadNew, newDue, newJob, newRead, oldHeldDue}
 use Rattle.lent_job.specs.ReadTests.{ReadTests, TestsLeftBy, bothDue, namesLeft, rowsLeft, testsDue, testsJob, testsRead}
-use Rattle.lent_job.specs.Calls.{Called, LentJob, goesBy, holding, lentCall}
+use Rattle.lent_job.specs.Calls.{Called, LentJob, goesBy, held, holding, lentCall}
 
 -- ---- 13
 
@@ -86,13 +86,26 @@ pub short-request : (q : Request) (k : LentJob) (input : Bytes) (room : ℕ) →
 unfolding lentCall goesBy ofStage outcome choose
 short-request q k input room s h = simp (eq-eqb (k .job .stage) 3 s, lt-leb 16912 (k .scratch) h)
 
-pub tables-spoilt : (q : Request) (k : LentJob) (input : Bytes) (room : ℕ) → k .job .stage ≡ 3 → holding k ≡ none → lentCall q k input room ≡ refusal 14 0
+pub tables-spoilt : (q : Request) (k : LentJob) (input : Bytes) (room : ℕ) → k .job .stage ≡ 3 → holding q k ≡ none → lentCall q k input room ≡ refusal 14 0
 unfolding lentCall goesBy ofStage outcome choose
 tables-spoilt q k input room s h = either (leb 16912 (k .scratch)) refl
   where
     either : (u : Bool) → leb 16912 (k .scratch) ≡ u → lentCall q k input room ≡ refusal 14 0
     either true e = simp (eq-eqb (k .job .stage) 3 s, e, h)
     either false e = simp (eq-eqb (k .job .stage) 3 s, e)
+
+-- Every request but to write a program back asks that the job and the tables are what reading the lent texts leaves.
+pub texts-asked : (q : Request) → ((side : ℕ) → q ≡ write-program side → ⊥) → (k : LentJob) → holding q k ≡ held k
+unfolding holding choose
+texts-asked write-sheet other k = refl
+texts-asked (write-record i) other k = refl
+texts-asked check-sheet other k = refl
+texts-asked (show-label side n) other k = refl
+texts-asked (write-program side) other k = absurd (other side refl)
+texts-asked no-request other k = refl
+
+pub texts-spoilt : (q : Request) → ((side : ℕ) → q ≡ write-program side → ⊥) → (k : LentJob) (input : Bytes) (room : ℕ) → k .job .stage ≡ 3 → held k ≡ none → lentCall q k input room ≡ refusal 14 0
+texts-spoilt q other k input room s h = tables-spoilt q k input room s (texts-asked q other k ∙ h)
 
 -- ---- what is lent
 
