@@ -6,20 +6,24 @@ use mathlib.Core.Option.{Option, none, some}
 use Prim.Native.Nat.{ℕ, zero, suc, _+_, _*_, _≤_, _<_}
 use native.Mathlib.Omega.{arith}
 use lib.Dec.{eqb, leb, ltb}
-use lib.ListN.{length, getD, take, drop, replicate, length-replicate}
+use lib.ListN.{length, getD, take, drop, replicate, length-replicate, take-append-drop, List·getD-append}
 use lib.Seq.{sets, length-sets, length-take-le}
 use borrow.Author.Tests.{eq-eqb, ne-eqb, le-leb, lt-leb, le-ltb, lt-ltb, ltb-true}
-use Rattle.laws.specs.Tests.{after, choose}
+use Rattle.laws.specs.Tests.{_and_, after, choose}
+use Rattle.laws.specs.Lists.{choose-no, choose-yes}
 use Rattle.laws.specs.Slices.{below-or, same-or, sets-front, part-sets, part-sets-before, drop-end}
-use Rattle.rules.specs.Text.{Bytes, Reading, refused, accepted}
+use Rattle.rules.specs.Text.{Bytes, Reading, refused, accepted, maxBytes}
 use Rattle.rules.specs.Graph.{nodeCount, edgeCount}
-use Rattle.rules.specs.ProgramFile.{Listing}
+use Rattle.rules.specs.ProgramFile.{Listing, readListing}
+use Rattle.rules.specs.WriteBack.{otherAlone}
 use Rattle.rules.specs.SuiteFile.{TestListing, testCount}
 use Rattle.rules.specs.Job.{Outcome, Request as Asked, Span, Version, bySide, hasNode, labelPart, labelShown, labelSpan, make-request, nowhere, ofStage, outcome, packedSpan, read-tests, refusal, serving, spanShown, stageAfter}
 use Rattle.rules.specs.Proofs.ProgramLaws.{Sound}
 use Rattle.answer.specs.declared.Answer.{Answer}
 use Rattle.answer.specs.Outcomes.{Told, packing, packing-fits, packs, refusal-told, told-as}
 use Rattle.reader.specs.declared.Count.{Count}
+use Rattle.reader.specs.Result.{Small}
+use Rattle.writeback.specs.BackLaws.{back-agrees}
 use Rattle.suite.specs.declared.Read.{Read}
 use Rattle.versions.specs.Memory.{InMemory, memory}
 use Rattle.intake.specs.declared.Counts.{Counts}
@@ -31,14 +35,14 @@ use Rattle.records.specs.declared.Job.{Job}
 use Rattle.records.specs.declared.Node.{Node}
 use Rattle.records.specs.Jobs.{sameJob}
 use Rattle.records.specs.Nodes.{flat}
-use Rattle.records.specs.NodeLaws.{flat-length}
-use Rattle.lent_job.specs.Held.{AllRead, Lent, heldTests, jobAt, jobTests, lent, numbers, suiteLeft, versionLeft}
+use Rattle.records.specs.NodeLaws.{flat-append, flat-length}
+use Rattle.lent_job.specs.Held.{AllRead, Lent, heldTests, jobAt, jobTests, leftBy, lent, longEnough, numbers, suiteLeft, versionLeft}
 use Rattle.held.specs.Left.{count-small, countLeft, readLeft}
 use Rattle.lent_job.specs.HeldLaws.{front-left, held-tests-parts, suite-accepted, suite-few, suite-holds, version-memory, version-sound}
 use Rattle.records.specs.Shown.{partShown}
 use Rattle.job_calls.specs.declared.Label.{Label}
-use Rattle.lent_job.specs.Calls.{Called, Found, Kept, LentJob, Shown, givenBy, goesBy, holding, labelPartCall, labelSpanCall, lentCall, lentJob, requestScratch, shownBy, spanBy, versionOf}
-use Rattle.job_calls.specs.Loaded.{CalledOn, SpanIs, countsBy, dueCounts, labelBySide, labelOfNode, loadedJob, noLabel, suiteCounts, unloaded}
+use Rattle.lent_job.specs.Calls.{Called, Found, Kept, LentJob, Shown, givenBy, goesBy, goesHeld, held, heldBack, holding, labelPartCall, labelSpanCall, lentCall, lentJob, limited, newCount, oldCount, othersAlone, requestScratch, shownBy, spanBy, takesParts, textBack, versionOf, writtenBack}
+use Rattle.job_calls.specs.Loaded.{BackAnswer, CalledOn, HeldAnswer, SpanIs, countsBy, dueCounts, labelBySide, labelOfNode, loadedJob, noLabel, suiteCounts, unloaded}
 use Rattle.lent_job.specs.DueLaws.{due-cases}
 use Rattle.lent_job.specs.Answers.{labels-few, lent-plain}
 
@@ -87,17 +91,17 @@ module _ (j : Job) (had olds : ℕ) (ot on ol : List ℕ) (news : ℕ) (nt nn nl
   abbrev lent-job : LentJob
   lent-job = lentJob j old-lent new-lent tt tests rows had
 
-  pub due-stage : (r : Counts) → (j .stage ≡ 3 → ⊥) → r ≡ refusedCounts 13 0 → r ≡ dueCounts (goesBy lent-job)
+  pub due-stage : (r : Counts) → (j .stage ≡ 3 → ⊥) → r ≡ refusedCounts 13 0 → r ≡ dueCounts (goesHeld lent-job)
   unfolding goesBy ofStage choose dueCounts
   due-stage r h e = e ∙ simp (ne-eqb _ _ h)
 
   module _ (st : j .stage ≡ 3) where
-    pub due-short : (r : Counts) → had < requestScratch → r ≡ refusedCounts 14 0 → r ≡ dueCounts (goesBy lent-job)
+    pub due-short : (r : Counts) → had < requestScratch → r ≡ refusedCounts 14 0 → r ≡ dueCounts (goesHeld lent-job)
     unfolding goesBy ofStage choose dueCounts
     due-short r h e = e ∙ simp (eq-eqb _ _ st, lt-leb requestScratch had h)
 
     module _ (room : requestScratch ≤ had) where
-      goes-held : (x : Option AllRead) → heldTests j old-lent new-lent tt tests rows ≡ x → goesBy lent-job ≡ after x (refused 14 0) (λ h. accepted h)
+      goes-held : (x : Option AllRead) → heldTests j old-lent new-lent tt tests rows ≡ x → goesHeld lent-job ≡ after x (refused 14 0) (λ h. accepted h)
       unfolding goesBy ofStage choose
       goes-held x e = simp (eq-eqb _ _ st, le-leb requestScratch had room, e)
 
@@ -112,16 +116,16 @@ module _ (j : Job) (had olds : ℕ) (ot on ol : List ℕ) (news : ℕ) (nt nn nl
       some-old none c e z = absurd (let v : ⊥ = omega (arith, z, ap (λ (y : Count). y .number) e) in v)
       some-old (some s) c e z = (s, refl)
 
-      held-none : (r : Counts) → heldTests j old-lent new-lent tt tests rows ≡ none → r ≡ refusedCounts 14 0 → r ≡ dueCounts (goesBy lent-job)
+      held-none : (r : Counts) → heldTests j old-lent new-lent tt tests rows ≡ none → r ≡ refusedCounts 14 0 → r ≡ dueCounts (goesHeld lent-job)
       unfolding dueCounts
       held-none r e d = d ∙ sym (ap dueCounts (goes-held none e))
 
-      pub due-old : (r : Counts) (c : Count) → c ≡ countLeft (versionLeft old-lent) → (c .number ≡ 0 → ⊥) → r ≡ refusedCounts 14 0 → r ≡ dueCounts (goesBy lent-job)
+      pub due-old : (r : Counts) (c : Count) → c ≡ countLeft (versionLeft old-lent) → (c .number ≡ 0 → ⊥) → r ≡ refusedCounts 14 0 → r ≡ dueCounts (goesHeld lent-job)
       unfolding heldTests
       due-old r c e z d = held-none r (simp (none-old (versionLeft old-lent) c e z)) d
 
       module _ (o : Count) (eo : o ≡ countLeft (versionLeft old-lent)) (zo : o .number ≡ 0) where
-        pub due-new : (r : Counts) (c : Count) → c ≡ countLeft (versionLeft new-lent) → (c .number ≡ 0 → ⊥) → r ≡ refusedCounts 14 0 → r ≡ dueCounts (goesBy lent-job)
+        pub due-new : (r : Counts) (c : Count) → c ≡ countLeft (versionLeft new-lent) → (c .number ≡ 0 → ⊥) → r ≡ refusedCounts 14 0 → r ≡ dueCounts (goesHeld lent-job)
         unfolding heldTests
         due-new r c e z d = let s = some-old (versionLeft old-lent) o eo zo in held-none r (simp (s .1, none-old (versionLeft new-lent) c e z)) d
 
@@ -136,14 +140,14 @@ module _ (j : Job) (had olds : ℕ) (ot on ol : List ℕ) (news : ℕ) (nt nn nl
             due-by none = refl
             due-by (some l) = due-last s s′ l (sameJob j (jobTests s s′ l))
 
-            due-is : (r : Counts) → r ≡ suiteCounts j o p (suiteLeft (o .edges) tt tests rows) → r ≡ dueCounts (goesBy lent-job)
+            due-is : (r : Counts) → r ≡ suiteCounts j o p (suiteLeft (o .edges) tt tests rows) → r ≡ dueCounts (goesHeld lent-job)
             unfolding heldTests countLeft
             due-is r e =
                 e ∙ ap₂ (λ (a b : Count). suiteCounts j a b (suiteLeft (a .edges) tt tests rows)) (eo ∙ ap countLeft es) (ep ∙ ap countLeft es′)
                 ∙ due-by (suiteLeft (edgeCount (s .program)) tt tests rows)
                 ∙ sym (ap dueCounts (goes-held (after (suiteLeft (edgeCount (s .program)) tt tests rows) none (λ l. choose (sameJob j (jobTests s s′ l)) (some (record { old = s; new = s′; tests = l })) none)) (simp (es, es′))))
 
-          pub due-done : (r : Counts) → r ≡ suiteCounts j o p (suiteLeft (o .edges) tt tests rows) → r ≡ dueCounts (goesBy lent-job)
+          pub due-done : (r : Counts) → r ≡ suiteCounts j o p (suiteLeft (o .edges) tt tests rows) → r ≡ dueCounts (goesHeld lent-job)
           due-done r e =
               let s = some-old (versionLeft old-lent) o eo zo in
               let s′ = some-old (versionLeft new-lent) p ep zp in
@@ -154,9 +158,9 @@ pub ruleset dues = (suite-stop, suite-goes, suite-other, due-stage, due-short, d
 -- ---- what is held
 
 -- The memories of what is held are ready, and its counts are within their limits.
-module _ (k : LentJob) (h : AllRead) (held : holding k ≡ some h) where
+module _ (k : LentJob) (h : AllRead) (had : held k ≡ some h) where
   parts : (versionLeft (k .old) ≡ some (h .old)) × (versionLeft (k .new) ≡ some (h .new)) × (suiteLeft (edgeCount (h .old .program)) (k .testsText) (k .tests) (k .rows) ≡ some (h .tests))
-  parts = let p = held-tests-parts (k .job) (k .old) (k .new) (k .testsText) (k .tests) (k .rows) h held in (p .0, p .1, p .2)
+  parts = let p = held-tests-parts (k .job) (k .old) (k .new) (k .testsText) (k .tests) (k .rows) h had in (p .0, p .1, p .2)
 
   old-few : Sound (h .old .program)
   old-few = version-sound (k .old) (h .old) (parts .0)
@@ -203,38 +207,38 @@ accepted-number : (h : AllRead) → dueCounts (accepted h) .number ≡ 0
 unfolding dueCounts
 accepted-number h = refl
 
-module _ (k : LentJob) (had : Counts) (eh : had ≡ dueCounts (goesBy k)) where
+module _ (k : LentJob) (had : Counts) (eh : had ≡ dueCounts (goesHeld k)) where
   pub due-few : Few had
   due-few =
-      due-cases k (λ n b c e. subst Few (sym (eh ∙ ap dueCounts e ∙ refused-counts n 0)) (few-none n 0)) (λ h e room held. subst Few (sym (eh ∙ ap dueCounts e)) (held-few k h held))
+      due-cases k (held k) (λ n b c e. subst Few (sym (eh ∙ ap dueCounts e ∙ refused-counts n 0)) (few-none n 0)) (λ h e room x. subst Few (sym (eh ∙ ap dueCounts e)) (held-few k h x))
 
   due-room : had .number ≡ 0 → requestScratch ≤ k .scratch
   due-room z =
-      due-cases k
+      due-cases k (held k)
       (λ n c d e. absurd (let v : ⊥ = omega (arith, z, c, ap (λ (t : Counts). t .number) (eh ∙ ap dueCounts e ∙ refused-counts n 0)) in v))
-      (λ h e room held. room)
+      (λ h e room x. room)
 
   pub due-asks : had .number ≡ 0 → (had .«old_nodes» ≤ 512) × (had .«new_nodes» ≤ 512) × (had .«old_edges» ≤ 1024) × (had .tests ≤ 200) × (requestScratch ≤ k .scratch)
   due-asks z = (due-few .few-old-nodes, due-few .few-new-nodes, due-few .few-old-edges, due-few .few-tests, due-room z)
 
   -- A refusal is the answer, whatever follows.
-  due-stops : (f : AllRead → Outcome) → (had .number ≡ 0 → ⊥) → outcome (goesBy k) f ≡ refusal (had .number) (had .place)
+  due-stops : (f : AllRead → Outcome) → (had .number ≡ 0 → ⊥) → outcome (goesHeld k) f ≡ refusal (had .number) (had .place)
   unfolding outcome
   due-stops f z =
-      due-cases k
+      due-cases k (held k)
       (λ n b c e. ap (λ (x : Reading AllRead). outcome x f) e ∙ sym (ap (λ (t : Counts). refusal (t .number) (t .place)) (eh ∙ ap dueCounts e ∙ refused-counts n 0)))
-      (λ h e room held. absurd (z (ap (λ (t : Counts). t .number) (eh ∙ ap dueCounts e) ∙ accepted-number h)))
+      (λ h e room x. absurd (z (ap (λ (t : Counts). t .number) (eh ∙ ap dueCounts e) ∙ accepted-number h)))
 
   -- Else what follows is the answer.
   due-goes : (f : AllRead → Outcome) (P : Outcome → Type 0) → had .number ≡ 0 → 2048 ≤ length (k .old .nodes) → 2048 ≤ length (k .new .nodes)
       → ((h : AllRead) → requestScratch ≤ k .scratch → Ready (memory (k .old .text) (k .old .nodes) (k .old .links)) (memory (k .new .text) (k .new .nodes) (k .new .links)) (k .testsText) (k .tests) (k .rows) had (givenBy h) → P (f h))
-      → P (outcome (goesBy k) f)
+      → P (outcome (goesHeld k) f)
   unfolding outcome
   due-goes f P z a b go =
-      due-cases k
+      due-cases k (held k)
       (λ n c d e. absurd (let v : ⊥ = omega (arith, z, c, ap (λ (t : Counts). t .number) (eh ∙ ap dueCounts e ∙ refused-counts n 0)) in v))
-      (λ h e room held.
-      let r = subst (λ (t : Counts). Ready (memory (k .old .text) (k .old .nodes) (k .old .links)) (memory (k .new .text) (k .new .nodes) (k .new .links)) (k .testsText) (k .tests) (k .rows) t (givenBy h)) (sym (eh ∙ ap dueCounts e)) (held-ready k h held a b) in
+      (λ h e room x.
+      let r = subst (λ (t : Counts). Ready (memory (k .old .text) (k .old .nodes) (k .old .links)) (memory (k .new .text) (k .new .nodes) (k .new .links)) (k .testsText) (k .tests) (k .rows) t (givenBy h)) (sym (eh ∙ ap dueCounts e)) (held-ready k h x a b) in
       subst P (sym (ap (λ (x : Reading AllRead). outcome x f) e)) (go h room r))
 
 -- A slice of the same length is as wide.
@@ -247,9 +251,9 @@ pub unloads : (w z r d : List ℕ) (k : ℕ) → z ≡ replicate 2048 0 → r �
 unfolding unloaded
 unloads w z r d k ez er ed = ed ∙ ap₂ (λ (a b : List ℕ). sets a 0 b) ez er
 
-unloaded-length : (k : ℕ) (w : List ℕ) → 2048 ≤ length (unloaded k w)
+unloaded-wide : (k : ℕ) (w l : List ℕ) → l ≡ unloaded k w → 2048 ≤ length l
 unfolding unloaded
-unloaded-length k w = omega (arith, length-sets (replicate 2048 0) 0 (take 2048 (drop k w)), length-replicate {A = ℕ} 2048 0)
+unloaded-wide k w l e = omega (arith, ap length e, length-sets (replicate 2048 0) 0 (take 2048 (drop k w)), length-replicate {A = ℕ} 2048 0)
 
 module _ (j : Job) (olds : ℕ) (ot on ol : List ℕ) (news : ℕ) (nt nn nl tt tests rows w : List ℕ) (eo : on ≡ unloaded 0 w) (en : nn ≡ unloaded 2048 w) where
   abbrev the-job : LentJob
@@ -259,29 +263,42 @@ module _ (j : Job) (olds : ℕ) (ot on ol : List ℕ) (news : ℕ) (nt nn nl tt 
   is-loaded = ap₂ (λ (a b : List ℕ). lentJob j (numbers olds ot a ol) (numbers news nt b nl) tt tests rows (length w)) eo en
 
   wide-old : 2048 ≤ length on
-  wide-old = subst (λ (l : List ℕ). 2048 ≤ length l) (sym eo) (unloaded-length 0 w)
+  wide-old = unloaded-wide 0 w on eo
 
   wide-new : 2048 ≤ length nn
-  wide-new = subst (λ (l : List ℕ). 2048 ≤ length l) (sym en) (unloaded-length 2048 w)
+  wide-new = unloaded-wide 2048 w nn en
 
-  -- ---- `call_in`
+-- ---- `call_held`
 
-  module _ (q : Asked) (had : Counts) (eh : had ≡ dueCounts (goesBy the-job)) (input : Bytes) where
-    abbrev call-loaded : ℕ → Outcome
-    call-loaded room = lentCall q (loadedJob j olds ot ol news nt nl tt tests rows w) input room
+module _ (q : Asked) (k : LentJob) (had : Counts) (eh : had ≡ dueCounts (goesHeld k)) (input : Bytes) where
+  pub held-stop : (out : Bytes) (r : Answer) → (had .number ≡ 0 → ⊥) → r ≡ refusalOf had → HeldAnswer q k input out r out
+  unfolding HeldAnswer
+  held-stop out r z er =
+      subst (λ (x : Answer). HeldAnswer q k input out x out) (sym er) (told-as (due-stops k had eh _ z) (refusal-told (had .number) (had .place) out))
 
-    pub call-stop : (out : Bytes) (r : Answer) → (had .number ≡ 0 → ⊥) → r ≡ refusalOf had → Told (call-loaded (length out)) r out out
-    unfolding lentCall
-    call-stop out r z er =
-        subst (λ (x : Answer). Told (call-loaded (length out)) x out out) (sym er)
-        (subst (λ (k : LentJob). Told (lentCall q k input (length out)) (refusalOf had) out out) is-loaded
-        (told-as (due-stops the-job had eh _ z) (refusal-told (had .number) (had .place) out)))
+  pub held-goes : 2048 ≤ length (k .old .nodes) → 2048 ≤ length (k .new .nodes) → (w w′ out out′ : List ℕ) (r : Answer) → had .number ≡ 0
+      → Done w w′ out out′ (Served q (memory (k .old .text) (k .old .nodes) (k .old .links)) (memory (k .new .text) (k .new .nodes) (k .new .links)) (k .testsText) (k .tests) (k .rows) had input out r out′)
+      → HeldAnswer q k input out r out′
+  unfolding HeldAnswer Served
+  held-goes a b w w′ out out′ r z d = due-goes k had eh _ (λ x. Told x r out out′) z a b (λ h room y. d .claim (givenBy h) y)
 
-    pub call-goes : (w₁ w′ out out′ : List ℕ) (r : Answer) → had .number ≡ 0 → Done w₁ w′ out out′ (Served q (memory ot on ol) (memory nt nn nl) tt tests rows had input out r out′) → Told (call-loaded (length out)) r out out′
-    unfolding lentCall Served
-    call-goes w₁ w′ out out′ r z d =
-        subst (λ (k : LentJob). Told (lentCall q k input (length out)) r out out′) is-loaded
-        (due-goes the-job had eh _ (λ x. Told x r out out′) z wide-old wide-new (λ h room y. d .claim (givenBy h) y))
+-- ---- `call_in`
+
+-- The answer of the job with its scratch loaded.
+module _ (j : Job) (olds : ℕ) (ot on ol : List ℕ) (news : ℕ) (nt nn nl tt tests rows w : List ℕ) (eo : on ≡ unloaded 0 w) (en : nn ≡ unloaded 2048 w) (q : Asked) (input out out′ : Bytes) (r : Answer) where
+  abbrev call-job : LentJob
+  call-job = the-job j olds ot on ol news nt nn nl tt tests rows w eo en
+
+  loaded-told : Told (lentCall q call-job input (length out)) r out out′ → Told (lentCall q (loadedJob j olds ot ol news nt nl tt tests rows w) input (length out)) r out out′
+  loaded-told t = subst (λ (k : LentJob). Told (lentCall q k input (length out)) r out out′) (is-loaded j olds ot on ol news nt nn nl tt tests rows w eo en) t
+
+  pub call-back : takesParts q ≡ true → BackAnswer q call-job input out r out′ → Told (lentCall q (loadedJob j olds ot ol news nt nl tt tests rows w) input (length out)) r out out′
+  unfolding lentCall holding BackAnswer
+  call-back e t = loaded-told (told-as (ap (λ (x : Option AllRead). outcome (goesBy call-job x) (λ h. serving q (givenBy h) input (length out))) (choose-yes _ _ e)) t)
+
+  pub call-held : takesParts q ≡ false → HeldAnswer q call-job input out r out′ → Told (lentCall q (loadedJob j olds ot ol news nt nl tt tests rows w) input (length out)) r out out′
+  unfolding lentCall holding HeldAnswer
+  call-held e t = loaded-told (told-as (ap (λ (x : Option AllRead). outcome (goesBy call-job x) (λ h. serving q (givenBy h) input (length out))) (choose-no _ _ e)) t)
 
 -- ---- `label_at`, `label_of`
 
@@ -338,23 +355,23 @@ module _ (t nodes links t′ nodes′ links′ : List ℕ) (s s′ : Listing) (h
       simp (a, b)
 
 module _ (j : Job) (olds : ℕ) (ot on ol : List ℕ) (news : ℕ) (nt nn nl tt tests rows w : List ℕ) (eo : on ≡ unloaded 0 w) (en : nn ≡ unloaded 2048 w) (side n : ℕ) (had : Counts)
-    (eh : had ≡ dueCounts (goesBy (the-job j olds ot on ol news nt nn nl tt tests rows w eo en))) where
+    (eh : had ≡ dueCounts (goesHeld (the-job j olds ot on ol news nt nn nl tt tests rows w eo en))) where
   abbrev label-job : LentJob
   label-job = the-job j olds ot on ol news nt nn nl tt tests rows w eo en
 
   -- The same, of the job with its scratch loaded.
-  span-loaded : (r : Label) → spanOf r ≡ spanBy (goesBy label-job) label-job side n → SpanIs (labelSpanCall (loadedJob j olds ot ol news nt nl tt tests rows w) side n) r
+  span-loaded : (r : Label) → spanOf r ≡ spanBy (goesHeld label-job) label-job side n → SpanIs (labelSpanCall (loadedJob j olds ot ol news nt nl tt tests rows w) side n) r
   unfolding labelSpanCall
   span-loaded r e =
-      let z = e ∙ ap (λ (k : LentJob). spanBy (goesBy k) k side n) (is-loaded j olds ot on ol news nt nn nl tt tests rows w eo en) in
+      let z = e ∙ ap (λ (k : LentJob). spanBy (goesHeld k) k side n) (is-loaded j olds ot on ol news nt nn nl tt tests rows w eo en) in
       record { start-is = ap (λ (x : Span). x .start) z; len-is = ap (λ (x : Span). x .len) z }
 
   pub label-stop : (had .number ≡ 0 → ⊥) → SpanIs (labelSpanCall (loadedJob j olds ot ol news nt nl tt tests rows w) side n) (record { start = 0; len = 0 })
   unfolding spanBy
   label-stop z =
-      span-loaded _ (due-cases label-job
+      span-loaded _ (due-cases label-job (held label-job)
       (λ m b c e. sym (ap (λ (x : Reading AllRead). spanBy x label-job side n) e))
-      (λ h e room held. absurd (z (ap (λ (t : Counts). t .number) (eh ∙ ap dueCounts e) ∙ accepted-number h))))
+      (λ h e room x. absurd (z (ap (λ (t : Counts). t .number) (eh ∙ ap dueCounts e) ∙ accepted-number h))))
 
   counts-of : (h : AllRead) → (dueCounts (accepted h) .«old_nodes» ≡ nodeCount (h .old .program)) × (dueCounts (accepted h) .«new_nodes» ≡ nodeCount (h .new .program))
   unfolding dueCounts
@@ -363,10 +380,10 @@ module _ (j : Job) (olds : ℕ) (ot on ol : List ℕ) (news : ℕ) (nt nn nl tt 
   pub label-goes : (r : Label) → had .number ≡ 0 → r ≡ labelBySide side (had .«old_nodes») on (had .«new_nodes») nn n → SpanIs (labelSpanCall (loadedJob j olds ot ol news nt nl tt tests rows w) side n) r
   unfolding spanBy
   label-goes r z er =
-      span-loaded r (due-cases label-job
+      span-loaded r (due-cases label-job (held label-job)
       (λ m c d e. absurd (let v : ⊥ = omega (arith, z, c, ap (λ (t : Counts). t .number) (eh ∙ ap dueCounts e ∙ refused-counts m 0)) in v))
-      (λ h e room held.
-      let p = parts label-job h held in
+      (λ h e room x.
+      let p = parts label-job h x in
       let a : had .«old_nodes» ≡ nodeCount (h .old .program) = ap (λ (t : Counts). t .«old_nodes») (eh ∙ ap dueCounts e) ∙ counts-of h .0 in
       let b : had .«new_nodes» ≡ nodeCount (h .new .program) = ap (λ (t : Counts). t .«new_nodes») (eh ∙ ap dueCounts e) ∙ counts-of h .1 in
       ap spanOf (er ∙ ap₂ (λ (x y : ℕ). labelBySide side x on y nn n) a b)
@@ -410,7 +427,7 @@ module _ (k : LentJob) (side n : ℕ) where
 
   part-found : (r : Label) (part : Bytes) → SpanIs (labelSpanCall k side n) r → part ≡ partShown (k .old .text) (k .new .text) side (r .start) (r .len) → part ≡ labelPartCall k side n
   unfolding labelSpanCall labelPartCall
-  part-found r part e ep = ep ∙ ap₂ (λ (a b : ℕ). partShown (k .old .text) (k .new .text) side a b) (e .start-is) (e .len-is) ∙ part-by (goesBy k)
+  part-found r part e ep = ep ∙ ap₂ (λ (a b : ℕ). partShown (k .old .text) (k .new .text) side a b) (e .start-is) (e .len-is) ∙ part-by (goesHeld k)
 
 -- ---- the outer functions: the scratch is zero
 
@@ -427,18 +444,15 @@ pub ruleset labels = (label-none, label-found, side-old, side-new, side-none, la
 -- ---- the calls: what is lent is what the scratch was loaded with
 
 -- Numbers that fill their table are the table.
-fill : (l : List ℕ) → length l ≡ 2048 → sets (replicate 2048 0) 0 l ≡ l
-fill l e =
-    sets-front (replicate 2048 0) l (omega (arith, length-replicate {A = ℕ} 2048 0))
-    ∙ ap (λ (x : List ℕ). l ++ x) (drop-end (replicate 2048 0) (length l) (omega (arith, length-replicate {A = ℕ} 2048 0)))
-    ∙ append-nil l
+pub fill : (t l : List ℕ) → length l ≡ length t → sets t 0 l ≡ l
+fill t l e = sets-front t l (omega (arith, e)) ∙ ap (λ (x : List ℕ). l ++ x) (drop-end t (length l) (omega (arith, e))) ∙ append-nil l
 
 -- Numbers that were stored at the place k are those unloaded from there.
 unloads-stored : (l w : List ℕ) (k : ℕ) → length l ≡ 2048 → k + 2048 ≤ length w → unloaded k (sets w k l) ≡ l
 unfolding unloaded
 unloads-stored l w k e h =
     let t : take 2048 (drop k (sets w k l)) ≡ l = ap (λ (n : ℕ). take n (drop k (sets w k l))) (sym e) ∙ part-sets l w k (omega (arith, e, h)) in
-    ap (λ (x : List ℕ). sets (replicate 2048 0) 0 x) t ∙ fill l e
+    ap (λ (x : List ℕ). sets (replicate 2048 0) 0 x) t ∙ fill (replicate 2048 0) l (e ∙ sym (length-replicate {A = ℕ} 2048 0))
 
 module _ (on nn : List Node) (w w₁ : List ℕ) (loaded : w₁ ≡ sets (sets w 0 (flat (take 512 on))) 2048 (flat (take 512 nn))) (long : 4096 ≤ length w) where
   flat-front : (n : List Node) → 512 ≤ length n → length (flat (take 512 n)) ≡ 2048
@@ -464,6 +478,46 @@ module _ (on nn : List Node) (w w₁ : List ℕ) (loaded : w₁ ≡ sets (sets w
   new-held : (t : Bytes) (l : List ℕ) → versionLeft (numbers (length nn) t (unloaded 2048 w₁) l) ≡ versionLeft (lent t nn l)
   new-held t l = front-left t nn l (unloaded 2048 w₁) new-unloaded
 
+-- Numbers that were loaded agree with those of the records.
+loaded-agree : (n : List Node) (l : List ℕ) → 512 ≤ length n → l ≡ flat (take 512 n) → (i : ℕ) → i < 2048 → getD l i 0 ≡ getD (flat n) i 0
+loaded-agree n l h e i b =
+    let f : flat n ≡ flat (take 512 n) ++ flat (drop 512 n) = ap flat (sym (take-append-drop 512 n)) ∙ flat-append (take 512 n) (drop 512 n) in
+    ap (λ (x : List ℕ). getD x i 0) e
+    ∙ sym (ap (λ (x : List ℕ). getD x i 0) f ∙ List·getD-append (flat (take 512 n)) (flat (drop 512 n)) 0 i (omega (arith, b, flat-length (take 512 n), length-take-le 512 n h)))
+
+limited-small : (p n e : ℕ) → Small (limited p n e)
+limited-small p n e = record { few-procs = omega arith; few-nodes = omega arith; few-edges = omega arith }
+
+pub limit-small : (c : Count) (p n e : ℕ) → c ≡ limited p n e → Small c
+limit-small c p n e d = subst Small (sym d) (limited-small p n e)
+
+-- Where fewer than 512 records are lent of a version nothing is held, whatever the texts.
+short-left : (v : Lent) → v .room < 512 → versionLeft v ≡ none
+unfolding versionLeft leftBy longEnough _and_ choose
+short-left v h = go (readListing (v .text))
+  where
+    go : (x : Reading Listing) → leftBy x v ≡ none
+    go (refused k p) = refl
+    go (accepted s) = simp (lt-leb 512 (v .room) h)
+
+module _ (j : Job) (v v′ : Lent) (text t w : List ℕ) where
+  short-old : v .room < 512 → heldTests j v v′ text t w ≡ none
+  unfolding heldTests
+  short-old h = simp (short-left v h)
+
+  short-new : v′ .room < 512 → heldTests j v v′ text t w ≡ none
+  unfolding heldTests
+  short-new h = go (versionLeft v)
+    where
+      go : (x : Option Listing) → after {B = Option AllRead} x none (λ o. after (versionLeft v′) none (λ p. after (suiteLeft (edgeCount (o .program)) text t w) none
+          (λ l. choose (sameJob j (jobTests o p l)) (some (record { old = o; new = p; tests = l })) none))) ≡ none
+      go none = refl
+      go (some o) = simp (short-left v′ h)
+
+none-held : (k : LentJob) → held (writtenBack k) ≡ none → heldBack k ≡ none
+unfolding heldBack
+none-held k e = ap (λ (x : Option AllRead). after x none (λ h. choose (othersAlone k h) (some h) none)) e
+
 module _ (j : Job) (ot : Bytes) (on : List Node) (ol nt : List ℕ) (nn : List Node) (nl tt tests rows w w₁ : List ℕ) (loaded : w₁ ≡ sets (sets w 0 (flat (take 512 on))) 2048 (flat (take 512 nn))) where
   abbrev job-loaded : LentJob
   job-loaded = loadedJob j (length on) ot ol (length nn) nt nl tt tests rows w₁
@@ -474,25 +528,61 @@ module _ (j : Job) (ot : Bytes) (on : List Node) (ol nt : List ℕ) (nn : List N
   long-same : length w₁ ≡ length w
   long-same = ap length loaded ∙ length-sets (sets w 0 (flat (take 512 on))) 2048 (flat (take 512 nn)) ∙ length-sets w 0 (flat (take 512 on))
 
-  held-same : 4096 ≤ length w → heldTests j (job-loaded .old) (job-loaded .new) tt tests rows ≡ heldTests j (lent ot on ol) (lent nt nn nl) tt tests rows
+  -- What is held is the same, by any texts.
+  held-texts : (a b : Bytes) → 4096 ≤ length w
+      → heldTests j (numbers (length on) a (unloaded 0 w₁) ol) (numbers (length nn) b (unloaded 2048 w₁) nl) tt tests rows ≡ heldTests j (lent a on ol) (lent b nn nl) tt tests rows
   unfolding heldTests
-  held-same h =
+  held-texts a b h =
       ap₂ (λ (x y : Option Listing). after x none (λ o. after y none (λ p. after (suiteLeft (edgeCount (o .program)) tt tests rows) none (λ l. choose (sameJob j (jobTests o p l)) (some (record { old = o; new = p; tests = l })) none))))
-      (old-held on nn w w₁ loaded h ot ol) (new-held on nn w w₁ loaded h nt nl)
+      (old-held on nn w w₁ loaded h a ol) (new-held on nn w w₁ loaded h b nl)
 
-  goes-same : goesBy job-loaded ≡ goesBy job-lent
+  held-same : 4096 ≤ length w → held job-loaded ≡ held job-lent
+  held-same = held-texts ot nt
+
+  -- So are the texts that the tables write back, and what they hold.
+  module _ (few-on : 512 ≤ length on) (few-nn : 512 ≤ length nn) (long : 4096 ≤ length w) where
+    old-text : textBack (job-loaded .old) (oldCount j) ≡ textBack (job-lent .old) (oldCount j)
+    unfolding textBack
+    old-text = ap (take maxBytes) (back-agrees ot (unloaded 0 w₁) (flat on) ol (loaded-agree on (unloaded 0 w₁) few-on (old-unloaded on nn w w₁ loaded long few-on)) (oldCount j) (limited-small _ _ _))
+
+    new-text : textBack (job-loaded .new) (newCount j) ≡ textBack (job-lent .new) (newCount j)
+    unfolding textBack
+    new-text = ap (take maxBytes) (back-agrees nt (unloaded 2048 w₁) (flat nn) nl (loaded-agree nn (unloaded 2048 w₁) few-nn (new-unloaded on nn w w₁ loaded long few-nn)) (newCount j) (limited-small _ _ _))
+
+    texts-same : heldBack job-loaded ≡ heldBack job-lent
+    unfolding heldBack writtenBack othersAlone
+    texts-same =
+        ap₂ (λ (a b : Bytes). after (heldTests j (numbers (length on) a (unloaded 0 w₁) ol) (numbers (length nn) b (unloaded 2048 w₁) nl) tt tests rows) none
+        (λ h. choose (otherAlone ot a (h .old) and otherAlone nt b (h .new)) (some h) none)) old-text new-text
+        ∙ ap (λ (x : Option AllRead). after x none (λ h. choose (othersAlone job-lent h) (some h) none)) (held-texts (textBack (job-lent .old) (oldCount j)) (textBack (job-lent .new) (newCount j)) long)
+
+  back-same : 4096 ≤ length w → heldBack job-loaded ≡ heldBack job-lent
+  unfolding heldBack writtenBack
+  back-same long =
+      below-or (length on) 512
+      (λ b. none-held job-loaded (short-old _ _ _ _ _ _ b) ∙ sym (none-held job-lent (short-old _ _ _ _ _ _ b)))
+      (λ b.
+      below-or (length nn) 512
+      (λ d. none-held job-loaded (short-new _ _ _ _ _ _ d) ∙ sym (none-held job-lent (short-new _ _ _ _ _ _ d)))
+      (λ d. texts-same b d long))
+
+  holding-same : (q : Asked) → 4096 ≤ length w → holding q job-loaded ≡ holding q job-lent
+  unfolding holding
+  holding-same q long = ap₂ (λ (x y : Option AllRead). choose (takesParts q) x y) (back-same long) (held-same long)
+
+  goes-same : (x y : Option AllRead) → (4096 ≤ length w → x ≡ y) → goesBy job-loaded x ≡ goesBy job-lent y
   unfolding goesBy choose
-  goes-same =
+  goes-same x y same =
       below-or (length w) requestScratch
       (λ b. let b₁ : length w₁ < requestScratch = omega (arith, long-same) in simp (lt-leb requestScratch (length w) b, lt-leb requestScratch (length w₁) b₁))
-      (λ b. ap₂ (λ (n : ℕ) (x : Option AllRead). choose (ofStage make-request (j .stage)) (choose (leb requestScratch n) (after x (refused 14 0) (λ g. accepted g)) (refused 14 0)) (refused 13 0)) long-same (held-same (omega (arith, b))))
+      (λ b. ap₂ (λ (n : ℕ) (z : Option AllRead). choose (ofStage make-request (j .stage)) (choose (leb requestScratch n) (after z (refused 14 0) (λ g. accepted g)) (refused 14 0)) (refused 13 0)) long-same (same (omega (arith, b))))
 
   kept : (w₂ : List ℕ) → w₂ ≡ replicate (length w₁) 0 → Kept j j w w₂
   kept w₂ e = record { job-is = refl; scratch-is = e ∙ ap (λ (k : ℕ). replicate k 0) long-same }
 
   call-same : (q : Asked) (input : Bytes) (room : ℕ) → lentCall q job-loaded input room ≡ lentCall q job-lent input room
   unfolding lentCall
-  call-same q input room = ap (λ (x : Reading AllRead). outcome x (λ h. serving q (givenBy h) input room)) goes-same
+  call-same q input room = ap (λ (x : Reading AllRead). outcome x (λ h. serving q (givenBy h) input room)) (goes-same (holding q job-loaded) (holding q job-lent) (holding-same q))
 
   -- `ry_job_call`
   pub call-is : (q : Asked) (input : Bytes) (a : Answer) (r : ℕ) (w₂ out out′ : List ℕ) → CalledOn (lentCall q job-loaded input (length out)) a w₁ w₂ out out′ → r ≡ packing (a .number) (a .place)
@@ -504,7 +594,7 @@ module _ (j : Job) (ot : Bytes) (on : List Node) (ol nt : List ℕ) (nn : List N
 
   span-same : (side n : ℕ) → labelSpanCall job-loaded side n ≡ labelSpanCall job-lent side n
   unfolding labelSpanCall spanBy
-  span-same side n = go (goesBy job-loaded) ∙ ap (λ (x : Reading AllRead). spanBy x job-lent side n) goes-same
+  span-same side n = go (goesHeld job-loaded) ∙ ap (λ (x : Reading AllRead). spanBy x job-lent side n) (goes-same (held job-loaded) (held job-lent) held-same)
     where
       go : (x : Reading AllRead) → spanBy x job-loaded side n ≡ spanBy x job-lent side n
       go (refused q p) = refl
@@ -523,7 +613,7 @@ module _ (j : Job) (ot : Bytes) (on : List Node) (ol nt : List ℕ) (nn : List N
 
   part-same : (side n : ℕ) → labelPartCall job-loaded side n ≡ labelPartCall job-lent side n
   unfolding labelPartCall shownBy
-  part-same side n = go (goesBy job-loaded) ∙ ap (λ (x : Reading AllRead). shownBy x job-lent side n) goes-same
+  part-same side n = go (goesHeld job-loaded) ∙ ap (λ (x : Reading AllRead). shownBy x job-lent side n) (goes-same (held job-loaded) (held job-lent) held-same)
     where
       go : (x : Reading AllRead) → shownBy x job-loaded side n ≡ shownBy x job-lent side n
       go (refused q p) = refl
@@ -534,6 +624,6 @@ module _ (j : Job) (ot : Bytes) (on : List Node) (ol nt : List ℕ) (nn : List N
       → Shown (labelPartCall job-lent side n) r j j w w₂
   shown-is side n a r w₂ h ew er = record { part-is = part-found job-loaded side n a r h er ∙ part-same side n; kept = kept w₂ ew }
 
-pub ruleset calls = (unloads, due-few, call-stop, call-goes, on-called)
+pub ruleset calls = (limit-small, unloads, due-few, held-stop, held-goes, call-back, call-held, on-called)
 
 pub ruleset all = (dues, labels, calls)

@@ -10,7 +10,7 @@ use Rattle.laws.specs.Tests.{choose}
 use Rattle.rules.specs.Text.{Bytes, Reading, refused, accepted}
 use Rattle.rules.specs.Graph.{nodeCount, edgeCount}
 use Rattle.rules.specs.SuiteFile.{TestListing, testCount}
-use Rattle.rules.specs.Job.{Outcome, Span, read-tests, stageAfter}
+use Rattle.rules.specs.Job.{Outcome, Request, Span, outcome, read-tests, serving, stageAfter}
 use Rattle.answer.specs.declared.Answer.{Answer}
 use Rattle.answer.specs.Outcomes.{Told}
 use Rattle.reader.specs.declared.Count.{Count}
@@ -19,7 +19,7 @@ use Rattle.intake.specs.Ready.{refusedCounts}
 use Rattle.records.specs.declared.Job.{Job}
 use Rattle.records.specs.Jobs.{sameJob}
 use Rattle.lent_job.specs.Held.{AllRead, jobAt, numbers}
-use Rattle.lent_job.specs.Calls.{LentJob, lentJob}
+use Rattle.lent_job.specs.Calls.{LentJob, givenBy, goesBy, goesHeld, heldBack, lentJob}
 use Rattle.job_calls.specs.declared.Label.{Label}
 
 -- 2,048 numbers of a scratch, from the place k on.
@@ -52,6 +52,17 @@ dueCounts (accepted h) =
       «new_edges» = edgeCount (h .new .program);
       tests = testCount (h .tests .suite);
     }
+
+-- `call_held`: what is asked, where job and tables are what reading the lent texts leaves; `call_back`: the same of the texts that the tables write back.
+unfoldable pub HeldAnswer : Request → LentJob → Bytes → Bytes → Answer → Bytes → Type 0
+HeldAnswer q k input out r out′ = Told (outcome (goesHeld k) (λ h. serving q (givenBy h) input (length out))) r out out′
+
+unfoldable pub BackAnswer : Request → LentJob → Bytes → Bytes → Answer → Bytes → Type 0
+BackAnswer q k input out r out′ = Told (outcome (goesBy k (heldBack k)) (λ h. serving q (givenBy h) input (length out))) r out out′
+
+-- `not_held`: 13 at another stage than 3, else 14.
+unfoldable pub notHeld : Job → Answer
+notHeld j = record { number = choose (eqb (j .stage) 3) 14 13; place = 0 }
 
 -- `call_on`: number and place, and the output; the scratch is zero.
 pub record CalledOn (x : Outcome) (r : Answer) (w w′ out out′ : List ℕ) : Type 0 where

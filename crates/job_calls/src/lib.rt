@@ -9,17 +9,38 @@ use records::Node;
 use requests::Request;
 use text::clear;
 use text::copy;
+use text::front;
 use text::get;
 use text::run;
 ghost use mathlib.Core.Path.{_≡_};
-ghost use Prim.Native.Nat.{_≤_};
+ghost use Prim.Native.Nat.{_≤_, min};
 ghost use lib.ListN.{length, replicate};
 ghost use Rattle.answer.specs.Outcomes.{Told};
 ghost use Rattle.rules.specs.Job.{requestBy};
 ghost use Rattle.requests.specs.Requests.{asked};
 ghost use Rattle.lent_job.specs.Held.{lent, numbers, suiteLeft};
-ghost use Rattle.lent_job.specs.Calls.{Shown, goesBy, labelPartCall, labelSpanCall, lentCall, lentJob};
-ghost use Rattle.job_calls.specs.Loaded.{CalledOn, SpanIs, dueCounts, labelBySide, labelOfNode, loadedJob, suiteCounts};
+ghost use Rattle.lent_job.specs.Calls.{
+  Shown,
+  goesHeld,
+  labelPartCall,
+  labelSpanCall,
+  lentCall,
+  lentJob,
+  limited,
+  takesParts,
+};
+ghost use Rattle.job_calls.specs.Loaded.{
+  BackAnswer,
+  CalledOn,
+  HeldAnswer,
+  SpanIs,
+  dueCounts,
+  labelBySide,
+  labelOfNode,
+  loadedJob,
+  notHeld,
+  suiteCounts,
+};
 
 // ---- 13 and 14
 
@@ -75,7 +96,7 @@ fn due(
     rows: &[u64],
     w: &mut [usize],
 ) -> Counts
-    ensures { λ r. ⌜ r ≡ dueCounts (goesBy (lentJob job (numbers oldroom (now (ot .entry)) (now (on .entry)) (now (ol .entry))) (numbers newroom (now (nt .entry)) (now (nn .entry)) (now (nl .entry))) (now (tt .entry)) (now (tests .entry)) (now (rows .entry)) (length (now (w .entry))))) ⌝ }
+    ensures { λ r. ⌜ r ≡ dueCounts (goesHeld (lentJob job (numbers oldroom (now (ot .entry)) (now (on .entry)) (now (ol .entry))) (numbers newroom (now (nt .entry)) (now (nn .entry)) (now (nl .entry))) (now (tt .entry)) (now (tests .entry)) (now (rows .entry)) (length (now (w .entry))))) ⌝ }
 {
     if job.stage != 3 {
         return refused(13, 0);
@@ -96,7 +117,189 @@ fn due(
 
 // ---- requests
 
-// Does what is asked; the scratch is then the table of the pairs. What it holds afterwards is left open.
+// Whether a request takes of the lent texts of the two versions only names, callees, labels and words.
+fn takes_parts(request: Request) -> bool
+    ensures { λ r. ⌜ r ≡ takesParts (asked request) ⌝ }
+{
+    match request {
+        Request::Sheet => {
+            return false;
+        }
+        Request::Record(i) => {
+            return false;
+        }
+        Request::Check => {
+            return false;
+        }
+        Request::Label(side, node) => {
+            return false;
+        }
+        Request::Program(side) => {
+            return true;
+        }
+        Request::Unknown => {
+            return false;
+        }
+    }
+}
+
+// Does what is asked, where job and tables are what reading these texts leaves; the scratch is then the table of the pairs. What it holds
+// afterwards is left open.
+fn call_held(
+    job: Job,
+    oldroom: usize,
+    newroom: usize,
+    ot: &[u8],
+    on: &[usize],
+    ol: &[usize],
+    nt: &[u8],
+    nn: &[usize],
+    nl: &[usize],
+    tt: &[u8],
+    tests: &[usize],
+    rows: &[u64],
+    request: Request,
+    input: &[u8],
+    w: &mut [usize],
+    out: &mut [u8],
+) -> Answer
+    requires { ⌜ (2048 ≤ length (now on)) × (2048 ≤ length (now nn)) ⌝ }
+    ensures { λ r. ⌜ HeldAnswer (asked request) (lentJob job (numbers oldroom (now (ot .entry)) (now (on .entry)) (now (ol .entry))) (numbers newroom (now (nt .entry)) (now (nn .entry)) (now (nl .entry))) (now (tt .entry)) (now (tests .entry)) (now (rows .entry)) (length (now (w .entry)))) (now (input .entry)) (now (out .entry)) r (now (out .exit)) ⌝ }
+{
+    let had = due(
+        job,
+        oldroom,
+        ot,
+        on,
+        ol,
+        newroom,
+        nt,
+        nn,
+        nl,
+        tt,
+        tests,
+        rows,
+        w,
+    );
+    if had.number != 0 {
+        return requests::unread(had);
+    }
+    requests::serve(
+        ot,
+        on,
+        ol,
+        nt,
+        nn,
+        nl,
+        tt,
+        tests,
+        rows,
+        had,
+        request,
+        input,
+        w,
+        out,
+    )
+}
+
+// The lesser of the two.
+fn least(a: usize, b: usize) -> usize
+    ensures { λ r. ⌜ r ≡ min a b ⌝ }
+{
+    if a < b {
+        return a;
+    }
+    b
+}
+
+// The counts that a job says of a version, each at most its limit.
+fn limit(procs: usize, nodes: usize, edges: usize) -> Count
+    ensures { λ r. ⌜ r ≡ limited procs nodes edges ⌝ }
+{
+    Count {
+        number: 0,
+        place: 0,
+        procs: least(procs, 64),
+        nodes: least(nodes, 512),
+        edges: least(edges, 1024),
+    }
+}
+
+// The answer where job and tables are not what reading leaves: 13 at another stage, else 14.
+fn not_held(job: Job) -> Answer
+    ensures { λ r. ⌜ r ≡ notHeld job ⌝ }
+{
+    if job.stage != 3 {
+        return Answer {
+            number: 13,
+            place: 0,
+        };
+    }
+    Answer {
+        number: 14,
+        place: 0,
+    }
+}
+
+// Does what is asked, of the texts that the tables write back, where those lent have the same names, labels, callees and words.
+fn call_back(
+    job: Job,
+    oldroom: usize,
+    newroom: usize,
+    ot: &[u8],
+    on: &[usize],
+    ol: &[usize],
+    nt: &[u8],
+    nn: &[usize],
+    nl: &[usize],
+    tt: &[u8],
+    tests: &[usize],
+    rows: &[u64],
+    request: Request,
+    input: &[u8],
+    w: &mut [usize],
+    out: &mut [u8],
+) -> Answer
+    requires { ⌜ (2048 ≤ length (now on)) × (2048 ≤ length (now nn)) ⌝ }
+    ensures { λ r. ⌜ BackAnswer (asked request) (lentJob job (numbers oldroom (now (ot .entry)) (now (on .entry)) (now (ol .entry))) (numbers newroom (now (nt .entry)) (now (nn .entry)) (now (nl .entry))) (now (tt .entry)) (now (tests .entry)) (now (rows .entry)) (length (now (w .entry)))) (now (input .entry)) (now (out .entry)) r (now (out .exit)) ⌝ }
+{
+    let mut old = [0u8; 65536];
+    let mut new = [0u8; 65536];
+    let o = limit(job.old_procs, job.old_nodes, job.old_edges);
+    let p = limit(job.new_procs, job.new_nodes, job.new_edges);
+    let a = writeback::write_program(ot, on, ol, o, &mut old);
+    let b = writeback::write_program(nt, nn, nl, p, &mut new);
+    let oback = front(&old, a);
+    let nback = front(&new, b);
+    if writeback::same_parts(ot, oback, on, ol, o) {
+        if writeback::same_parts(nt, nback, nn, nl, p) {
+            return call_held(
+                job,
+                oldroom,
+                newroom,
+                oback,
+                on,
+                ol,
+                nback,
+                nn,
+                nl,
+                tt,
+                tests,
+                rows,
+                request,
+                input,
+                w,
+                out,
+            );
+        }
+        return not_held(job);
+    }
+    not_held(job)
+}
+
+// Does what is asked, by the lent texts as they are or by what is to be taken of them. `call_back` is called at two places, for a short output
+// and for one that is long enough for every program: a function that is called once the compiler puts into its caller, and the 131,072 bytes of
+// the two texts would stand in the frame of every request (docs/MEMORY.md).
 fn call_in(
     job: Job,
     oldroom: usize,
@@ -119,25 +322,50 @@ fn call_in(
     let mut nn = [0usize; 2048];
     copy(&mut on, 0, run(w, 0, 2048));
     copy(&mut nn, 0, run(w, 2048, 2048));
-    let had = due(
+    if takes_parts(request) {
+        if out.len() < 65536 {
+            return call_back(
+                job,
+                oldroom,
+                newroom,
+                ot,
+                &on,
+                ol,
+                nt,
+                &nn,
+                nl,
+                tt,
+                tests,
+                rows,
+                request,
+                input,
+                w,
+                out,
+            );
+        }
+        return call_back(
+            job,
+            oldroom,
+            newroom,
+            ot,
+            &on,
+            ol,
+            nt,
+            &nn,
+            nl,
+            tt,
+            tests,
+            rows,
+            request,
+            input,
+            w,
+            out,
+        );
+    }
+    call_held(
         job,
         oldroom,
-        ot,
-        &on,
-        ol,
         newroom,
-        nt,
-        &nn,
-        nl,
-        tt,
-        tests,
-        rows,
-        w,
-    );
-    if had.number != 0 {
-        return requests::unread(had);
-    }
-    requests::serve(
         ot,
         &on,
         ol,
@@ -147,7 +375,6 @@ fn call_in(
         tt,
         tests,
         rows,
-        had,
         request,
         input,
         w,

@@ -13,17 +13,21 @@ use Rattle.rules.specs.Text.{Reading, Bytes, accepted, maxPairs, refused, tooMa
 use Rattle.rules.specs.Graph.{nodeCount}
 use Rattle.rules.specs.Sheet.{Sheet as Claims, readSheet}
 use Rattle.rules.specs.Check.{broken}
-use Rattle.rules.specs.Job.{Given, Outcome, bySide, checking, hasNode, judged, labelling, outcome, outputAfter, refusal, requestBy, serving, success}
+use Rattle.rules.specs.Layout.{writeProgram}
+use Rattle.rules.specs.Theorems.{written-unchanged}
+use Rattle.rules.specs.Job.{Given, Outcome, bySide, checking, hasNode, judged, labelling, outcome, outputAfter, refusal, requestBy, serving, success, writingBack, written}
 use Rattle.answer.specs.declared.Answer.{Answer}
-use Rattle.answer.specs.Outcomes.{Answered, Told, answered-as, refusal-told}
+use Rattle.answer.specs.Outcomes.{Answered, Told, answered-as, refusal-told, told-as}
 use Rattle.versions.specs.Memory.{Memory}
+use Rattle.versions.specs.MemoryLaws.{program-read}
+use Rattle.writer.specs.Sheets.{TextWritten}
 use Rattle.intake.specs.declared.Counts.{Counts}
 use Rattle.intake.specs.Ready.{Ready}
 use Rattle.checker.specs.Checking.{Checks}
 use Rattle.work.specs.Work.{Done, RecordDone, SheetDone}
 use Rattle.requests.specs.declared.Request.{Request}
-use Rattle.requests.specs.declared.Request.the-variants.{Check, Label, Record, Sheet, Unknown}
-use Rattle.requests.specs.Requests.{LabelTold, Served, asked, nodesOn}
+use Rattle.requests.specs.declared.Request.the-variants.{Check, Label, Program, Record, Sheet, Unknown}
+use Rattle.requests.specs.Requests.{LabelTold, ProgramTold, Served, asked, nodesOn, textOn}
 
 -- ---- `by_number`
 
@@ -44,9 +48,13 @@ module _ (n a b : ℕ) where
   unfolding requestBy asked choose
   by-3 z y x e = simp (ne-eqb _ _ z, ne-eqb _ _ y, ne-eqb _ _ x, eq-eqb _ _ e)
 
-  pub by-none : (n ≡ 0 → ⊥) → (n ≡ 1 → ⊥) → (n ≡ 2 → ⊥) → (n ≡ 3 → ⊥) → asked Unknown ≡ requestBy n a b
+  pub by-4 : (n ≡ 0 → ⊥) → (n ≡ 1 → ⊥) → (n ≡ 2 → ⊥) → (n ≡ 3 → ⊥) → n ≡ 4 → asked (Program a) ≡ requestBy n a b
   unfolding requestBy asked choose
-  by-none z y x w = simp (ne-eqb _ _ z, ne-eqb _ _ y, ne-eqb _ _ x, ne-eqb _ _ w)
+  by-4 z y x w e = simp (ne-eqb _ _ z, ne-eqb _ _ y, ne-eqb _ _ x, ne-eqb _ _ w, eq-eqb _ _ e)
+
+  pub by-none : (n ≡ 0 → ⊥) → (n ≡ 1 → ⊥) → (n ≡ 2 → ⊥) → (n ≡ 3 → ⊥) → (n ≡ 4 → ⊥) → asked Unknown ≡ requestBy n a b
+  unfolding requestBy asked choose
+  by-none z y x w v = simp (ne-eqb _ _ z, ne-eqb _ _ y, ne-eqb _ _ x, ne-eqb _ _ w, ne-eqb _ _ v)
 
 -- ---- `nodes_on`, `label`
 
@@ -87,6 +95,37 @@ module _ (had : Counts) (side n k : ℕ) (e : k ≡ nodesOn had side) where
   unfolding LabelTold
   label-not h v v′ tt tests rows g y =
       answered-as (labelled v v′ tt tests rows had g y n side ∙ choose-no _ _ (le-ltb n (nodesOn had side) (omega (arith, e)))) (record { number-is = refl; place-is = refl })
+
+-- ---- `program`
+
+module _ (old new : Bytes) (side : ℕ) (out out′ : Bytes) (r : Answer) where
+  pub program-old : side ≡ 0 → TextWritten old out r out′ → ProgramTold old new side out r out′
+  unfolding textOn bySide
+  program-old e t = record { told = subst (λ (s : ℕ). Told (textOn old new s (length out)) r out out′) (sym e) (t .told); size = t .size }
+
+  pub program-new : (side ≡ 0 → ⊥) → side ≡ 1 → TextWritten new out r out′ → ProgramTold old new side out r out′
+  unfolding textOn bySide
+  program-new z e t = record { told = subst (λ (s : ℕ). Told (textOn old new s (length out)) r out out′) (sym e) (t .told); size = t .size }
+
+pub program-none : (old new : Bytes) (side : ℕ) (out : Bytes) → (side ≡ 0 → ⊥) → (side ≡ 1 → ⊥) → ProgramTold old new side out (record { number = 6; place = 0 }) out
+unfolding textOn bySide
+program-none old new zero out z e = absurd (z refl)
+program-none old new (suc zero) out z e = absurd (e refl)
+program-none old new (suc (suc side)) out z e = record { told = refusal-told 6 0 out; size = refl }
+
+-- The text of a side is its program, written back.
+module _ (v v′ : Memory) (tt : Bytes) (tests rows : List ℕ) (had : Counts) (g : Given) (y : Ready v v′ tt tests rows had g) (room : ℕ) where
+  old-text : writeProgram (g .old) ≡ v .text
+  old-text = ap (λ (x : Given). writeProgram (x .old)) (y .given-is) ∙ written-unchanged (v .text) (y .o .program) (program-read v (y .o) (y .old-in))
+
+  new-text : writeProgram (g .new) ≡ v′ .text
+  new-text = ap (λ (x : Given). writeProgram (x .new)) (y .given-is) ∙ written-unchanged (v′ .text) (y .p .program) (program-read v′ (y .p) (y .new-in))
+
+  text-back : (side : ℕ) → writingBack g side room ≡ textOn (v .text) (v′ .text) side room
+  unfolding writingBack textOn bySide
+  text-back zero = ap (written room) old-text
+  text-back (suc zero) = ap (written room) new-text
+  text-back (suc (suc side)) = refl
 
 -- ---- `serve`
 
@@ -141,6 +180,10 @@ module _ (v v′ : Memory) (tt tests rows : List ℕ) (had : Counts) (input w w�
   label-served side n e eo d =
       record { claim = λ g y. told-still _ r out out′ (labels-still g side n out) eo (d v v′ tt tests rows g y); size = ap length e; room = ap length eo }
 
+  program-served : (side : ℕ) → w′ ≡ w → ProgramTold (v .text) (v′ .text) side out r out′ → Does (Program side)
+  unfolding Served serving asked
+  program-served side e d = record { claim = λ g y. told-as (text-back v v′ tt tests rows had g y (length out) side) (d .told); size = ap length e; room = d .size }
+
   unknown-served : w′ ≡ w → out′ ≡ out → r ≡ record { number = 6; place = 0 } → Does Unknown
   unfolding Served serving asked
   unknown-served e eo er =
@@ -159,7 +202,10 @@ module _ (v v′ : Memory) (tt tests rows : List ℕ) (had : Counts) (input w w�
     pub label-asked : (side n : ℕ) → q ≡ Label side n → w′ ≡ w → out′ ≡ out → LabelTold had side n r → Does q
     label-asked side n e a b d = subst Does (sym e) (label-served side n a b d)
 
+    pub program-asked : (side : ℕ) → q ≡ Program side → w′ ≡ w → ProgramTold (v .text) (v′ .text) side out r out′ → Does q
+    program-asked side e a d = subst Does (sym e) (program-served side a d)
+
     pub unknown-asked : q ≡ Unknown → w′ ≡ w → out′ ≡ out → r ≡ record { number = 6; place = 0 } → Does q
     unknown-asked e a b d = subst Does (sym e) (unknown-served a b d)
 
-pub ruleset all = (by-0, by-1, by-2, by-3, by-none, on-old, on-new, on-none, label-there, label-not, sheet-asked, record-asked, check-asked, label-asked, unknown-asked)
+pub ruleset all = (by-0, by-1, by-2, by-3, by-4, by-none, on-old, on-new, on-none, label-there, label-not, program-old, program-new, program-none, sheet-asked, record-asked, check-asked, label-asked, program-asked, unknown-asked)

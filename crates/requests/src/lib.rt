@@ -1,6 +1,6 @@
 // What is asked of a job that was read, and the one function that does it, over programs and tests in memory. The exported calls and the
-// calls of the lent job all go through it. A new request is a variant here, a line of `serving` in the rules, and an arm of `serve`
-// (docs/ARCHITECTURE.md).
+// calls of the lent job all go through it. A new request is a variant here, a line of `serving` in the rules, an arm of `serve`, and what it
+// asks of lent texts (docs/ARCHITECTURE.md).
 use answer::Answer;
 use intake::Counts;
 ghost use mathlib.Core.Path.{_≡_};
@@ -12,15 +12,16 @@ ghost use Rattle.work.specs.Work.{Done, RecordDone, SheetDone};
 ghost use Rattle.rules.specs.Text.{maxPairs, tooMany};
 ghost use Rattle.rules.specs.Job.{requestBy};
 ghost use Rattle.checker.specs.Checking.{Checks};
-ghost use Rattle.requests.specs.Requests.{LabelTold, Served, asked, nodesOn, refusalOf};
+ghost use Rattle.requests.specs.Requests.{LabelTold, ProgramTold, Served, asked, nodesOn, refusalOf};
 
 // What is asked: the sheet; the record line of a test; the check of the sheet that the request comes with; the label of a node, by side and
-// node number; no request that there is.
+// node number; the program of a side, written back; no request that there is.
 pub enum Request {
     Sheet,
     Record(usize),
     Check,
     Label(usize, usize),
+    Program(usize),
     Unknown,
 }
 
@@ -39,6 +40,9 @@ pub fn by_number(number: usize, a: usize, b: usize) -> Request
     }
     if number == 3 {
         return Request::Label(a, b);
+    }
+    if number == 4 {
+        return Request::Program(a);
     }
     Request::Unknown
 }
@@ -201,6 +205,22 @@ fn check(
     )
 }
 
+// Writes the program of a side back, which is the text that was read: 6 where there is no such side.
+fn program(ot: &[u8], nt: &[u8], side: usize, out: &mut [u8]) -> Answer
+    ensures { λ r. ⌜ ProgramTold (now (ot .entry)) (now (nt .entry)) side (now (out .entry)) r (now (out .exit)) ⌝ }
+{
+    if side == 0 {
+        return writer::write_text(ot, out);
+    }
+    if side == 1 {
+        return writer::write_text(nt, out);
+    }
+    Answer {
+        number: 6,
+        place: 0,
+    }
+}
+
 // Does what is asked, of programs and tests in memory; `input` is the text that the request comes with, and `w` the table of the pairs.
 pub fn serve(
     ot: &[u8],
@@ -234,6 +254,9 @@ pub fn serve(
         }
         Request::Label(side, node) => {
             return label(had, side, node);
+        }
+        Request::Program(side) => {
+            return program(ot, nt, side, out);
         }
         Request::Unknown => {
             return Answer {

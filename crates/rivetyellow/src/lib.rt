@@ -9,7 +9,7 @@ use records::Node;
 use requests::Request;
 ghost use mathlib.Core.Path.{_≡_};
 ghost use lib.ListN.{length};
-ghost use Rattle.rules.specs.Job.{answering, checkAnswer, outputAfter, packed, readNewAnswer, readOldAnswer, readTestsAnswer, recordAnswer, requestBy, sheetAnswer};
+ghost use Rattle.rules.specs.Job.{answering, checkAnswer, outputAfter, packed, programAnswer, readNewAnswer, readOldAnswer, readTestsAnswer, recordAnswer, requestBy, sheetAnswer};
 ghost use Rattle.answer.specs.Outcomes.{Told};
 ghost use Rattle.requests.specs.Requests.{asked};
 ghost use Rattle.records.specs.Jobs.{fresh};
@@ -129,6 +129,16 @@ pub extern "C" fn ry_check(old: &[u8], new: &[u8], tt: &[u8], sheet: &[u8]) -> u
 {
     let mut none = [0u8; 0];
     let a = whole_job(old, new, tt, Request::Check, sheet, &mut none);
+    pack(a.number, a.place)
+}
+
+// Writes the program of a side back: 0 the old one, 1 the new one, and 6 for another.
+#[no_mangle]
+pub extern "C" fn ry_program(old: &[u8], new: &[u8], tt: &[u8], side: usize, out: &mut [u8]) -> u64
+    ensures { λ r. ⌜ r ≡ packed (programAnswer (now (old .entry)) (now (new .entry)) (now (tt .entry)) side (length (now (out .entry)))) ⌝ }
+    ensures { λ _. ⌜ now (out .exit) ≡ outputAfter (programAnswer (now (old .entry)) (now (new .entry)) (now (tt .entry)) side (length (now (out .entry)))) (now (out .entry)) ⌝ }
+{
+    let a = whole_job(old, new, tt, Request::Program(side), b"", out);
     pack(a.number, a.place)
 }
 

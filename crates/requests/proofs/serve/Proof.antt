@@ -54,11 +54,23 @@ label-requires c κs = search needs
 returns-4 : tie.Need-returns-4
 returns-4 c = search (all, needs)
 
-enum-told-3 : tie.Need-enum-told-3
-enum-told-3 c = search needs
+enum-known-request-3 : tie.Need-enum-known-request-3
+enum-known-request-3 c = search needs
+
+program-requires : tie.Need-program-requires
+program-requires c κs = search needs
+
+same-length-6 : tie.Need-same-length-6
+same-length-6 c = search needs
 
 returns-5 : tie.Need-returns-5
 returns-5 c = search (all, needs)
+
+enum-told-3 : tie.Need-enum-told-3
+enum-told-3 c = search needs
+
+returns-6 : tie.Need-returns-6
+returns-6 c = search (all, needs)
 
 pub serve-spec : {M : Type 1} → statement M
 serve-spec =
@@ -81,5 +93,9 @@ serve-spec =
     enum-known-request-2
     label-requires
     returns-4
+    enum-known-request-3
+    program-requires
+    same-length-6
+    returns-5
     enum-told-3
-    returns-5)
+    returns-6)
