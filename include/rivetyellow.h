@@ -4,10 +4,11 @@
  * Given an old and a new version of a program and a file of tests with their
  * coverage of the old version, the selector writes a sheet: which nodes of the
  * two versions are paired, which old edges are dangerous, which tests must be
- * repeated. The checker judges any sheet against the same three texts.
+ * repeated. The checker judges any sheet against the same three texts. A
+ * program that was read can be written back from its tables.
  *
  * There are two sorts of calls, for the same work and with the same answers:
- *   - Six calls run one whole job each. They are lent texts and an output.
+ *   - Seven calls run one whole job each. They are lent texts and an output.
  *   - The calls ry_job_.. work on a lent job: a record and tables that the
  *     caller keeps from call to call. The texts are read into them once, and
  *     then several requests are made.
@@ -110,7 +111,8 @@ enum {
     RY_WRONG_STAGE = 13,
     /* A lent table or the scratch is too short; or job and tables are not what
        reading the lent texts leaves: one of them was changed, or another text
-       is lent than was read. Place: 0. */
+       is lent than was read. Place: 0. RY_REQUEST_PROGRAM asks less of the
+       texts of the programs, as said there. */
     RY_LENT_MEMORY_WRONG = 14,
     /* The two versions have more than 4,096 pairs. Place: 0. Given for a sheet
        or a record line only. */
@@ -125,6 +127,8 @@ enum {
 #define RY_SHEET_ROOM 65536
 /* An output of this length is enough for every record line. */
 #define RY_RECORD_ROOM 1045
+/* An output of this length is enough for every program written back. */
+#define RY_PROGRAM_ROOM 65536
 /* A stack of this many bytes is enough for every call, with a margin. */
 #define RY_STACK_ROOM 524288
 
@@ -169,7 +173,21 @@ enum {
     RY_REQUEST_CHECK = 2,
     /* Can the label of a node be shown: a is the side, 0 old or 1 new, b the
        node. Gives 0, 6. Where it stands is told by ry_job_label. */
-    RY_REQUEST_LABEL = 3
+    RY_REQUEST_LABEL = 3,
+    /* Write the program of the side a, 0 old or 1 new, back from its tables:
+       out. Gives 0, 6, 16.
+       From the lent text of a program only names, callees, labels and words are
+       taken. So of the texts of both programs, whichever is asked for,
+       RY_LENT_MEMORY_WRONG asks only this: there is a text as long as the lent
+       one, with the same bytes wherever its names, callees, labels and words
+       stand, that leaves these tables when it is read. There is at most one,
+       and it is what is written; where the lent text is the one that was read,
+       it is that. Commas, line ends, kinds and numbers of a lent program may
+       thus be spoilt and are written right; a label with a comma in it, a name
+       that is no longer what a call of it says, a word that is not in the
+       tables, a name twice are refused. Of job, tables, scratch and the text of
+       the tests it asks what it asks for every request. */
+    RY_REQUEST_PROGRAM = 4
 };
 
 /* The number of an answer. */
@@ -222,11 +240,22 @@ uint64_t ry_check(const uint8_t *old_text, size_t old_length,
                   const uint8_t *tests_text, size_t tests_length,
                   const uint8_t *sheet_text, size_t sheet_length);
 
+/* Writes the program of one side back, 0 old or 1 new: for texts that are
+   accepted, the bytes of that side's text.
+   Gives 0 with the bytes written, 1 to 10, 16; 6 with place 0 if there is no
+   such side. */
+uint64_t ry_program(const uint8_t *old_text, size_t old_length,
+                    const uint8_t *new_text, size_t new_length,
+                    const uint8_t *tests_text, size_t tests_length,
+                    size_t side,
+                    uint8_t *out, size_t out_length);
+
 /*
  * The calls of the lent job, in the order of its stages. Each is lent the job
  * and, beside what it reads or writes itself, all texts that were read before
- * with their tables: they must be the same bytes, and tables and job as the
- * calls left them. What a table holds before it is written is of no matter.
+ * with their tables: they must be the same bytes (RY_REQUEST_PROGRAM takes
+ * others too), and tables and job as the calls left them. What a table holds
+ * before it is written is of no matter.
  *
  * A pointer is aligned as its type asks and never null; a length counts bytes,
  * a count elements. Job, written tables, scratch and output must not overlap

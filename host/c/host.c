@@ -3,6 +3,8 @@
  *
  *     host sheet OLD NEW TESTS          prints the sheet, then all record lines
  *     host check OLD NEW TESTS SHEET    says whether the sheet passes
+ *     host program OLD NEW TESTS SIDE   prints the program of a side, 0 old or
+ *                                       1 new, as it is written back
  *
  * A refusal is printed in words. Exit status: 0 done or passed, 1 refused,
  * 2 a wrong argument, a file that cannot be read, or an output that cannot be
@@ -74,24 +76,46 @@ static int check_sheet(const struct text *t)
     return 0;
 }
 
+static int print_program(const struct text *t, size_t side)
+{
+    static uint8_t out[RY_PROGRAM_ROOM];
+    uint64_t answer = ry_program(t[OLD].bytes, t[OLD].length, t[NEW].bytes, t[NEW].length,
+                                 t[TESTS].bytes, t[TESTS].length, side, out, sizeof out);
+
+    /* In a text 6 has a line for its place. */
+    if (ry_number(answer) == RY_NOT_NAMED && ry_place(answer) == 0)
+        return refused("the side", answer);
+    if (ry_number(answer) != RY_DONE)
+        return refused_by(t, answer);
+    if (fwrite(out, 1, ry_place(answer), stdout) != ry_place(answer))
+        return 2;
+    return 0;
+}
+
 int main(int argc, char **argv)
 {
     struct text texts[TEXTS] = { { NULL, 0 } };
     int sheet = argc == 2 + SHEET && strcmp(argv[1], "sheet") == 0;
     int check = argc == 2 + TEXTS && strcmp(argv[1], "check") == 0;
+    size_t side = 0;
+    int program = argc == 3 + SHEET && strcmp(argv[1], "program") == 0
+        && read_number(argv[2 + SHEET], &side);
+    int files = check ? TEXTS : SHEET;
     int status = 2;
     int at;
 
-    if (!sheet && !check) {
+    if (!sheet && !check && !program) {
         fprintf(stderr, "usage: host sheet OLD NEW TESTS\n"
-                        "       host check OLD NEW TESTS SHEET\n");
+                        "       host check OLD NEW TESTS SHEET\n"
+                        "       host program OLD NEW TESTS SIDE\n");
         return 2;
     }
-    for (at = 0; at < argc - 2; at++)
+    for (at = 0; at < files; at++)
         if (!read_file(argv[2 + at], &texts[at]))
             break;
-    if (at == argc - 2)
-        status = sheet ? print_sheet(texts) : check_sheet(texts);
+    if (at == files)
+        status = sheet ? print_sheet(texts)
+            : check ? check_sheet(texts) : print_program(texts, side);
     for (at = 0; at < TEXTS; at++)
         free(texts[at].bytes);
     if (fflush(stdout) != 0 || ferror(stdout))

@@ -5,7 +5,8 @@
  *     lent OLD NEW TESTS SIDE NODE
  *
  * prints the sheet, then all record lines, then whether the sheet passes its
- * check, then the label of a node, by side (0 old, 1 new) and number.
+ * check, then the label of a node, by side (0 old, 1 new) and number, then how
+ * many bytes the program of that side has, written back.
  *
  * A refusal is printed in words. Exit status: 0 done, 1 refused, 2 a wrong
  * argument, a file that cannot be read, or an output that cannot be written.
@@ -13,6 +14,8 @@
  * Build: cc -std=c99 -Wall -Wextra -I../../include lent.c -L DIR -lrivetyellow
  */
 #include "shared.h"
+
+#include <string.h>
 
 /* What is lent. It need not be cleared before. */
 static struct ry_job job;
@@ -23,6 +26,7 @@ static uint64_t rows[RY_JOB_ROWS];
 static size_t scratch[RY_JOB_SCRATCH];
 static uint8_t sheet[RY_SHEET_ROOM];
 static uint8_t line[RY_RECORD_ROOM];
+static uint8_t program[RY_PROGRAM_ROOM];
 
 /* A version that was read, and all that was read, as arguments. */
 #define VERSION(t, v) (t)[v].bytes, (t)[v].length, nodes[v], RY_JOB_NODES, links[v], RY_JOB_LINKS
@@ -96,19 +100,45 @@ static int print_label(const struct text *t, size_t side, size_t node)
     return 0;
 }
 
-/* A number of decimal digits. */
-static int read_number(const char *digits, size_t *number)
+/* Writes the program of a side into the output, and compares it with the text
+   that was read. */
+static int same_program(const struct text *t, size_t side, const struct text *read)
 {
-    *number = 0;
-    if (*digits == '\0')
+    uint64_t answer = ask(t, RY_REQUEST_PROGRAM, side, 0, program, sizeof program);
+
+    if (ry_number(answer) != RY_DONE)
+        return refused("the program", answer);
+    if (ry_place(answer) == read->length && memcmp(program, read->bytes, read->length) == 0)
         return 0;
-    for (; *digits != '\0'; digits++) {
-        size_t digit = (size_t)(*digits - '0');
-        if (digit > 9 || *number > (SIZE_MAX - digit) / 10)
-            return 0;
-        *number = 10 * *number + digit;
-    }
+    printf("the program is not the text that was read\n");
     return 1;
+}
+
+/* Writes the program of a side back. Of the lent text only names, callees,
+   labels and words are taken: a copy whose first comma is spoilt will do. */
+static int write_back(const struct text *t, size_t side)
+{
+    struct text lent[SHEET];
+    const struct text *read = &t[side == 0 ? OLD : NEW];
+    struct text *copy = &lent[side == 0 ? OLD : NEW];
+    int status = same_program(t, side, read);
+
+    if (status != 0)
+        return status;
+    memcpy(lent, t, sizeof lent);
+    copy->bytes = malloc(read->length);
+    if (copy->bytes == NULL) {
+        perror("lent");
+        return 2;
+    }
+    memcpy(copy->bytes, read->bytes, read->length);
+    *(uint8_t *)memchr(copy->bytes, ',', read->length) = '?';
+    status = same_program(lent, side, read);
+    free(copy->bytes);
+    if (status == 0)
+        printf("written back: %lu bytes, also with a comma spoilt\n",
+               (unsigned long)read->length);
+    return status;
 }
 
 int main(int argc, char **argv)
@@ -131,6 +161,8 @@ int main(int argc, char **argv)
             status = print_sheet(texts);
         if (status == 0)
             status = print_label(texts, side, node);
+        if (status == 0)
+            status = write_back(texts, side);
     }
     for (at = 0; at < SHEET; at++)
         free(texts[at].bytes);

@@ -1,5 +1,6 @@
 /*
- * What the host programs share: texts read from files, refusals in words.
+ * What the host programs share: texts read from files, numbers, refusals in
+ * words.
  */
 #ifndef SHARED_H
 #define SHARED_H
@@ -56,6 +57,21 @@ static inline int read_file(const char *path, struct text *text)
         return 0;
     }
     fclose(file);
+    return 1;
+}
+
+/* A number of decimal digits. */
+static inline int read_number(const char *digits, size_t *number)
+{
+    *number = 0;
+    if (*digits == '\0')
+        return 0;
+    for (; *digits != '\0'; digits++) {
+        size_t digit = (size_t)(*digits - '0');
+        if (digit > 9 || *number > (SIZE_MAX - digit) / 10)
+            return 0;
+        *number = 10 * *number + digit;
+    }
     return 1;
 }
 

@@ -1,4 +1,4 @@
-//! The six whole-job calls, of the linked library and of the independent
+//! The whole-job calls, of the linked library and of the independent
 //! implementation. Built without the library (`RIVETYELLOW_LIB` unset) there
 //! are only the latter.
 
@@ -15,6 +15,7 @@ pub struct Calls {
     pub sheet: fn(&[u8], &[u8], &[u8], &mut [u8]) -> Answer,
     pub record: fn(&[u8], &[u8], &[u8], usize, &mut [u8]) -> Answer,
     pub check: fn(&[u8], &[u8], &[u8], &[u8]) -> Answer,
+    pub program: fn(&[u8], &[u8], &[u8], usize, &mut [u8]) -> Answer,
 }
 
 /// The independent implementation.
@@ -26,6 +27,7 @@ pub const INDEPENDENT: Calls = Calls {
     sheet: independent::sheet,
     record: independent::record,
     check: independent::check,
+    program: independent::program,
 };
 
 /// The linked library, if it was built in.
@@ -38,6 +40,7 @@ pub const LINKED: Option<Calls> = Some(Calls {
     sheet: linked::sheet,
     record: linked::record,
     check: linked::check,
+    program: linked::program,
 });
 #[cfg(not(linked))]
 pub const LINKED: Option<Calls> = None;
@@ -95,6 +98,17 @@ mod linked {
             tests_len: usize,
             sheet: *const u8,
             sheet_len: usize,
+        ) -> u64;
+        fn ry_program(
+            old: *const u8,
+            old_len: usize,
+            new: *const u8,
+            new_len: usize,
+            tests: *const u8,
+            tests_len: usize,
+            side: usize,
+            out: *mut u8,
+            out_len: usize,
         ) -> u64;
     }
 
@@ -155,6 +169,19 @@ mod linked {
         Answer::unpacked(unsafe {
             ry_check(
                 old, old_len, new, new_len, tests, tests_len, sheet, sheet_len,
+            )
+        })
+    }
+
+    /// Writes the program of one side back.
+    pub fn program(old: &[u8], new: &[u8], tests: &[u8], side: usize, out: &mut [u8]) -> Answer {
+        let (old, old_len) = lent!(old);
+        let (new, new_len) = lent!(new);
+        let (tests, tests_len) = lent!(tests);
+        let (out, out_len) = (out.as_mut_ptr(), out.len());
+        Answer::unpacked(unsafe {
+            ry_program(
+                old, old_len, new, new_len, tests, tests_len, side, out, out_len,
             )
         })
     }

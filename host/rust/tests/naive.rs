@@ -443,6 +443,23 @@ fn written(made: Option<Vec<u8>>, mut out: Vec<u8>) -> (Answer, Vec<u8>) {
     }
 }
 
+/// The program file, line by line from what was read.
+fn write_program(p: &Program) -> Vec<u8> {
+    let mut text = vec![];
+    for &(name, from, to) in &p.procedures {
+        text.extend([b"P,", name, b"\n"].concat());
+        for &(kind, label, callee) in &p.nodes[from..to] {
+            text.extend([b"N,", &[kind][..], b",", label, b",", callee, b"\n"].concat());
+        }
+        for (n, word, m) in p.edges.iter().filter(|e| (from..to).contains(&e.0)) {
+            text.extend(format!("B,{n},").bytes());
+            text.extend(*word);
+            text.extend(format!(",{m}\n").bytes());
+        }
+    }
+    text
+}
+
 #[test]
 fn plain_rules() {
     let mut accepted = 0;
@@ -477,6 +494,7 @@ fn plain_rules() {
         let mut out = vec![b'#'; random.below(600)];
         let blank = out.clone();
         let test = random.below(4);
+        let side = random.below(3);
         match all {
             Err(refusal) => {
                 assert_eq!(found, refusal, "{number}");
@@ -492,6 +510,11 @@ fn plain_rules() {
                 );
                 assert_eq!(
                     independent::record(old, new, tests, test, &mut out),
+                    refusal,
+                    "{number}"
+                );
+                assert_eq!(
+                    independent::program(old, new, tests, side, &mut out),
                     refusal,
                     "{number}"
                 );
@@ -512,8 +535,15 @@ fn plain_rules() {
                 let mut out = blank.clone();
                 let answer = independent::record(old, new, tests, test, &mut out);
                 let expected = match suite.get(test) {
+                    None => (Answer::new(6, 0), blank.clone()),
+                    Some(test) => written(write_record(&p, &q, test), blank.clone()),
+                };
+                assert_eq!((answer, out), expected, "{number}");
+                let mut out = blank.clone();
+                let answer = independent::program(old, new, tests, side, &mut out);
+                let expected = match [&p, &q].get(side) {
                     None => (Answer::new(6, 0), blank),
-                    Some(test) => written(write_record(&p, &q, test), blank),
+                    Some(program) => written(Some(write_program(program)), blank),
                 };
                 assert_eq!((answer, out), expected, "{number}");
             }

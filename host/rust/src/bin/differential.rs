@@ -19,19 +19,25 @@ use std::{env, fs, process};
 /// Where the first difference's job is written.
 const DIRECTORY: &str = "differential-job";
 
-const CALLS: [&str; 6] = [
+const CALLS: [&str; 7] = [
     "read_old",
     "read_new",
     "read_tests",
     "sheet",
     "record",
     "check",
+    "program",
 ];
+
+/// Those of them that write.
+const SHEET: usize = 3;
+const RECORD: usize = 4;
+const PROGRAM: usize = 6;
 
 #[derive(Default)]
 struct Statistics {
     /// Answers by call and number.
-    answers: [[u64; 17]; 6],
+    answers: [[u64; 17]; CALLS.len()],
     /// False claims by rule.
     claims: [u64; 6],
     counts: BTreeMap<&'static str, u64>,
@@ -147,15 +153,16 @@ impl<'g> Comparison<'g> {
         }
     }
 
-    /// A call that writes, with an output of this length.
-    fn writes(&mut self, call: usize, test: usize, length: usize, random: &mut Random) -> Answer {
+    /// A call that writes, with its own number and an output of this length.
+    fn writes(&mut self, call: usize, own: usize, length: usize, random: &mut Random) -> Answer {
         let [old, new, tests, _] = self.texts();
         let mut expected_out = std::mem::take(&mut self.memory.expected);
         expected_out.clear();
         expected_out.extend((0..length).map(pattern));
         let expected = match call {
-            3 => (INDEPENDENT.sheet)(old, new, tests, &mut expected_out),
-            _ => (INDEPENDENT.record)(old, new, tests, test, &mut expected_out),
+            SHEET => (INDEPENDENT.sheet)(old, new, tests, &mut expected_out),
+            RECORD => (INDEPENDENT.record)(old, new, tests, own, &mut expected_out),
+            _ => (INDEPENDENT.program)(old, new, tests, own, &mut expected_out),
         };
         let written = match expected.is_success() {
             true => expected.place as usize,
@@ -171,8 +178,9 @@ impl<'g> Comparison<'g> {
             let [old, new, tests, _] = &*texts;
             let (old, new, tests) = (old.slice(), new.slice(), tests.slice());
             match call {
-                3 => (linked.sheet)(old, new, tests, out.slice_mut()),
-                _ => (linked.record)(old, new, tests, test, out.slice_mut()),
+                SHEET => (linked.sheet)(old, new, tests, out.slice_mut()),
+                RECORD => (linked.record)(old, new, tests, own, out.slice_mut()),
+                _ => (linked.program)(old, new, tests, own, out.slice_mut()),
             }
         });
         if found.is_some() {
@@ -190,19 +198,19 @@ impl<'g> Comparison<'g> {
 
     /// A call that writes, with outputs long enough, then of another length.
     /// Gives what is written if the job is accepted.
-    fn writes_twice(&mut self, call: usize, test: usize, random: &mut Random) -> Option<Vec<u8>> {
-        let room = if call == 3 { 65_536 } else { 1_100 };
+    fn writes_twice(&mut self, call: usize, own: usize, random: &mut Random) -> Option<Vec<u8>> {
         let room = match self.job.old.len() {
-            0..=2_000 if call == 3 => 8_192,
-            _ => room,
+            _ if call == RECORD => 1_100,
+            0..=2_000 => 8_192,
+            _ => 65_536,
         };
-        let mut answer = self.writes(call, test, room, random);
+        let mut answer = self.writes(call, own, room, random);
         if answer.number == 16 {
-            answer = self.writes(call, test, 65_536, random);
+            answer = self.writes(call, own, 65_536, random);
         }
         if !answer.is_success() {
             let short = random.below(40);
-            self.writes(call, test, short, random);
+            self.writes(call, own, short, random);
             return None;
         }
         let written = answer.place as usize;
@@ -214,7 +222,7 @@ impl<'g> Comparison<'g> {
             3 | 4 => written,
             _ => written + random.within(1, 20),
         };
-        self.writes(call, test, length, random);
+        self.writes(call, own, length, random);
         Some(text)
     }
 
@@ -226,22 +234,37 @@ impl<'g> Comparison<'g> {
             }
         }
         self.reads();
-        let sheet = self.writes_twice(3, 0, random);
+        let sheet = self.writes_twice(SHEET, 0, random);
         let accepted = Job::read(&self.job.old, &self.job.new, &self.job.tests).ok();
         let tests = accepted.as_ref().map_or(0, |job| job.suite.len());
         let mut records = Vec::new();
         for test in 0..tests {
             if tests <= 14 || random.below(tests) < 3 {
-                records.push((test, self.writes_twice(4, test, random)));
+                records.push((test, self.writes_twice(RECORD, test, random)));
             }
         }
         let beyond = [tests, tests + 1, usize::MAX, 1 << 32, 1 << 16, 256];
         let length = random.below(40);
-        self.writes(4, *random.pick(&beyond), length, random);
+        self.writes(RECORD, *random.pick(&beyond), length, random);
+        self.programs(random);
         if let (Some(job), Some(sheet)) = (accepted, sheet) {
             self.own_sheet(&sheet);
             self.describe(&job, &records);
         }
+    }
+
+    /// The programs of both sides, and of a side that is none.
+    fn programs(&mut self, random: &mut Random) {
+        for side in 0..2 {
+            if let Some(text) = self.writes_twice(PROGRAM, side, random) {
+                if text != self.texts()[side] {
+                    self.differ(format!("the program of side {side} is not its text"));
+                }
+            }
+        }
+        let none = [2, 3, 256, 1 << 16, 1 << 32, (1 << 32) + 1, usize::MAX];
+        let length = random.below(2_000);
+        self.writes(PROGRAM, *random.pick(&none), length, random);
     }
 
     /// The selector's sheet passes the check.

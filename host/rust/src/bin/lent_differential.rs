@@ -3,17 +3,18 @@
 //! implementation, and compares answers and all lent memory after each call.
 //! Exits 1 on a difference; the first one's sequence, shortened, is printed.
 //! So it does if COUNT is 20,000 or more and a call never gave one of its
-//! numbers. Without the library it exits 2 after the statistics.
+//! numbers, or a spoilt program was never written right, or never refused.
+//! Without the library it exits 2 after the statistics.
 
 use rivetyellow_host::answer::meaning;
 use rivetyellow_host::drive::{shortened, Call, Driver, Made, Step};
 use rivetyellow_host::generate::random::Random;
-use rivetyellow_host::generate::sequences::{sequence, Spoilt};
+use rivetyellow_host::generate::sequences::{sequence, Spoilt, WRITTEN_BACK};
 use std::collections::BTreeMap;
 use std::time::Instant;
 use std::{env, process};
 
-const CALLS: [&str; 8] = [
+const CALLS: [&str; 9] = [
     "read_old",
     "read_new",
     "read_tests",
@@ -21,11 +22,12 @@ const CALLS: [&str; 8] = [
     "record",
     "check",
     "label",
+    "program",
     "unknown",
 ];
 
 /// The numbers that each of them gives, beside 13 and 14.
-const GIVEN: [&[usize]; 8] = [
+const GIVEN: [&[usize]; 9] = [
     &[0, 1, 2, 3, 4, 5, 6, 7, 8, 9],
     &[0, 1, 2, 3, 4, 5, 6, 7, 8, 9],
     &[0, 1, 2, 4, 5, 10],
@@ -33,6 +35,7 @@ const GIVEN: [&[usize]; 8] = [
     &[0, 6, 15, 16],
     &[0, 1, 2, 4, 11, 12],
     &[0, 6],
+    &[0, 6, 16],
     &[6],
 ];
 
@@ -46,7 +49,7 @@ fn column(call: Call) -> Option<usize> {
         Call::ReadOld => Some(0),
         Call::ReadNew => Some(1),
         Call::ReadTests => Some(2),
-        Call::Ask(request, ..) => Some(3 + request.min(4)),
+        Call::Ask(request, ..) => Some(3 + request.min(5)),
     }
 }
 
@@ -98,9 +101,15 @@ impl Statistics {
         }
     }
 
-    /// The numbers that a call gives but never gave.
+    /// The numbers that a call gives but never gave, with what was spoilt.
     fn unmet(&self) -> Vec<String> {
         let mut unmet = Vec::new();
+        for (what, number) in WRITTEN_BACK {
+            let [_, success, lent] = self.spoilt.get(what).copied().unwrap_or_default();
+            if (if number == 0 { success } else { lent }) == 0 {
+                unmet.push(format!("{what}: {number}"));
+            }
+        }
         for (column, given) in GIVEN.iter().enumerate() {
             for &number in given.iter().chain(&[13, 14]) {
                 if self.answers[number][column] == 0 {

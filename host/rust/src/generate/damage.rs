@@ -3,6 +3,8 @@
 use super::model::Bytes;
 use super::random::Random;
 use super::sheets::NUMBERS;
+use crate::independent;
+use std::ops::Range;
 
 const BYTES: &[u8] = b"\n\n,,\x00\r \t0019azAZ_-*~\x7f\x80\xffPNBTMDRESCX";
 
@@ -187,4 +189,289 @@ fn damage_line(random: &mut Random, text: &mut Bytes) {
         }
     }
     *text = lines.concat();
+}
+
+// ---- a program text that was read, spoilt before it is written back
+
+/// What is taken from a program text when it is written back.
+#[derive(Clone, Copy, PartialEq, Eq)]
+pub enum Part {
+    Name,
+    Callee,
+    Label,
+    Word,
+}
+
+/// A part and where it stands.
+pub type Placed = (Part, Range<usize>);
+
+/// The parts of a program text.
+pub fn parts(text: &[u8]) -> Vec<Placed> {
+    let mut parts = Vec::new();
+    let mut at = 0;
+    for line in text.split_inclusive(|&byte| byte == b'\n') {
+        let body = line.strip_suffix(b"\n").unwrap_or(line);
+        for (number, field) in body.split(|&byte| byte == b',').enumerate() {
+            let place = at..at + field.len();
+            at = place.end + 1;
+            let part = match (line[0], number) {
+                (b'P', 1) => Part::Name,
+                (b'N', 2) => Part::Label,
+                (b'N', 3) => Part::Callee,
+                (b'B', 2) => Part::Word,
+                _ => continue,
+            };
+            if !field.is_empty() {
+                parts.push((part, place));
+            }
+        }
+    }
+    parts
+}
+
+/// What is spoilt.
+pub const OTHER_BYTES: &str = "bytes of no part changed";
+pub const LABEL_BYTE: &str = "a byte of a label changed";
+pub const NAME_BYTE: &str = "a byte of a name changed";
+pub const CALLEE_BYTE: &str = "a byte of a callee changed";
+pub const WORD_BYTE: &str = "a byte of a word changed";
+pub const RENAMED: &str = "a byte of a name changed, in its calls too";
+pub const NAMES_EXCHANGED: &str = "two names exchanged";
+pub const CALLS_EXCHANGED: &str = "two names exchanged, in their calls too";
+pub const OTHER_CALLEE: &str = "another name as a callee";
+pub const OTHER_WORD: &str = "another word for a word";
+pub const BYTE_MORE: &str = "a byte more";
+pub const BYTE_LESS: &str = "a byte less";
+
+/// Bytes that end a part or may not stand in one, beside some that may.
+const PART_BYTES: &[u8] = b",\n\x00\x1f\x7f\xff ,\n 07_-*";
+
+/// Spoils a program text that was accepted, and says what of it.
+pub fn spoil_program(random: &mut Random, text: &mut Bytes) -> &'static str {
+    let parts = parts(text);
+    let spoilt = match random.below(24) {
+        0..=3 => spoil_byte(random, text, &parts, Part::Label).then_some(LABEL_BYTE),
+        4..=5 => spoil_byte(random, text, &parts, Part::Name).then_some(NAME_BYTE),
+        6..=7 => spoil_byte(random, text, &parts, Part::Callee).then_some(CALLEE_BYTE),
+        8..=9 => spoil_byte(random, text, &parts, Part::Word).then_some(WORD_BYTE),
+        10..=11 => rename(random, text, &parts).then_some(RENAMED),
+        12 => exchange(random, text, &parts, false).then_some(NAMES_EXCHANGED),
+        13 => exchange(random, text, &parts, true).then_some(CALLS_EXCHANGED),
+        14 => replace(random, text, &parts, Part::Callee, Part::Name).then_some(OTHER_CALLEE),
+        15 => replace(random, text, &parts, Part::Word, Part::Word).then_some(OTHER_WORD),
+        16 => {
+            let at = match random.percent(50) {
+                true => text.len(),
+                false => random.below(text.len() + 1),
+            };
+            text.insert(at, *random.pick(BYTES));
+            Some(BYTE_MORE)
+        }
+        17 if !text.is_empty() => {
+            let at = match random.percent(50) {
+                true => text.len() - 1,
+                false => random.below(text.len()),
+            };
+            text.remove(at);
+            Some(BYTE_LESS)
+        }
+        _ => None,
+    };
+    spoilt.unwrap_or_else(|| {
+        spoil_others(random, text, &parts);
+        OTHER_BYTES
+    })
+}
+
+/// The places of a sort of parts.
+fn places(parts: &[Placed], sort: Part) -> Vec<Range<usize>> {
+    let of = parts.iter().filter(|(part, _)| *part == sort);
+    of.map(|(_, place)| place.clone()).collect()
+}
+
+/// Where the bytes stand that are in no part.
+fn other_places(text: &[u8], parts: &[Placed]) -> Vec<usize> {
+    let mut others = Vec::new();
+    let mut at = 0;
+    for (_, place) in parts {
+        others.extend(at..place.start);
+        at = place.end;
+    }
+    others.extend(at..text.len());
+    others
+}
+
+/// Changes one byte that is in no part, some, or all.
+fn spoil_others(random: &mut Random, text: &mut Bytes, parts: &[Placed]) {
+    let mut others = other_places(text, parts);
+    random.shuffle(&mut others);
+    let count = match random.below(4) {
+        0 => random.below(others.len() + 1),
+        1 => others.len(),
+        _ => 1,
+    };
+    let same = random.percent(40).then(|| *random.pick(BYTES));
+    for &at in others.iter().take(count) {
+        text[at] = same.unwrap_or(*random.pick(BYTES));
+    }
+}
+
+/// Another byte than this one, mostly of the sort that a part has.
+fn other_byte(random: &mut Random, byte: u8) -> u8 {
+    let other = match random.percent(50) {
+        true => b'a' + random.below(26) as u8,
+        false => *random.pick(PART_BYTES),
+    };
+    if other == byte {
+        return byte ^ 1;
+    }
+    other
+}
+
+/// Changes one byte of a part of this sort.
+fn spoil_byte(random: &mut Random, text: &mut Bytes, parts: &[Placed], sort: Part) -> bool {
+    let places = places(parts, sort);
+    if places.is_empty() {
+        return false;
+    }
+    let place = random.pick(&places).clone();
+    let at = random.within(place.start, place.end - 1);
+    text[at] = other_byte(random, text[at]);
+    true
+}
+
+/// Changes one byte of a name, and of every callee that is this name.
+fn rename(random: &mut Random, text: &mut Bytes, parts: &[Placed]) -> bool {
+    let names = places(parts, Part::Name);
+    if names.is_empty() {
+        return false;
+    }
+    let place = random.pick(&names).clone();
+    let name = text[place.clone()].to_vec();
+    let at = random.below(name.len());
+    let byte = other_byte(random, name[at]);
+    for callee in places(parts, Part::Callee) {
+        if text[callee.clone()] == name {
+            text[callee.start + at] = byte;
+        }
+    }
+    text[place.start + at] = byte;
+    true
+}
+
+/// Exchanges two names of the same length, in callees too if so told.
+fn exchange(random: &mut Random, text: &mut Bytes, parts: &[Placed], calls: bool) -> bool {
+    let names = places(parts, Part::Name);
+    let Some((one, other)) = as_long(random, &names, &names) else {
+        return false;
+    };
+    let (one, other) = (text[one].to_vec(), text[other].to_vec());
+    let mut changed = names;
+    if calls {
+        changed.extend(places(parts, Part::Callee));
+    }
+    for place in changed {
+        if text[place.clone()] == one {
+            text[place].copy_from_slice(&other);
+        } else if text[place.clone()] == other {
+            text[place].copy_from_slice(&one);
+        }
+    }
+    true
+}
+
+/// Puts a part of one sort where another as long stands that is not the same.
+fn replace(
+    random: &mut Random,
+    text: &mut Bytes,
+    parts: &[Placed],
+    spoilt: Part,
+    by: Part,
+) -> bool {
+    let (spoilt, by) = (places(parts, spoilt), places(parts, by));
+    for _ in 0..8 {
+        if let Some((to, from)) = as_long(random, &spoilt, &by) {
+            if text[to.clone()] != text[from.clone()] {
+                text.copy_within(from, to.start);
+                return true;
+            }
+        }
+    }
+    false
+}
+
+/// Another program with the same parts at the same places: kinds or numbers
+/// differ, and it is accepted too.
+pub fn twin(random: &mut Random, text: &[u8]) -> Option<Bytes> {
+    let accepted = |text: &[u8]| independent::read_old(text).is_success();
+    if !accepted(text) {
+        return None;
+    }
+    let others = other_places(text, &parts(text));
+    let numbers: Vec<usize> = others
+        .into_iter()
+        .filter(|&at| text[at].is_ascii_digit())
+        .collect();
+    for _ in 0..12 {
+        let mut twin = text.to_vec();
+        if random.one_in(3) {
+            exchange_ends(random, &mut twin, &numbers);
+        } else {
+            for _ in 0..random.within(1, 3) {
+                twin[*random.pick(&numbers)] = b'0' + random.below(10) as u8;
+            }
+        }
+        if twin != text && accepted(&twin) {
+            return Some(twin);
+        }
+    }
+    None
+}
+
+/// Exchanges an entry and an exit whose numbers have one digit, also in the
+/// edges.
+fn exchange_ends(random: &mut Random, text: &mut Bytes, numbers: &[usize]) {
+    let starts = (0..text.len()).filter(|&at| at == 0 || text[at - 1] == b'\n');
+    let nodes = starts.filter(|&at| text[at] == b'N').take(10);
+    let kinds: Vec<usize> = nodes.map(|at| at + 2).collect();
+    let of = |kind: u8| -> Vec<usize> {
+        let nodes = 0..kinds.len();
+        nodes.filter(|&node| text[kinds[node]] == kind).collect()
+    };
+    let (entries, exits) = (of(b'E'), of(b'X'));
+    if entries.is_empty() || exits.is_empty() {
+        return;
+    }
+    let (one, other) = (*random.pick(&entries), *random.pick(&exits));
+    text.swap(kinds[one], kinds[other]);
+    let (one, other) = (b'0' + one as u8, b'0' + other as u8);
+    for &at in numbers {
+        if text[at - 1] == b',' && !text[at + 1].is_ascii_digit() {
+            text[at] = match text[at] {
+                digit if digit == one => other,
+                digit if digit == other => one,
+                digit => digit,
+            };
+        }
+    }
+}
+
+/// Two different places of the same length.
+fn as_long(
+    random: &mut Random,
+    ones: &[Range<usize>],
+    others: &[Range<usize>],
+) -> Option<(Range<usize>, Range<usize>)> {
+    if ones.is_empty() {
+        return None;
+    }
+    let one = random.pick(ones).clone();
+    let others: Vec<_> = others
+        .iter()
+        .filter(|other| other.len() == one.len() && **other != one)
+        .collect();
+    if others.is_empty() {
+        return None;
+    }
+    Some((one, (*random.pick(&others)).clone()))
 }

@@ -2,16 +2,50 @@
 //! and ask for several things at stage 3; before some calls a text, a table,
 //! the job or a length is spoilt, and made right again afterwards.
 
-use super::damage::damage;
+use super::damage::{self, damage, parts, spoil_program, twin, Part};
 use super::limits::{self, many_tests, ring};
 use super::random::Random;
 use super::{finish, mostly_right, Generated};
 use crate::answer::Answer;
 use crate::drive::{Bytes, Call, Driver, Table, Text, OUTPUT};
-use crate::records::{self, CHECK, LABEL, RECORD, SHEET};
+use crate::records::{self, CHECK, LABEL, PROGRAM, RECORD, SHEET};
 
 /// What was spoilt before a call, and the number that the call answered.
 pub type Spoilt = (&'static str, u32);
+
+/// What was met when a program was written back: it is not the text lent; an
+/// edge was led elsewhere in the tables, or a call in text and tables; a text
+/// was lent that has only the parts of the one that was read.
+const MENDED: &str = "a program written that is not the text lent";
+const EDGE_LED: &str = "an edge led elsewhere by the tables";
+const CALL_LED: &str = "a call led elsewhere by text and tables";
+const TWIN: &str = "another text of the same parts";
+
+/// The numbers due for what is spoilt before a program is written back: 0
+/// where there may be a text that leaves the tables and has the parts of the
+/// one lent, 14 where there may be none.
+pub const WRITTEN_BACK: [Spoilt; 20] = [
+    (MENDED, 0),
+    (damage::OTHER_BYTES, 0),
+    (damage::LABEL_BYTE, 0),
+    (damage::LABEL_BYTE, 14),
+    (damage::NAME_BYTE, 0),
+    (damage::NAME_BYTE, 14),
+    (damage::CALLEE_BYTE, 14),
+    (damage::WORD_BYTE, 14),
+    (damage::RENAMED, 0),
+    (damage::RENAMED, 14),
+    (damage::NAMES_EXCHANGED, 14),
+    (damage::CALLS_EXCHANGED, 0),
+    (damage::OTHER_CALLEE, 14),
+    (damage::OTHER_WORD, 14),
+    (damage::BYTE_MORE, 14),
+    (damage::BYTE_LESS, 14),
+    (EDGE_LED, 0),
+    (EDGE_LED, 14),
+    (CALL_LED, 0),
+    (TWIN, 0),
+];
 
 /// Drives one sequence; gives what was spoilt in it.
 pub fn sequence(random: &mut Random, driver: &mut Driver) -> Vec<Spoilt> {
@@ -79,6 +113,11 @@ const BEYOND: [usize; 8] = [
     usize::MAX,
 ];
 
+/// The texts of the two sides, and their tables.
+const PROGRAMS: [Text; 2] = [Text::Old, Text::New];
+const NODES: [Table; 2] = [Table::OldNodes, Table::NewNodes];
+const LINKS: [Table; 2] = [Table::OldLinks, Table::NewLinks];
+
 impl Maker<'_> {
     fn stage(&self) -> usize {
         self.driver.job().stage
@@ -113,6 +152,9 @@ impl Maker<'_> {
     fn next(&mut self) {
         if self.stage() < 3 && self.random.percent(40) {
             return self.usual();
+        }
+        if self.stage() == 3 && self.random.percent(12) {
+            return self.write_back();
         }
         match self.random.below(100) {
             0..=53 => self.usual(),
@@ -206,16 +248,16 @@ impl Maker<'_> {
         let job = self.driver.job();
         let (a, b) = (self.named(3), self.named(3));
         match self.random.below(100) {
-            0..=24 => self.writing(SHEET, a, b),
-            25..=52 => {
+            0..=20 => self.writing(SHEET, a, b),
+            21..=44 => {
                 let test = self.named(job.tests.min(200));
                 self.writing(RECORD, test, b)
             }
-            53..=73 => {
+            45..=62 => {
                 self.idle_output();
                 self.driver.call(Call::Ask(CHECK, a, b))
             }
-            74..=94 => {
+            63..=80 => {
                 let side = self.named(2);
                 let count = if side == 0 {
                     job.old_nodes
@@ -229,8 +271,12 @@ impl Maker<'_> {
                 self.idle_output();
                 self.driver.call(Call::Ask(LABEL, side, node))
             }
+            81..=94 => {
+                let side = self.named(2);
+                self.writing(PROGRAM, side, b)
+            }
             _ => {
-                let unknown = [4, 5, 6, 7, 8, 255, 256, 1 << 32, (1 << 32) + 1, usize::MAX];
+                let unknown = [5, 6, 7, 8, 255, 256, 1 << 32, (1 << 32) + 1, usize::MAX];
                 let number = *self.random.pick(&unknown);
                 self.idle_output();
                 self.driver.call(Call::Ask(number, a, b))
@@ -264,15 +310,125 @@ impl Maker<'_> {
             self.driver.lend(Table::Output, OUTPUT);
             answer = self.driver.call(Call::Ask(request, a, b));
         }
-        if answer.is_success() {
+        // Once there is a difference, calls are no longer made.
+        if answer.is_success() && self.driver.difference.is_none() {
             let written = answer.place as usize;
             self.written = Some((request, written));
             if request == SHEET && self.random.percent(40) {
                 let sheet = self.driver.written(written).to_vec();
                 self.driver.lend_text(Text::Input, &sheet);
             }
+            if request == PROGRAM && self.driver.written(written) != self.driver.text(PROGRAMS[a]) {
+                self.spoilt.push((MENDED, 0));
+            }
         }
         answer
+    }
+
+    // ---- programs written back from what is spoilt
+
+    /// Spoils the text of a version, or of both, or text and tables so that
+    /// they may be right together; writes a program, and makes it right.
+    fn write_back(&mut self) {
+        let mut mends = Vec::new();
+        let side = self.random.below(2);
+        let what = match self.random.below(8) {
+            0 => self.lead_edge(side, &mut mends),
+            1 => self.lead_call(side, &mut mends),
+            2 => self.lend_twin(side, &mut mends),
+            _ => None,
+        };
+        let what = what.unwrap_or_else(|| self.spoil_side(side, &mut mends));
+        let more = self.random.below(8);
+        match more {
+            0 => {
+                self.spoil_side(1 - side, &mut mends);
+            }
+            1 => mends.extend(self.spoil_table().map(|(_, mend)| mend)),
+            _ => (),
+        }
+        let asked = match self.random.percent(60) {
+            true => side,
+            false => self.named(2),
+        };
+        self.writing(PROGRAM, asked, 0);
+        if more > 1 {
+            self.count(what);
+        }
+        while let Some(mend) = mends.pop() {
+            self.mend(mend, false);
+        }
+    }
+
+    fn spoil_side(&mut self, side: usize, mends: &mut Vec<Mend>) -> &'static str {
+        let mut bytes = self.driver.text(PROGRAMS[side]).to_vec();
+        mends.push(Mend::Text(PROGRAMS[side], bytes.clone()));
+        let what = spoil_program(self.random, &mut bytes);
+        self.driver.lend_text(PROGRAMS[side], &bytes);
+        what
+    }
+
+    /// Puts a number into a table.
+    fn exactly(&mut self, table: Table, at: usize, is: u64, mends: &mut Vec<Mend>) -> Option<()> {
+        let was = self.driver.number(table, at)?;
+        self.driver.put(table, at, is);
+        mends.push(Mend::Put(table, at, was, is));
+        Some(())
+    }
+
+    /// Reads a text with the same parts in place of this one, and lends this one
+    /// then.
+    fn lend_twin(&mut self, side: usize, mends: &mut Vec<Mend>) -> Option<&'static str> {
+        let bytes = self.driver.text(PROGRAMS[side]).to_vec();
+        let twin = twin(self.random, &bytes)?;
+        self.driver.lend_text(PROGRAMS[side], &twin);
+        for call in [Call::Reset, Call::ReadOld, Call::ReadNew, Call::ReadTests] {
+            self.driver.call(call);
+        }
+        self.driver.lend_text(PROGRAMS[side], &bytes);
+        mends.push(Mend::Text(PROGRAMS[side], twin));
+        Some(TWIN)
+    }
+
+    /// Leads an edge to another node, in the tables alone.
+    fn lead_edge(&mut self, side: usize, mends: &mut Vec<Mend>) -> Option<&'static str> {
+        let job = self.driver.job();
+        let edges = [job.old_edges, job.new_edges][side].min(1_024);
+        let nodes = [job.old_nodes, job.new_nodes][side].min(512);
+        let at = 448 + 5 * self.random.below(edges) + 3;
+        let to = self.random.below(nodes) as u64;
+        self.exactly(LINKS[side], at, to, mends)?;
+        Some(EDGE_LED)
+    }
+
+    /// Leads a call to another procedure whose name is as long, in text and
+    /// tables.
+    fn lead_call(&mut self, side: usize, mends: &mut Vec<Mend>) -> Option<&'static str> {
+        let mut bytes = self.driver.text(PROGRAMS[side]).to_vec();
+        let all = parts(&bytes);
+        let of = |part: Part| all.iter().filter(move |(kind, _)| *kind == part);
+        let callees: Vec<_> = of(Part::Callee).collect();
+        if callees.is_empty() {
+            return None;
+        }
+        let place = self.random.pick(&callees).1.clone();
+        let names = of(Part::Name).enumerate();
+        let others: Vec<_> = names
+            .filter(|(_, (_, name))| {
+                name.len() == place.len() && bytes[name.clone()] != bytes[place.clone()]
+            })
+            .collect();
+        if others.is_empty() {
+            return None;
+        }
+        let (procedure, (_, name)) = *self.random.pick(&others);
+        let lines = bytes[..place.start].split(|&byte| byte == b'\n');
+        let node = lines.filter(|line| line.first() == Some(&b'N')).count() - 1;
+        mends.push(Mend::Text(PROGRAMS[side], bytes.clone()));
+        bytes.copy_within(name.clone(), place.start);
+        self.driver.lend_text(PROGRAMS[side], &bytes);
+        self.exactly(NODES[side], 4 * node + 3, procedure as u64, mends)?;
+        Some(CALL_LED)
     }
 
     // ---- what is spoilt

@@ -1,5 +1,6 @@
 //! Whole jobs: each call reads its texts in order and answers.
 
+use super::back;
 use super::closing::{self, Graph};
 use super::program::{self, Program};
 use super::sheet::{self, Joined};
@@ -94,6 +95,12 @@ pub fn sheet(old: &[u8], new: &[u8], tests: &[u8], out: &mut [u8]) -> Answer {
 /// Writes one test's record line.
 pub fn record(old: &[u8], new: &[u8], tests: &[u8], test: usize, out: &mut [u8]) -> Answer {
     answer(Job::read(old, new, tests).map(|job| job.record(test, out)))
+}
+
+/// Writes the program of one side back: an accepted file, read and written,
+/// is unchanged.
+pub fn program(old: &[u8], new: &[u8], tests: &[u8], side: usize, out: &mut [u8]) -> Answer {
+    answer(Job::read(old, new, tests).map(|_| back::write(&[old, new], side, out)))
 }
 
 /// Checks a sheet.

@@ -1,12 +1,13 @@
 //! The lent job: the calls on a job record and lent tables, by the section
 //! "The job" of the requirements.
 
+use super::back;
 use super::job::{self, answer, UNNAMED};
 use super::tables::{self, Tables, TestTables};
 use crate::answer::{Answer, Outcome};
 use crate::records::{Job, Node, Read, Request, Version};
 use crate::records::{CALL_SCRATCH, LINKS, NODES, READ_SCRATCH, ROWS, TESTS};
-use crate::records::{CHECK, LABEL, RECORD, SHEET};
+use crate::records::{CHECK, LABEL, PROGRAM, RECORD, SHEET};
 
 /// 13 where the call is not of the job's stage.
 fn of_stage(job: &Job, stage: usize) -> Outcome<()> {
@@ -40,19 +41,33 @@ fn job_at(stage: usize, old: [usize; 3], new: [usize; 3], tests: usize) -> Job {
     }
 }
 
+/// 14 where the tables of a version are too short.
+fn long_enough(lent: &Version) -> Outcome<()> {
+    lent_right(lent.nodes.len() >= NODES && lent.links.len() >= LINKS)
+}
+
 /// A version whose tables are long enough and what reading its text leaves,
 /// or 14.
 fn version<'m>(lent: &Version<'m>) -> Outcome<Tables<'m>> {
-    lent_right(lent.nodes.len() >= NODES && lent.links.len() >= LINKS)?;
+    long_enough(lent)?;
     let tables = tables::program(lent.text).map_err(|_| LENT_WRONG)?;
     lent_right(tables.left(lent.nodes, lent.links))?;
     Ok(tables)
 }
 
-/// The same of the tests.
-fn tests<'m>(lent: &Read<'m>, old: &Tables) -> Outcome<TestTables<'m>> {
+/// The text of a version whose tables are long enough and what reading that
+/// text leaves, the lent one being like it in all that is taken from it; or
+/// 14.
+fn program(lent: &Version, counts: [usize; 3]) -> Outcome<Vec<u8>> {
+    long_enough(lent)?;
+    back::text(lent, counts).ok_or(LENT_WRONG)
+}
+
+/// Tests whose tables are long enough and what reading their text against so
+/// many old edges leaves, or 14.
+fn tests<'m>(lent: &Read<'m>, edges: usize) -> Outcome<TestTables<'m>> {
     lent_right(lent.tests.len() >= TESTS && lent.rows.len() >= ROWS)?;
-    let tables = tables::tests(lent.text, old.program.edges.len()).map_err(|_| LENT_WRONG)?;
+    let tables = tables::tests(lent.text, edges).map_err(|_| LENT_WRONG)?;
     lent_right(tables.left(lent.tests, lent.rows))?;
     Ok(tables)
 }
@@ -137,7 +152,7 @@ fn held<'m>(job: &Job, lent: &Read<'m>, scratch: usize) -> Outcome<Held<'m>> {
     of_stage(job, 3)?;
     lent_right(scratch >= CALL_SCRATCH)?;
     let (old, new) = (version(&lent.old)?, version(&lent.new)?);
-    let tests = tests(lent, &old)?;
+    let tests = tests(lent, old.program.edges.len())?;
     let count = tests.suite.len();
     lent_right(*job == job_at(3, old.counts(), new.counts(), count))?;
     Ok(Held {
@@ -148,6 +163,24 @@ fn held<'m>(job: &Job, lent: &Read<'m>, scratch: usize) -> Outcome<Held<'m>> {
             suite: tests.suite,
         },
     })
+}
+
+/// The programs to write back, at stage 3, or 13 or 14: of the texts of both
+/// versions 14 asks less here, of all else the same.
+fn programs(job: &Job, lent: &Read, scratch: usize) -> Outcome<[Vec<u8>; 2]> {
+    of_stage(job, 3)?;
+    lent_right(scratch >= CALL_SCRATCH)?;
+    let old = program(
+        &lent.old,
+        [job.old_procedures, job.old_nodes, job.old_edges],
+    )?;
+    let new = program(
+        &lent.new,
+        [job.new_procedures, job.new_nodes, job.new_edges],
+    )?;
+    let tests = tests(lent, job.old_edges)?;
+    lent_right(job.tests == tests.suite.len())?;
+    Ok([old, new])
 }
 
 struct Held<'m> {
@@ -172,14 +205,18 @@ pub fn call(
     out: &mut [u8],
 ) -> Answer {
     scratch.fill(0);
+    let Request {
+        number,
+        a,
+        b,
+        input,
+    } = request;
     let mut serve = || {
+        if number == PROGRAM {
+            let [old, new] = programs(job, &lent, scratch.len())?;
+            return Ok(back::write(&[&old, &new], a, out));
+        }
         let held = held(job, &lent, scratch.len())?;
-        let Request {
-            number,
-            a,
-            b,
-            input,
-        } = request;
         Ok(match number {
             SHEET => held.read.sheet(out),
             RECORD => held.read.record(a, out),

@@ -8,14 +8,14 @@ use crate::answer::Outcome;
 use crate::records::Node;
 
 /// Where edges and heads of chains begin in the links.
-const EDGES: usize = 448;
+pub const EDGES: usize = 448;
 const HEADS: usize = 5_568;
 
 /// Words of a test's row.
 const ROW: usize = 16;
 
 /// The lines of an accepted text, each with its place.
-fn lines(text: &[u8]) -> impl Iterator<Item = (usize, Vec<&[u8]>)> {
+pub fn lines(text: &[u8]) -> impl Iterator<Item = (usize, Vec<&[u8]>)> {
     let mut start = 0;
     text.split_inclusive(|&byte| byte == b'\n')
         .map(move |line| {
