@@ -6,18 +6,15 @@ use Prim.Native.Nat.{ℕ, zero, suc, _<_}
 use lib.Dec.{eqb}
 use lib.ListN.{length, getD}
 use Rattle.laws.specs.Tests.{_and_, _or_, _⇒_, choose, isnt, every, any, those, anyOf, listed, anyPair, pick, grid}
-use Rattle.rules.specs.Text.{same, Bytes}
+use Rattle.rules.specs.Text.{same, sameLabel, Bytes}
 use Rattle.rules.specs.Graph.{C, Program, nodeCount, edgeCount, kindAt, labelAt, calleeAt, sourceAt, wordAt, targetAt, entry, exit, called, sameKind}
 
--- Two labels, and two callee fields, that count as equal: those of equal bytes.
-unfoldable pub sameLabel : Bytes → Bytes → Bool
-sameLabel l l′ = same l l′
-
+-- Two callee fields that count as equal: those of equal bytes.
 unfoldable pub sameCallee : Bytes → Bytes → Bool
 sameCallee c c′ = same c c′
 
 module _ (old new : Program) where
-  -- An old node and a new one are alike: kind, label and callee have equal bytes.
+  -- An old node and a new one are alike: kind and callee have equal bytes, and the labels match, blanks at the ends and how many stand in a row left aside.
   unfoldable pub alike : ℕ → ℕ → Bool
   alike n n′ = sameKind (kindAt old n) (kindAt new n′) and sameLabel (labelAt old n) (labelAt new n′) and sameCallee (calleeAt old n) (calleeAt new n′)
 

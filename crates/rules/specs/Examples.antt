@@ -1,5 +1,5 @@
 -- P1 to P8, the change requests of document 02, refusals, and runs, computed by the definitions from the texts to the bytes.
-use mathlib.Core.Path.{_≡_, refl}
+use mathlib.Core.Path.{_≡_, refl, ap}
 use mathlib.Core.Bool.{Bool, true, false}
 use mathlib.Core.Option.{Option, none, some}
 use lib.Dec.{eqb}
@@ -7,17 +7,19 @@ use mathlib.Core.List.{List, [], _∷_, _++_}
 use Prim.Native.Nat.{ℕ, zero, suc}
 use Prim.Native.String.{String}
 use Rattle.laws.specs.Tests.{_and_, _or_, _⇒_, isnt, every, any, orElse, ifTrue, first, plus, count, those, has, anyOf, listed, allPairs, anyPair, pick, gridRow, grid, firstFailed, choose, none?, after}
-use Rattle.rules.specs.Text.{Bytes, same, empty, bytes, maxBytes, then, unless, onto, split, joinBy, textOf, between, allBytes, nameByte, labelByte, wordByte, digitByte, isName, isLabel, isWord, isNumber, valueFrom, digits, decimal, readLines, readText, Reading, accepted, refused}
+use Rattle.rules.specs.Text.{Bytes, same, empty, bytes, maxBytes, then, unless, onto, split, joinBy, textOf, between, allBytes, nameByte, labelByte, wordByte, digitByte, isName, isLabel, isWord, isNumber, nonEmpty, squeezed, sameLabel, valueFrom, digits, decimal, readLines, readText, Reading, accepted, refused}
 use Rattle.rules.specs.Graph.{sameKind, orZero, isOf, entry, exit, procOf, leaves, edgeTaken, degree, worded, Program, called}
 use Rattle.rules.specs.ProgramFile.{Listing, kindOf, isNode, isEdge, formOf, hasEdge, named, isNodeOf, hasWord, degreeFine, complete, lost, takeLine, stepProgram, finishProgram, readListing, readProgram}
 use Rattle.rules.specs.SuiteFile.{testForm, hexByte, hexValue, bitsOf, noneSet, rowFine, tested, takeTest, stepSuite, readTests, readSuite}
 use Rattle.rules.specs.Run.{Meaning, crossing, edgeAhead, ended, endedAt, listOf, run, start, step, stepAt, trail}
-use Rattle.rules.specs.Closing.{alike, fits, bothCall, fitted, goesOn, joined, byStart, byCall, byEdge, follows, grown, dangerousAt, dangerous, closed, pairs, dangers, meets, repeated, carries, carriesOnly, mark, sameCallee, sameLabel, sameWord}
+use Rattle.rules.specs.Closing.{alike, fits, bothCall, fitted, goesOn, joined, byStart, byCall, byEdge, follows, grown, dangerousAt, dangerous, closed, pairs, dangers, meets, repeated, carries, carriesOnly, mark, sameCallee, sameWord}
 use Rattle.rules.specs.Sheet.{selected, mLine, dLine, rLine, endLine, sheetLines, sheetText, markByte, marksOf, crossed, vLine, recordText, sheetForm, before, allBelow, testOf, takeSheetLine, stepSheet, finishSheet, readSheet}
 use Rattle.rules.specs.Check.{entered, keeps, edgeKept, edgesKept, rule1, rule2, rule3, rule4, rule5, broken}
 use Rattle.rules.specs.Job.{Outcome, wrote, refusal, passed, outcome, readJob, written, writing, sheetBytes, recordBytes, sheetAnswer, recordAnswer, judged, checkAnswer, bySide, writingBack, programAnswer, serving, answering}
 use Rattle.rules.specs.Layout.{edgeLine, linesOfThose, nodeLine, procLine, procLines, programLines, writeProgram}
 use Rattle.rules.specs.WriteBack.{inPart, ofParts, otherAlone}
+use Rattle.rules.specs.Former.{formerAlike, formerRule2, formerBroken, formerJudged, formerCheckAnswer}
+use Rattle.rules.specs.Proofs.ClosingLaws.{squeezed-true}
 
 -- A job: the texts of the old program, the new one and the tests.
 record Job : Type 0 where
@@ -81,6 +83,15 @@ calls-itself = "P,up\nN,E,,\nN,C,wind,up\nN,X,,\nB,0,-,1\nB,1,-,2\n"
 returning : String
 returning = "P,main\nN,E,,\nN,C,wind,sub\nN,X,,\nB,0,-,1\nB,1,-,2\nP,sub\nN,E,,\nN,X,,\nB,3,-,4\n"
 
+spaced : String
+spaced = "P,up\nN,E,,\nN,S,  read   layer,\nN,S,set speed ,\nN,S, ho ld,\nN,X,,\nB,0,-,1\nB,1,up,2\nB,1,stop,3\nB,2,ok,1\nB,3,ok,4\n"
+
+one-blank : String
+one-blank = "P,up\nN,E,,\nN,S, ,\nN,X,,\nB,0,-,1\nB,1,T,1\nB,1,F,2\n"
+
+three-blanks : String
+three-blanks = "P,up\nN,E,,\nN,S,   ,\nN,X,,\nB,0,-,1\nB,1,T,1\nB,1,F,2\n"
+
 two-tests : String
 two-tests = "T,t1,a8\nT,t2,f8\n"
 
@@ -124,6 +135,28 @@ backs =
     ∷ back p2 1 112 (refusal 16 0)
     ∷ back p2 2 0 (refusal 6 0)
     ∷ back (job calls-itself up "") 0 maxBytes (wrote (bytes calls-itself))
+    ∷ []
+
+-- ---- blanks in labels (document 02, job 2)
+
+-- The check as it was.
+formerly : Job → String → Outcome → Example
+formerly j sheet o = (formerCheckAnswer (j .old) (j .new) (j .tests) (bytes sheet), o)
+
+p2-spaced : Job
+unfolding job layers spaced two-tests
+p2-spaced = job layers spaced two-tests
+
+-- At both ends and in a row blanks count for nothing, within `hold` one does; a label of blanks only matches another such one. The sheet that was written passed and passes; the new one passes, and would not have.
+pub blanks : List Example
+unfolding writes checks formerly job p2-spaced one-blank three-blanks winds
+blanks =
+    writes p2-spaced "sheet,1\nM,0,0\nM,1,1\nM,2,2\nD,2\nR,t1\nR,t2\nend,3,1,2\n"
+    ∷ formerly p2-spaced "sheet,1\nM,0,0\nD,0\nR,t1\nR,t2\nend,1,1,2\n" passed
+    ∷ checks p2-spaced "sheet,1\nM,0,0\nD,0\nR,t1\nR,t2\nend,1,1,2\n" passed
+    ∷ formerly p2-spaced "sheet,1\nM,0,0\nM,1,1\nM,2,2\nD,2\nR,t1\nR,t2\nend,3,1,2\n" (refusal 12 2)
+    ∷ writes (job one-blank three-blanks "") "sheet,1\nM,0,0\nM,1,1\nM,2,2\nend,3,0,0\n"
+    ∷ writes (job three-blanks winds "") "sheet,1\nM,0,0\nD,0\nend,1,1,0\n"
     ∷ []
 
 -- ---- refusals
@@ -191,29 +224,32 @@ refusals =
 -- ---- the statement
 
 -- The definitions answer P1 to P8, and the refusals, as document 01 says, and the change requests as document 02 does: one statement over their list, by computation.
-pub examples-answered : answered (examples ++ (backs ++ refusals)) ≡ true
-unfolding answered sameOutcome examples backs refusals
+pub examples-answered : answered (examples ++ (backs ++ (blanks ++ refusals))) ≡ true
+unfolding answered sameOutcome examples backs blanks refusals
     _and_ _or_ _⇒_ isnt choose every any orElse ifTrue first plus count those has anyOf listed allPairs anyPair pick gridRow grid firstFailed none?
     same empty onto split joinBy textOf between allBytes nameByte labelByte wordByte digitByte isName isLabel isWord isNumber valueFrom digits decimal then unless readLines readText
     sameKind orZero isOf entry exit procOf called leaves edgeTaken degree worded
     kindOf isNode isEdge formOf hasEdge named isNodeOf hasWord degreeFine complete lost takeLine stepProgram finishProgram readListing readProgram
-    testForm hexByte hexValue bitsOf noneSet rowFine tested takeTest stepSuite readTests readSuite
+    testForm hexByte hexValue bitsOf noneSet rowFine tested takeTest stepSuite readTests readSuite nonEmpty squeezed
     sameLabel sameCallee sameWord alike fits bothCall fitted goesOn joined byStart byCall byEdge follows grown dangerousAt dangerous closed pairs dangers meets repeated carries carriesOnly mark
     selected mLine dLine rLine endLine sheetLines sheetText markByte marksOf crossed vLine recordText sheetForm before allBelow testOf takeSheetLine stepSheet finishSheet readSheet
-    entered keeps edgeKept edgesKept rule1 rule2 rule3 rule4 rule5 broken
+    entered keeps edgeKept edgesKept rule1 rule2 rule3 rule4 rule5 broken formerAlike formerRule2 formerBroken formerJudged formerCheckAnswer
     outcome readJob written writing sheetBytes recordBytes judged serving answering
     edgeLine linesOfThose nodeLine procLine procLines programLines writeProgram bySide writingBack
 examples-answered = refl
 
 -- ---- runs
 
--- A meaning: the state counts actions, the output is the label, and the word is `stop` after `read layer` and else `ok`.
+-- A meaning: the state counts actions, the output is the label without needless blanks, and the word is `stop` after `read layer` and else `ok`.
 counting : Meaning ℕ Bytes
 counting =
     record {
       next = λ l s. suc s;
-      out = λ l s. l;
-      word = λ l s. choose (same l (bytes "read layer")) (bytes "stop") (bytes "ok");
+      out = λ l s. squeezed l;
+      word = λ l s. choose (same (squeezed l) (bytes "read layer")) (bytes "stop") (bytes "ok");
+      matching = λ l l′ h s.
+          let e = squeezed-true l l′ h in
+          (refl, e, ap (λ (t : Bytes). choose (same t (bytes "read layer")) (bytes "stop") (bytes "ok")) e);
     }
 
 -- After k steps from state 0: has the run ended, its state, its outputs, and the edges crossed; none where it takes fewer steps.
@@ -246,7 +282,7 @@ runs-computed : (ran 5 layers ≡ some (true, 2, bytes "read layer" ∷ bytes "h
     × (ran 3 stopping ≡ none)
 unfolding ran layers by-layer returning nested stopping run step stepAt start trail crossing edgeAhead listOf ended endedAt
     _and_ _or_ _⇒_ isnt choose every any orElse ifTrue first plus count
-    same empty onto split between allBytes nameByte labelByte wordByte digitByte isName isLabel isWord isNumber valueFrom then unless readLines readText
+    same empty onto split joinBy nonEmpty squeezed between allBytes nameByte labelByte wordByte digitByte isName isLabel isWord isNumber valueFrom then unless readLines readText
     sameKind orZero isOf entry exit procOf called leaves edgeTaken degree worded
     kindOf isNode isEdge formOf hasEdge named isNodeOf hasWord degreeFine complete lost takeLine stepProgram finishProgram readListing readProgram
 runs-computed = (refl, refl, refl, refl, refl, refl)

@@ -13,6 +13,7 @@ pub mod Layout
 pub mod Places
 -- What the change requests of document 02 add beside requests, in their order.
 pub mod WriteBack
+pub mod Former
 -- What is promised, as statements; their proofs; P1 to P8, computed.
 pub mod Promises
 pub mod Theorems

@@ -9,7 +9,7 @@ use lib.ListN.{length, getD, take, drop}
 use Rattle.laws.specs.Tests.{has, listed, count, plus}
 use Rattle.laws.specs.TestLaws.{Ascending}
 use Rattle.laws.specs.Lists.{Rising}
-use Rattle.rules.specs.Text.{Bytes, accepted, fieldsOf, linesOf, maxBytes, maxPairs, refused, textOf, tooMany}
+use Rattle.rules.specs.Text.{Bytes, accepted, fieldsOf, linesOf, maxBytes, maxPairs, refused, sameLabel, squeezed, textOf, tooMany}
 use Rattle.rules.specs.Graph.{C, E, Program, WellFormed, X, called, calleeAt, edgeCount, edgeTaken, entry, exit, itsEdge, kindAt, labelAt, nameAt, nodeCount, ownerAt, procCount, sourceAt, targetAt, wordAt}
 use Rattle.rules.specs.ProgramFile.{Listing, readListing, readProgram}
 use Rattle.rules.specs.SuiteFile.{Suite, TestListing, coverageAt, readSuite, readTests, testCount, testName}
@@ -21,6 +21,7 @@ use Rattle.rules.specs.Job.{Given, Outcome, Request, Version, answering,
 use Rattle.rules.specs.Layout.{Follows, SheetFollows, SuiteFollows, writeProgram, writeSuite}
 use Rattle.rules.specs.Places.{Placed, TestsPlaced}
 use Rattle.rules.specs.WriteBack.{SameParts, otherAlone}
+use Rattle.rules.specs.Former.{formerCheckAnswer}
 
 -- ==== demand 1: what the calls answer, each number for its one reason
 
@@ -242,9 +243,28 @@ pub record Lookups (p : Program) : Type 0 where
 abbrev pub LookupsExact : Type 0
 LookupsExact = (text : Bytes) (p : Program) → readProgram text ≡ accepted p → Lookups p
 
--- Two nodes are alike exactly if kind, label and callee have equal bytes; an old edge and a new one fit exactly if their words are equal and their ends alike.
+-- ---- blanks in labels (document 02, job 2)
+
+-- Bytes without needless blanks: none at the front, none at the back, no two in a row.
+pub record NoneNeedless (s : Bytes) : Type 0 where
+  pub front : (t : Bytes) → s ≡ 32 ∷ t → ⊥
+  pub back : (t : Bytes) → s ≡ t ++ (32 ∷ []) → ⊥
+  pub run : (t u : Bytes) → s ≡ t ++ (32 ∷ 32 ∷ u) → ⊥
+
+-- What is left of bytes: a blank at the front, one at the back, and one more in a row are dropped, and bytes without needless blanks stay as they are.
+pub record BlanksAside (s t : Bytes) : Type 0 where
+  pub front : squeezed (32 ∷ t) ≡ squeezed t
+  pub back : squeezed (s ++ (32 ∷ [])) ≡ squeezed s
+  pub run : squeezed (s ++ (32 ∷ 32 ∷ t)) ≡ squeezed (s ++ (32 ∷ t))
+  pub plain : NoneNeedless s → squeezed s ≡ s
+
+-- Two labels match exactly if the same is left of both.
+abbrev pub LabelsMatch : Type 0
+LabelsMatch = (l l′ : Bytes) → (sameLabel l l′ ≡ true) ↔ (squeezed l ≡ squeezed l′)
+
+-- Two nodes are alike exactly if kind and callee have equal bytes and the labels match; an old edge and a new one fit exactly if their words are equal and their ends alike.
 pub record AlikeExact (old new : Program) : Type 0 where
-  pub alike-are : (n n′ : ℕ) → (alike old new n n′ ≡ true) ↔ ((kindAt old n ≡ kindAt new n′) × (labelAt old n ≡ labelAt new n′) × (calleeAt old n ≡ calleeAt new n′))
+  pub alike-are : (n n′ : ℕ) → (alike old new n n′ ≡ true) ↔ ((kindAt old n ≡ kindAt new n′) × (squeezed (labelAt old n) ≡ squeezed (labelAt new n′)) × (calleeAt old n ≡ calleeAt new n′))
   pub fits-are : (e e′ : ℕ) → (fits old new e e′ ≡ true) ↔ ((wordAt old e ≡ wordAt new e′) × (alike old new (targetAt old e) (targetAt new e′) ≡ true))
 
 -- ---- pairs, dangerous edges, counterparts and repeated tests are exactly those of the closing rules
@@ -345,6 +365,18 @@ pub record Passes (old new tests sheet : Bytes) : Type 0 where
 
 abbrev pub PassesExactly : Type 0
 PassesExactly = (old new tests sheet : Bytes) → (checkAnswer old new tests sheet ≡ passed) ↔ Passes old new tests sheet
+
+-- The check as it was, when labels matched by their bytes (document 02, job 2), passes exactly the sheets that pass and list no pair whose labels differ in their bytes; so a stored sheet
+-- that passed still passes.
+pub record PassedFormerly (old new tests sheet : Bytes) : Type 0 where
+  pub passes : Passes old new tests sheet
+  pub labels : (n n′ : ℕ) → listed (passes .claims .M) n n′ ≡ true → labelAt (passes .given .old) n ≡ labelAt (passes .given .new) n′
+
+abbrev pub FormerExact : Type 0
+FormerExact = (old new tests sheet : Bytes) → (formerCheckAnswer old new tests sheet ≡ passed) ↔ PassedFormerly old new tests sheet
+
+abbrev pub StoredSheetsPass : Type 0
+StoredSheetsPass = (old new tests sheet : Bytes) → formerCheckAnswer old new tests sheet ≡ passed → checkAnswer old new tests sheet ≡ passed
 
 -- The five rules, in words.
 pub record RulesExact (old new : Program) (suite : List Coverage) (c : Sheet) : Type 0 where

@@ -1,6 +1,7 @@
 -- The proofs behind Theorems.
 pub mod TextLaws
 pub mod GraphLaws
+pub mod LabelLaws
 pub mod ClosingLaws
 pub mod ProgramLaws
 pub mod SuiteLaws
@@ -15,6 +16,7 @@ pub mod Numbers
 pub mod WriteProgram
 pub mod WriteSuite
 pub mod SheetLayout
+pub mod StoredSheets
 pub mod Places
 pub mod BackLaws
 pub mod Answers

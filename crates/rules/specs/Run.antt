@@ -1,17 +1,19 @@
 -- How a program runs: meanings, configurations, steps, the edges crossed, and where a run has ended.
+use mathlib.Core.Path.{_≡_}
 use mathlib.Core.Bool.{Bool, true, false}
 use mathlib.Core.Option.{Option, none, some}
 use mathlib.Core.List.{List, [], _∷_, _++_}
 use Prim.Native.Nat.{ℕ, zero, suc}
 use Rattle.laws.specs.Tests.{after}
-use Rattle.rules.specs.Text.{Bytes}
+use Rattle.rules.specs.Text.{Bytes, sameLabel}
 use Rattle.rules.specs.Graph.{Kind, E, S, C, X, Program, kindAt, labelAt, targetAt, entry, called, edgeTaken, itsEdge}
 
--- A meaning gives, for each label and state, the next state, an output and a word.
+-- A meaning gives, for each label and state, the next state, an output and a word. Labels that match (Text.sameLabel) have equal actions.
 pub record Meaning {ℓ κ} (St : Type ℓ) (Out : Type κ) : Type (ℓ ⊔ κ) where
   pub next : Bytes → St → St
   pub out : Bytes → St → Out
   pub word : Bytes → St → Bytes
+  pub matching : (l l′ : Bytes) → sameLabel l l′ ≡ true → (s : St) → (next l s ≡ next l′ s) × (out l s ≡ out l′ s) × (word l s ≡ word l′ s)
 
 -- What a run keeps: the node it stands on, the word chosen there, the open calls, newest first, the state, and the outputs in order.
 pub record Config {ℓ κ} (St : Type ℓ) (Out : Type κ) : Type (ℓ ⊔ κ) where

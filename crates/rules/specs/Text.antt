@@ -7,7 +7,7 @@ use Prim.Native.String.{String}
 use Prim.Native.String as Quoted
 use lib.Dec.{eqb, leb, ltb}
 use lib.ListN.{length}
-use Rattle.laws.specs.Tests.{_and_, _or_, isnt}
+use Rattle.laws.specs.Tests.{_and_, _or_, isnt, choose}
 
 -- Bytes: a text, or a part of one. The definitions ask nothing of a byte; in a call each is below 256.
 abbrev pub Bytes : Type 0
@@ -123,6 +123,19 @@ isName s = between 1 12 (length s) and allBytes nameByte s
 -- A label: 1 to 60 bytes.
 unfoldable pub isLabel : Bytes → Bool
 isLabel s = between 1 60 (length s) and allBytes labelByte s
+
+-- The pieces that are not empty.
+unfoldable pub nonEmpty : List Bytes → List Bytes
+nonEmpty [] = []
+nonEmpty (p ∷ ps) = choose (empty p) (nonEmpty ps) (p ∷ nonEmpty ps)
+
+-- A label without the blanks (byte 32) at both ends, and with one blank for each inner run: its pieces between blanks that are not empty, joined by one blank.
+unfoldable pub squeezed : Bytes → Bytes
+squeezed label = joinBy 32 (nonEmpty (split 32 label))
+
+-- Two labels match: they are equal after dropping blanks at both ends and taking each inner run as one.
+unfoldable pub sameLabel : Bytes → Bytes → Bool
+sameLabel l l′ = same (squeezed l) (squeezed l′)
 
 -- A word: 1 to 8 bytes.
 unfoldable pub isWord : Bytes → Bool

@@ -11,13 +11,16 @@ use Rattle.rules.specs.Promises.{
   AlikeExact,
   AnswersPlain,
   BackExactly,
+  BlanksAside,
   ClaimsFalse,
   ClosingRulesExact,
   Demand2,
   Demand3,
   ExportedDemand3,
+  FormerExact,
   LabelShown,
   LabelsAnswered,
+  LabelsMatch,
   LeftOffExact,
   LineAbove,
   LineMissing,
@@ -32,6 +35,7 @@ use Rattle.rules.specs.Promises.{
   RecordUnnamed,
   RequestsNumbered,
   RulesExact,
+  StoredSheetsPass,
   SuiteLayout,
   SuitePlaced,
   TextsRead,
@@ -45,15 +49,18 @@ use Rattle.rules.specs.Promises.{
 use Rattle.rules.specs.Proofs.Answers as Answers
 use Rattle.rules.specs.Proofs.BackLaws.{alone-by-parts, back-unchanged, programs-back}
 use Rattle.rules.specs.Proofs.Checked as Checked
+use Rattle.rules.specs.Proofs.ClosingLaws.{squeezed-of, squeezed-true}
 use Rattle.rules.specs.Proofs.Closure.{exact}
 use Rattle.rules.specs.Proofs.Exported.{exported, returned}
 use Rattle.rules.specs.Proofs.JobLaws.{checked-texts, marked-texts, unlisted-texts}
+use Rattle.rules.specs.Proofs.LabelLaws.{blanks-aside}
 use Rattle.rules.specs.Proofs.Places.{listing-placed, label-part, tests-placed}
 use Rattle.rules.specs.Proofs.ProgramLaws.{read-well-formed}
 use Rattle.rules.specs.Proofs.ReadBack.{written-passes}
 use Rattle.rules.specs.Proofs.Refused as Refused
 use Rattle.rules.specs.Proofs.Selection.{selection-exact}
 use Rattle.rules.specs.Proofs.SheetLayout.{check-exact}
+use Rattle.rules.specs.Proofs.StoredSheets.{formerly}
 use Rattle.rules.specs.Proofs.Words as Words
 use Rattle.rules.specs.Proofs.WriteProgram.{reads-layout}
 use Rattle.rules.specs.Proofs.WriteSuite.{reads-suite-layout}
@@ -129,6 +136,12 @@ label-shown = label-part
 pub lookups-exact : LookupsExact
 lookups-exact text p e = Words.lookups p (read-well-formed text p e)
 
+pub blanks-left-aside : (s t : Bytes) → BlanksAside s t
+blanks-left-aside = blanks-aside
+
+pub labels-match : LabelsMatch
+labels-match l l′ = (squeezed-true l l′, squeezed-of l l′)
+
 pub alike-exact : (old new : Program) → AlikeExact old new
 alike-exact = Words.alike-exact
 
@@ -151,6 +164,12 @@ other-bytes-alone = alone-by-parts
 
 pub passes-exactly : PassesExactly
 passes-exactly = check-exact
+
+pub former-exact : FormerExact
+former-exact = formerly
+
+pub stored-sheets-pass : StoredSheetsPass
+stored-sheets-pass old new tests sheet e = check-exact old new tests sheet .1 (formerly old new tests sheet .0 e .passes)
 
 pub rules-exact : (old new : Program) (suite : List Coverage) (c : Sheet) → RulesExact old new suite c
 rules-exact = Words.rules-exact

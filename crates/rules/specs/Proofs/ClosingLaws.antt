@@ -8,17 +8,29 @@ use lib.Dec.{eqb}
 use Rattle.laws.specs.Tests.{_and_, first}
 use Rattle.laws.specs.TestLaws.{and-both, and-left, and-right, same-test}
 use Rattle.laws.specs.Counting.{first-agree}
-use Rattle.rules.specs.Text.{Bytes, same}
+use Rattle.rules.specs.Text.{Bytes, same, sameLabel, squeezed}
 use Rattle.rules.specs.Graph.{Program, calleeAt, edgeCount, edgeTaken, kindAt, labelAt, leaves, sameKind, sourceAt, targetAt, wordAt}
-use Rattle.rules.specs.Closing.{alike, fits, sameCallee, sameLabel, sameWord}
+use Rattle.rules.specs.Closing.{alike, fits, sameCallee, sameWord}
 use Rattle.rules.specs.Proofs.GraphLaws.{sameKind-of, sameKind-true}
 use Rattle.rules.specs.Proofs.TextLaws.{same-of, same-true}
 
--- Labels and callee fields count as equal by their bytes.
-pub sameLabel-is : (l l′ : Bytes) → sameLabel l l′ ≡ same l l′
+-- Labels match by what they are without the blanks at both ends and with one for each inner run; labels of equal bytes match.
+pub sameLabel-is : (l l′ : Bytes) → sameLabel l l′ ≡ same (squeezed l) (squeezed l′)
 unfolding sameLabel
 sameLabel-is l l′ = refl
 
+pub squeezed-true : (l l′ : Bytes) → sameLabel l l′ ≡ true → squeezed l ≡ squeezed l′
+unfolding sameLabel
+squeezed-true l l′ e = same-true _ _ e
+
+pub squeezed-of : (l l′ : Bytes) → squeezed l ≡ squeezed l′ → sameLabel l l′ ≡ true
+unfolding sameLabel
+squeezed-of l l′ e = same-of e
+
+pub sameLabel-of : {l l′ : Bytes} → l ≡ l′ → sameLabel l l′ ≡ true
+sameLabel-of e = squeezed-of _ _ (ap squeezed e)
+
+-- Callee fields count as equal by their bytes.
 pub sameCallee-is : (c c′ : Bytes) → sameCallee c c′ ≡ same c c′
 unfolding sameCallee
 sameCallee-is c c′ = refl
@@ -29,43 +41,45 @@ module _ (old new : Program) (n n′ : ℕ) where
   unfolding alike
   alike-parts = refl
 
-  pub alike-is : (alike old new n n′ ≡ true) ↔ ((kindAt old n ≡ kindAt new n′) × (labelAt old n ≡ labelAt new n′) × (calleeAt old n ≡ calleeAt new n′))
-  unfolding alike sameLabel sameCallee
+  pub alike-is : (alike old new n n′ ≡ true) ↔ ((kindAt old n ≡ kindAt new n′) × (squeezed (labelAt old n) ≡ squeezed (labelAt new n′)) × (calleeAt old n ≡ calleeAt new n′))
+  unfolding alike sameCallee
   alike-is = (
-    λ h. (sameKind-true _ _ (and-left _ _ h), same-true _ _ (and-left _ _ (and-right _ _ h)), same-true _ _ (and-right _ _ (and-right _ _ h))),
-    λ h. and-both (sameKind-of (h .0)) (and-both (same-of (h .1)) (same-of (h .2))),
+    λ h. (sameKind-true _ _ (and-left _ _ h), squeezed-true _ _ (and-left _ _ (and-right _ _ h)), same-true _ _ (and-right _ _ (and-right _ _ h))),
+    λ h. and-both (sameKind-of (h .0)) (and-both (squeezed-of _ _ (h .1)) (same-of (h .2))),
   )
 
   pub bare-callees : calleeAt old n ≡ [] → calleeAt new n′ ≡ [] → sameCallee (calleeAt old n) (calleeAt new n′) ≡ true
   unfolding sameCallee
   bare-callees c c′ = same-of (c ∙ sym c′)
 
-  -- Alike nodes have equal kinds, and labels of one action.
+  -- Alike nodes have equal kinds, and labels that match.
   pub alike-kind : alike old new n n′ ≡ true → kindAt new n′ ≡ kindAt old n
   unfolding alike
   alike-kind h = sym (sameKind-true _ _ (and-left _ _ h))
 
-  pub alike-label : alike old new n n′ ≡ true → labelAt new n′ ≡ labelAt old n
-  unfolding alike sameLabel
-  alike-label h = sym (same-true _ _ (and-left _ _ (and-right _ _ h)))
+  pub alike-label : alike old new n n′ ≡ true → sameLabel (labelAt old n) (labelAt new n′) ≡ true
+  unfolding alike
+  alike-label h = and-left _ _ (and-right _ _ h)
 
   -- Two nodes of one kind with no label and no callee are alike.
   pub alike-bare : kindAt old n ≡ kindAt new n′ → labelAt old n ≡ [] → labelAt new n′ ≡ [] → calleeAt old n ≡ [] → calleeAt new n′ ≡ [] → alike old new n n′ ≡ true
-  unfolding alike sameLabel sameCallee
-  alike-bare k l l′ c c′ = and-both (sameKind-of k) (and-both (same-of (l ∙ sym l′)) (same-of (c ∙ sym c′)))
+  unfolding alike sameCallee
+  alike-bare k l l′ c c′ = and-both (sameKind-of k) (and-both (sameLabel-of (l ∙ sym l′)) (same-of (c ∙ sym c′)))
 
--- A node is alike to itself. Where a node of the new program is alike to two others of it, a node that is alike to one of these is alike to the other.
+-- Alike nodes, of any programs: a node and itself, either way round, and through a third.
 pub alike-self : (p : Program) (n : ℕ) → alike p p n n ≡ true
-unfolding alike sameLabel sameCallee
-alike-self p n = and-both (sameKind-of refl) (and-both (same-of refl) (same-of refl))
+alike-self p n = alike-is p p n n .1 (refl, refl, refl)
 
-pub alike-through : (old new : Program) (n r x y : ℕ) → alike old new n x ≡ true → alike new new r x ≡ true → alike new new r y ≡ true → alike old new n y ≡ true
-unfolding alike sameLabel sameCallee
-alike-through old new n r x y a b c =
-    and-both (sameKind-of (sameKind-true _ _ (and-left _ _ a) ∙ sym (sameKind-true _ _ (and-left _ _ b)) ∙ sameKind-true _ _ (and-left _ _ c)))
-    (and-both
-    (same-of (same-true _ _ (and-left _ _ (and-right _ _ a)) ∙ sym (same-true _ _ (and-left _ _ (and-right _ _ b))) ∙ same-true _ _ (and-left _ _ (and-right _ _ c))))
-    (same-of (same-true _ _ (and-right _ _ (and-right _ _ a)) ∙ sym (same-true _ _ (and-right _ _ (and-right _ _ b))) ∙ same-true _ _ (and-right _ _ (and-right _ _ c)))))
+pub alike-back : (p q : Program) (a b : ℕ) → alike p q a b ≡ true → alike q p b a ≡ true
+alike-back p q a b h =
+    let x = alike-is p q a b .0 h in
+    alike-is q p b a .1 (sym (x .0), sym (x .1), sym (x .2))
+
+pub alike-then : (p q r : Program) (a b c : ℕ) → alike p q a b ≡ true → alike q r b c ≡ true → alike p r a c ≡ true
+alike-then p q r a b c h k =
+    let x = alike-is p q a b .0 h in
+    let y = alike-is q r b c .0 k in
+    alike-is p r a c .1 (x .0 ∙ y .0, x .1 ∙ y .1, x .2 ∙ y .2)
 
 module _ (old new : Program) (e e′ : ℕ) where
   pub same-word : sameWord old new e e′ ≡ true → wordAt old e ≡ wordAt new e′

@@ -10,7 +10,7 @@ use lib.ListN.{length, getD}
 use borrow.Author.Tests.{eqb-true, eq-eqb}
 use Rattle.laws.specs.Tests.{any, has, listed, after}
 use Rattle.laws.specs.TestLaws.{and-left, and-right, and-both, implied, implies, or-cases, both-ways, fails, every-at, any-at, anyOf-of, allPairs-at, has-append-left, has-append-right, has-here, failed-none}
-use Rattle.rules.specs.Text.{Bytes}
+use Rattle.rules.specs.Text.{Bytes, sameLabel}
 use Rattle.rules.specs.Graph.{Kind, E, S, C, X, Program, WellFormed, nodeCount, edgeCount, ownerAt, kindAt, labelAt, sourceAt, wordAt, targetAt, dash, entry, exit, called, edgeTaken, sameKind}
 use Rattle.rules.specs.Run.{Meaning, Config, listOf, acted, across, start, stepAt, step, edgeAhead, crossing, run, trail, endedAt, ended}
 use Rattle.rules.specs.Closing.{alike, bothCall, goesOn, joined, Coverage, holds, meets}
@@ -130,16 +130,26 @@ module _ (old new : Program) (M : List (ℕ × ℕ)) where
   matched-one (some e) none l l′ b k = absurd b
   matched-one (some e) (some e′) l l′ b k = more b k
 
+-- Labels that match have one action.
+acted-same {ℓ κ} : {St : Type ℓ} {Out : Type κ} (m : Meaning St Out) (l l′ : Bytes) → sameLabel l l′ ≡ true → (c : Config St Out)
+    → some (acted m l′ c) ≡ some (acted m l c)
+acted-same m l l′ h c =
+    let e = m .matching l l′ h (c .state) in
+    let a = e .0 in
+    let b = e .1 in
+    let w = e .2 in
+    cc
+
 listOf-has : (x : Option ℕ) (e : ℕ) → x ≡ some e → has (listOf x) e ≡ true
 unfolding listOf
 listOf-has x e p = rw p (has-here e)
 
 module _ (old new : Program) (wo : WellFormed old) (wn : WellFormed new) (M : List (ℕ × ℕ)) (D : List ℕ) (r : Rules old new M D) where
-  -- Listed nodes have equal kinds, and labels of one action.
+  -- Listed nodes have equal kinds, and labels that match.
   like-kind : (n n′ : ℕ) → listed M n n′ ≡ true → kindAt new n′ ≡ kindAt old n
   like-kind n n′ l = alike-kind old new n n′ (r .likes n n′ l)
 
-  like-label : (n n′ : ℕ) → listed M n n′ ≡ true → labelAt new n′ ≡ labelAt old n
+  like-label : (n n′ : ℕ) → listed M n n′ ≡ true → sameLabel (labelAt old n) (labelAt new n′) ≡ true
   like-label n n′ l = alike-label old new n n′ (r .likes n n′ l)
 
   -- A pair that is no C may go on, and a C pair where the exits of its callee are listed.
@@ -203,10 +213,10 @@ module _ (old new : Program) (wo : WellFormed old) (wn : WellFormed new) (M : Li
     unfolding InStep edgeAhead stepAt sameKind
     step-together E w c n′ ks ks′ a a′ t o u = step-across c (c .node) n′ n′ ks ks′ ks′ dash (t .pair) (on-kind _ n′ E refl a) o u
     step-together S none c n′ ks ks′ a a′ t o u =
-        (n′, ks′, ap (λ (l : Bytes). some (acted m l (moved c n′ ks′))) (like-label _ n′ (t .pair)), t, tt)
+        (n′, ks′, acted-same m _ _ (like-label _ n′ (t .pair)) (moved c n′ ks′), t, tt)
     step-together S (some w) c n′ ks ks′ a a′ t o u = step-across c (c .node) n′ n′ ks ks′ ks′ w (t .pair) (on-kind _ n′ S refl a) o u
     step-together C none c n′ ks ks′ a a′ t o u =
-        (n′, ks′, ap (λ (l : Bytes). some (acted m l (moved c n′ ks′))) (like-label _ n′ (t .pair)), t, tt)
+        (n′, ks′, acted-same m _ _ (like-label _ n′ (t .pair)) (moved c n′ ks′), t, tt)
     step-together C (some w) c n′ ks ks′ a a′ t o u =
         let q = called-is old wo (c .node) (t .here) a in
         let q′ = called-is new wn n′ (t .there) a′ in

@@ -21,7 +21,7 @@ use Rattle.rules.specs.Check.{broken, rule1, rule2, rule3, rule4, rule5}
 use Rattle.rules.specs.Job.{passed, checkAnswer}
 use Rattle.rules.specs.Layout.{SheetFollows}
 use Rattle.rules.specs.Promises.{Passes}
-use Rattle.rules.specs.Proofs.JobLaws.{known, check-passed, passed-check}
+use Rattle.rules.specs.Proofs.JobLaws.{Passed, known, check-passed, passed-check}
 use Rattle.rules.specs.Proofs.Lockstep.{five-rules}
 use Rattle.rules.specs.Proofs.ProgramLaws.{Sound}
 use Rattle.rules.specs.Proofs.ReadBack.{Few, read-back, sheet-short}
@@ -419,36 +419,41 @@ pub unbroken-of : (old new : Program) (suite : List Coverage) (s : Sheet) → ru
 unfolding broken
 unbroken-of old new suite s a b c d e = none-failed _ _ a (none-failed _ _ b (none-failed _ _ c (none-failed _ _ d (none-failed _ _ e (none-left _)))))
 
+-- A sheet that was read and breaks no rule passes, in the words of the promise, for the same texts and claims.
+abbrev pub passes-from : {old new tests sheet : Bytes} → Passed old new tests sheet → Passes old new tests sheet
+passes-from {old} {new} {tests} {sheet} p =
+    let g = p .given in
+    let n = known old new tests g (p .reads) in
+    let k = accepted-orderly maxPairs (g .old) (g .new) (g .suite) sheet (p .claims) (p .reads-sheet) in
+    let r = five-rules (g .old) (g .new) (g .suite .coverages) (p .claims) (p .unbroken) in
+    let f = few-of maxPairs (g .old) (g .new) (g .suite) (n .old-sound) _ (n .suite-sound) (p .claims) (k .0) in
+    record {
+      given = g;
+      reads = p .reads;
+      claims = p .claims;
+      order = k .0;
+      text = k .1;
+      short = subst (λ (b : Bytes). length b ≤ maxBytes) (sym (k .1)) (sheet-short maxPairs (omega arith) (g .old) (g .new) (g .suite) (n .old-sound) (n .new-sound) _ (n .suite-sound) (p .claims) (k .0) f);
+      holds1 = r .0;
+      holds2 = r .1;
+      holds3 = r .2;
+      holds4 = r .3;
+      holds5 = r .4;
+    }
+
+-- One that passes, in these words, is read.
+pub passing-read : {old new tests sheet : Bytes} (p : Passes old new tests sheet) → readSheet maxPairs (p .given .old) (p .given .new) (p .given .suite) sheet ≡ accepted (p .claims)
+passing-read {old} {new} {tests} {sheet} p =
+    let g = p .given in
+    let n = known old new tests g (p .reads) in
+    sheet-layout maxPairs (omega arith) (g .old) (g .new) (g .suite) (n .old-sound) (n .new-sound) _ (n .suite-sound) sheet (p .claims) .1 (p .order, p .text)
+
 -- The check passes a sheet exactly when its limits, its layout and the five rules hold.
 pub check-exact : (old new tests sheet : Bytes) → (checkAnswer old new tests sheet ≡ passed) ↔ Passes old new tests sheet
-check-exact old new tests sheet = (there, back)
-  where
-    there : checkAnswer old new tests sheet ≡ passed → Passes old new tests sheet
-    there e =
-        let p = check-passed old new tests sheet e in
-        let g = p .given in
-        let n = known old new tests g (p .reads) in
-        let k = accepted-orderly maxPairs (g .old) (g .new) (g .suite) sheet (p .claims) (p .reads-sheet) in
-        let r = five-rules (g .old) (g .new) (g .suite .coverages) (p .claims) (p .unbroken) in
-        let f = few-of maxPairs (g .old) (g .new) (g .suite) (n .old-sound) _ (n .suite-sound) (p .claims) (k .0) in
-        record {
-          given = g;
-          reads = p .reads;
-          claims = p .claims;
-          order = k .0;
-          text = k .1;
-          short = subst (λ (b : Bytes). length b ≤ maxBytes) (sym (k .1)) (sheet-short maxPairs (omega arith) (g .old) (g .new) (g .suite) (n .old-sound) (n .new-sound) _ (n .suite-sound) (p .claims) (k .0) f);
-          holds1 = r .0;
-          holds2 = r .1;
-          holds3 = r .2;
-          holds4 = r .3;
-          holds5 = r .4;
-        }
-
-    back : Passes old new tests sheet → checkAnswer old new tests sheet ≡ passed
-    back p =
-        let g = p .given in
-        let n = known old new tests g (p .reads) in
-        passed-check old new tests sheet g (p .claims) (p .reads)
-        (sheet-layout maxPairs (omega arith) (g .old) (g .new) (g .suite) (n .old-sound) (n .new-sound) _ (n .suite-sound) sheet (p .claims) .1 (p .order, p .text))
-        (unbroken-of (g .old) (g .new) (g .suite .coverages) (p .claims) (p .holds1) (p .holds2) (p .holds3) (p .holds4) (p .holds5))
+check-exact old new tests sheet = (
+  λ e. passes-from (check-passed old new tests sheet e),
+  λ p.
+      let g = p .given in
+      passed-check old new tests sheet g (p .claims) (p .reads) (passing-read p)
+      (unbroken-of (g .old) (g .new) (g .suite .coverages) (p .claims) (p .holds1) (p .holds2) (p .holds3) (p .holds4) (p .holds5)),
+)
