@@ -13,6 +13,11 @@ unfoldable pub span : ℕ → Bytes → ℕ
 span b [] = 0
 span b (x ∷ s) = choose (eqb x b) 0 (suc (span b s))
 
+-- How many blanks (byte 32) stand at the front.
+unfoldable pub blanks : Bytes → ℕ
+blanks [] = 0
+blanks (x ∷ s) = choose (eqb x 32) (suc (blanks s)) 0
+
 -- The byte x is from a to 126, and no comma: of a label where a is 32, of a word where it is 33.
 unfoldable pub plainByte : ℕ → ℕ → Bool
 plainByte a x = between a 126 x and isnt (eqb x 44)

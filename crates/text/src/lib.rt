@@ -4,6 +4,7 @@
 ghost use mathlib.Core.Path.{_≡_};
 ghost use mathlib.Core.List.{_∷_, []};
 ghost use Prim.Native.Nat.{_+_, _-_, _*_, _%_, _^_, _≤_, _<_, min};
+ghost use lib.Dec.{leb, ltb};
 ghost use lib.ListN.{take, drop, getD, set, length, replicate};
 ghost use lib.Seq.{sets};
 ghost use Rattle.rules.specs.Text.{
@@ -17,6 +18,7 @@ ghost use Rattle.rules.specs.Text.{
   nameByte,
   same as sameBytes,
   same as sameNumbers,
+  sameLabel,
   value as valueOf,
 };
 ghost use Rattle.laws.specs.Tests.{choose, has};
@@ -25,7 +27,7 @@ ghost use Rattle.laws.specs.BitSets.{withBit};
 ghost use Rattle.rules.specs.SuiteFile.{hexByte};
 ghost use Rattle.text.specs.Hash.{hashOf};
 ghost use Rattle.text.specs.Puts.{Puts};
-ghost use Rattle.text.specs.Scans.{classByte, plainByte, sized as isSized, span};
+ghost use Rattle.text.specs.Scans.{blanks, classByte, plainByte, sized as isSized, span};
 
 // The bytes of a sheet's first line.
 pub const SHEET_HEAD: [u8; 7] = *b"sheet,1";
@@ -138,6 +140,70 @@ pub fn same(a: &[u8], b: &[u8]) -> bool
         return true;
     }
     same_long(a, b)
+}
+
+// The first place from n on that holds no blank: the end, where there is none.
+fn past_blanks(s: &[u8], n: usize) -> usize
+    requires { ⌜ n ≤ length (now s) ⌝ }
+    ensures { λ r. ⌜ r ≡ n + blanks (drop n (now (s .entry))) ⌝ }
+{
+    let mut i = n;
+    while i < s.len() {
+        if s[i] != 32 {
+            return i;
+        }
+        i += 1;
+    }
+    i
+}
+
+// Whether just one of two places, p and q, holds blanks, where k and l are the next that hold none.
+fn apart(p: usize, k: usize, q: usize, l: usize) -> bool
+    ensures { λ r. ⌜ r ≡ choose (ltb p k) (leb l q) (ltb q l) ⌝ }
+{
+    if p < k {
+        return l <= q;
+    }
+    q < l
+}
+
+// Whether two labels match, byte by byte, from one that is no blank to the next. Where a blank stands behind just one of two bytes, nothing may be left.
+fn same_squeezed(a: &[u8], b: &[u8]) -> bool
+    ensures { λ r. ⌜ r ≡ sameLabel (now (a .entry)) (now (b .entry)) ⌝ }
+{
+    let mut i = past_blanks(a, 0);
+    let mut j = past_blanks(b, 0);
+    while i < a.len() {
+        if b.len() <= j {
+            return false;
+        }
+        if a[i] != b[j] {
+            return false;
+        }
+        let p = i + 1;
+        let q = j + 1;
+        let k = past_blanks(a, p);
+        let l = past_blanks(b, q);
+        if apart(p, k, q, l) {
+            if k < a.len() {
+                return false;
+            }
+            return b.len() <= l;
+        }
+        i = k;
+        j = l;
+    }
+    b.len() <= j
+}
+
+// Whether two labels match, blanks at both ends and how many stand in a row left aside: equal bytes are told at once.
+pub fn same_label(a: &[u8], b: &[u8]) -> bool
+    ensures { λ r. ⌜ r ≡ sameLabel (now (a .entry)) (now (b .entry)) ⌝ }
+{
+    if same_long(a, b) {
+        return true;
+    }
+    same_squeezed(a, b)
 }
 
 // The part of s from start, len bytes long, cut at the end of s.

@@ -12,11 +12,11 @@ use Rattle.laws.specs.Tests.{_and_, _⇒_, found, listed}
 use Rattle.laws.specs.TestLaws.{and-both, and-left, and-right, both-ways, fails}
 use Rattle.laws.specs.Slices.{below-or, same-or}
 use Rattle.laws.specs.Chain.{Walk, walk-start}
-use Rattle.rules.specs.Text.{Bytes, same}
+use Rattle.rules.specs.Text.{Bytes, same, sameLabel}
 use Rattle.rules.specs.Graph.{C, Kind, E, S, X, called, calleeAt, edgeCount, entry, exit, filled, kindAt, kindNumber, labelAt, nodeCount, sameKind, sourceAt, wordAt}
-use Rattle.rules.specs.Closing.{alike, bothCall, goesOn, sameCallee, sameLabel, sameWord}
+use Rattle.rules.specs.Closing.{alike, bothCall, goesOn, sameCallee, sameWord}
 use Rattle.rules.specs.ProgramFile.{Listing}
-use Rattle.rules.specs.Proofs.ClosingLaws.{alike-parts, alike-self, alike-through, bare-callees, same-word, sameCallee-is, sameLabel-is, taken-same}
+use Rattle.rules.specs.Proofs.ClosingLaws.{alike-back, alike-parts, alike-self, alike-then, bare-callees, same-word, sameCallee-is, taken-same}
 use Rattle.rules.specs.Proofs.GraphLaws.{called-below, called-name, sameKind-true}
 use Rattle.rules.specs.Proofs.TextLaws.{empty-true}
 use Rattle.graph.specs.Table.{edgeBase, nodeBase, procBase}
@@ -62,12 +62,12 @@ pub ruleset reads = (kind-past, callee-past, entry-past, exit-past, source-past,
 
 -- ---- `same_label`, `same_name`
 
-module _ (a b x y : List ℕ) (r : Bool) (ea : a ≡ x) (eb : b ≡ y) (e : r ≡ same a b) where
-  pub labels-same : r ≡ sameLabel x y
-  labels-same = e ∙ ap₂ same ea eb ∙ sym (sameLabel-is x y)
+module _ (a b x y : List ℕ) (r : Bool) (ea : a ≡ x) (eb : b ≡ y) where
+  pub labels-same : r ≡ sameLabel a b → r ≡ sameLabel x y
+  labels-same e = e ∙ ap₂ sameLabel ea eb
 
-  pub names-same : r ≡ sameCallee x y
-  names-same = e ∙ ap₂ same ea eb ∙ sym (sameCallee-is x y)
+  pub names-same : r ≡ same a b → r ≡ sameCallee x y
+  names-same e = e ∙ ap₂ same ea eb ∙ sym (sameCallee-is x y)
 
 pub ruleset sames = (labels-same, names-same)
 
@@ -298,9 +298,9 @@ module _ (w g : List ℕ) (a b : ℕ) where
       let own : oldAt w (place - 1) ≡ a = ap (λ (k : ℕ). oldAt w (k - 1)) ep ∙ walk .owner (omega arith) in
       let y = like a partner (listed-of w a partner c (place - 1) (omega (arith, walk .within)) own (sym en)) in
       let k : getD g partner 0 ≡ group = sym eq ∙ eqb-true _ _ t in
-      alike-through old new a (group - 1) partner b (y .0)
-      (subst (λ (n : ℕ). OfGroup new n partner) k (gr partner (y .1) (omega arith)))
-      (subst (λ (n : ℕ). OfGroup new n b) (sym eg) (gr b j (omega arith)))
+      let r : alike new new (group - 1) partner ≡ true = subst (λ (n : ℕ). OfGroup new n partner) k (gr partner (y .1) (omega arith)) in
+      alike-then old new new a partner b (y .0)
+      (alike-then new new new partner (group - 1) b (alike-back new new (group - 1) partner r) (subst (λ (n : ℕ). OfGroup new n b) (sym eg) (gr b j (omega arith))))
 
 pub ruleset knowns = (known-not, known-same)
 

@@ -5,7 +5,8 @@ ghost use Prim.Native.Nat.{_+_, _<_, _≤_};
 ghost use lib.ListN.{getD};
 ghost use Rattle.graph.specs.Table.{edgeBase, headBase, nodeBase, procBase};
 ghost use Rattle.graph.specs.Reads.{partAt, upTo};
-ghost use Rattle.rules.specs.Closing.{sameCallee, sameLabel};
+ghost use Rattle.rules.specs.Text.{sameLabel};
+ghost use Rattle.rules.specs.Closing.{sameCallee};
 ghost use Rattle.versions.specs.Memory.{memory};
 ghost use Rattle.versions.specs.Claims.{Alike, BothCall, Entered, GoesOn, Taken};
 ghost use Rattle.versions.specs.Groups.{Known, Regrouped, Twin};
@@ -108,13 +109,13 @@ pub fn edge_before(links: &[usize], e: usize) -> usize
 
 // ---- two nodes, and an old edge at a new node
 
-// Whether the labels of the old node n and the new node m count as equal.
+// Whether the labels of the old node n and the new node m match.
 fn same_label(ot: &[u8], on: &[usize], nt: &[u8], nn: &[usize], n: usize, m: usize) -> bool
     ensures { λ r. ⌜ r ≡ sameLabel (partAt (now (ot .entry)) (now (on .entry)) (nodeBase n + 1)) (partAt (now (nt .entry)) (now (nn .entry)) (nodeBase m + 1)) ⌝ }
 {
     let a = label(ot, on, n);
     let b = label(nt, nn, m);
-    text::same_long(a, b)
+    text::same_label(a, b)
 }
 
 // Whether the old procedure q and the new procedure k have names that count as equal callees.

@@ -9,11 +9,11 @@ label-requires c κs = search needs
 label-requires-2 : tie.Need-label-requires-2
 label-requires-2 c κs = search needs
 
-same-long-requires : tie.Need-same-long-requires
-same-long-requires c κs = search needs
+same-label-requires : tie.Need-same-label-requires
+same-label-requires c κs = search needs
 
 returns : tie.Need-returns
 returns c = search (all, needs)
 
 pub same-label-spec : {M : Type 1} → statement M
-same-label-spec = tie.close (tie.spec label-requires label-requires-2 same-long-requires returns)
+same-label-spec = tie.close (tie.spec label-requires label-requires-2 same-label-requires returns)
