@@ -1,5 +1,5 @@
 -- P1 to P8, the change requests of document 02, refusals, and runs, computed by the definitions from the texts to the bytes.
-use mathlib.Core.Path.{_≡_, refl, ap}
+use mathlib.Core.Path.{_≡_, refl}
 use mathlib.Core.Bool.{Bool, true, false}
 use mathlib.Core.Option.{Option, none, some}
 use lib.Dec.{eqb}
@@ -19,7 +19,7 @@ use Rattle.rules.specs.Job.{Outcome, wrote, refusal, passed, outcome, re
 use Rattle.rules.specs.Layout.{edgeLine, linesOfThose, nodeLine, procLine, procLines, programLines, writeProgram}
 use Rattle.rules.specs.WriteBack.{inPart, ofParts, otherAlone}
 use Rattle.rules.specs.Former.{formerAlike, formerRule2, formerBroken, formerJudged, formerCheckAnswer}
-use Rattle.rules.specs.Proofs.ClosingLaws.{squeezed-true}
+use Rattle.rules.specs.Proofs.Words.{meaningBy}
 
 -- A job: the texts of the old program, the new one and the tests.
 record Job : Type 0 where
@@ -242,15 +242,7 @@ examples-answered = refl
 
 -- A meaning: the state counts actions, the output is the label without needless blanks, and the word is `stop` after `read layer` and else `ok`.
 counting : Meaning ℕ Bytes
-counting =
-    record {
-      next = λ l s. suc s;
-      out = λ l s. squeezed l;
-      word = λ l s. choose (same (squeezed l) (bytes "read layer")) (bytes "stop") (bytes "ok");
-      matching = λ l l′ h s.
-          let e = squeezed-true l l′ h in
-          (refl, e, ap (λ (t : Bytes). choose (same t (bytes "read layer")) (bytes "stop") (bytes "ok")) e);
-    }
+counting = meaningBy (λ l s. suc s) (λ l s. l) (λ l s. choose (same l (bytes "read layer")) (bytes "stop") (bytes "ok"))
 
 -- After k steps from state 0: has the run ended, its state, its outputs, and the edges crossed; none where it takes fewer steps.
 seen : ℕ → Program → Option (Bool × ℕ × List Bytes × List ℕ)

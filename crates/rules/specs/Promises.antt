@@ -407,6 +407,12 @@ pub record Alongside {ℓ κ} {St : Type ℓ} {Out : Type κ} (old new : Program
   pub ends : ended old c ≡ ended new c′
 
 module _ {ℓ κ} (St : Type ℓ) (Out : Type κ) where
+  -- A meaning is held to nothing else than that labels that match have equal actions: whatever is done by what is left of a label and the state is done by one.
+  abbrev pub MeaningsFree : Type (ℓ ⊔ κ)
+  MeaningsFree =
+      (next : Bytes → St → St) (out : Bytes → St → Out) (word : Bytes → St → Bytes)
+      → (m : Meaning St Out) × ((l : Bytes) (s : St) → (m .next l s ≡ next (squeezed l) s) × (m .out l s ≡ out (squeezed l) s) × (m .word l s ≡ word (squeezed l) s))
+
   -- The test i goes the same in both programs: for every meaning, starting state and number of steps k, where the old run takes k steps, and the test's coverage holds each edge
   -- that they cross, the new run takes k steps too, and stands where the old one does.
   abbrev pub RunsAlike : Given → ℕ → Type (ℓ ⊔ κ)

@@ -25,6 +25,7 @@ use Rattle.rules.specs.Promises.{
   LineAbove,
   LineMissing,
   LookupsExact,
+  MeaningsFree,
   NumbersGiven,
   OtherBytesAlone,
   PassesExactly,
@@ -176,6 +177,9 @@ rules-exact = Words.rules-exact
 
 pub left-off-exact : LeftOffExact
 left-off-exact = Words.left-off-exact
+
+pub meanings-free {ℓ κ} : (St : Type ℓ) (Out : Type κ) → MeaningsFree St Out
+meanings-free = Words.meanings-free
 
 pub demand3 {ℓ κ} : (St : Type ℓ) (Out : Type κ) (old new tests : Bytes) → Demand3 St Out old new tests
 demand3 St Out old new tests =

@@ -1,5 +1,5 @@
--- Definitions by computation in the document's words: look-ups, alike, the five rules of the check, left off.
-use mathlib.Core.Path.{_≡_, sym, ap, _∙_, subst}
+-- Definitions by computation in the document's words: look-ups, meanings, alike, the five rules of the check, left off.
+use mathlib.Core.Path.{_≡_, refl, sym, ap, _∙_, subst}
 use mathlib.Core.Logic.{inl, inr, ⊎-elim}
 use mathlib.Core.Bool.{true, true≢false}
 use mathlib.Core.Option.{some}
@@ -8,13 +8,14 @@ use Prim.Native.Nat.{ℕ, _<_}
 use lib.ListN.{length, getD}
 use borrow.Author.Tests.{eqb-true, eq-eqb}
 use Rattle.laws.specs.TestLaws.{and-left, and-right, and-both, implied, implies, or-cases, or-left, or-right, every-at, every-of, any-at, any-of, anyOf-of, anyOf-at, allPairs-at, allPairs-of, both-ways, fails, isnt-true, true-isnt}
-use Rattle.rules.specs.Text.{Bytes, linesOf}
+use Rattle.rules.specs.Text.{Bytes, linesOf, squeezed}
 use Rattle.rules.specs.Graph.{Program, WellFormed, X, edgeCount, exit, isOf, kindAt, nodeCount, orZero, ownerAt, procCount}
+use Rattle.rules.specs.Run.{Meaning}
 use Rattle.rules.specs.Closing.{Coverage, bothCall, goesOn, holds, meets}
 use Rattle.rules.specs.Sheet.{Sheet, among, leftOff, rLine}
 use Rattle.rules.specs.Check.{entered, keeps, edgeKept, edgesKept, rule1, rule2, rule3, rule4, rule5}
-use Rattle.rules.specs.Promises.{AlikeExact, LeftOffExact, Lookups, RulesExact}
-use Rattle.rules.specs.Proofs.ClosingLaws.{alike-is, same-word, word-same, fits-word, fits-ends, fits-of}
+use Rattle.rules.specs.Promises.{AlikeExact, LeftOffExact, Lookups, MeaningsFree, RulesExact}
+use Rattle.rules.specs.Proofs.ClosingLaws.{alike-is, same-word, word-same, fits-word, fits-ends, fits-of, squeezed-true}
 use Rattle.rules.specs.Proofs.GraphLaws.{called-is, called-name, edge-is, entry-is, first-found, isOf-true, its-edge, sameKind-of, sameKind-true, taken-at}
 use Rattle.rules.specs.Proofs.SheetLaws.{among-here, among-later}
 use Rattle.rules.specs.Proofs.TextLaws.{same-true}
@@ -40,6 +41,23 @@ lookups p wf =
           let i = its-edge p wf n h k in
           (λ t. let u = taken-at p n _ e t in (u .0, u .1), λ t. i .1 ∙ ap some (sym (i .2 e (t .0) (t .1))));
     }
+
+-- ---- meanings
+
+-- The meaning that does this by what is left of a label.
+abbrev pub meaningBy {ℓ κ} : {St : Type ℓ} {Out : Type κ} → (Bytes → St → St) → (Bytes → St → Out) → (Bytes → St → Bytes) → Meaning St Out
+meaningBy next out word =
+    record {
+      next = λ l s. next (squeezed l) s;
+      out = λ l s. out (squeezed l) s;
+      word = λ l s. word (squeezed l) s;
+      matching = λ l l′ h s.
+          let e = squeezed-true l l′ h in
+          (ap (λ (t : Bytes). next t s) e, ap (λ (t : Bytes). out t s) e, ap (λ (t : Bytes). word t s) e);
+    }
+
+pub meanings-free {ℓ κ} : (St : Type ℓ) (Out : Type κ) → MeaningsFree St Out
+meanings-free St Out next out word = (meaningBy next out word, λ l s. (refl, refl, refl))
 
 -- ---- alike, and the rules of the check
 
