@@ -15,7 +15,7 @@ use Rattle.rules.specs.Run.{Meaning, crossing, edgeAhead, ended, endedAt
 use Rattle.rules.specs.Closing.{alike, fits, bothCall, fitted, goesOn, joined, byStart, byCall, byEdge, follows, grown, dangerousAt, dangerous, closed, pairs, dangers, meets, repeated, carries, carriesOnly, mark, sameCallee, sameWord}
 use Rattle.rules.specs.Sheet.{selected, mLine, dLine, rLine, endLine, sheetLines, sheetText, markByte, marksOf, crossed, vLine, recordText, sheetForm, before, allBelow, testOf, takeSheetLine, stepSheet, finishSheet, readSheet}
 use Rattle.rules.specs.Check.{entered, keeps, edgeKept, edgesKept, rule1, rule2, rule3, rule4, rule5, broken}
-use Rattle.rules.specs.Job.{Outcome, wrote, refusal, passed, outcome, readJob, written, writing, sheetBytes, recordBytes, sheetAnswer, recordAnswer, judged, checkAnswer, bySide, writingBack, programAnswer, serving, answering}
+use Rattle.rules.specs.Job.{Outcome, wrote, refusal, passed, outcome, readJob, written, writing, sheetBytes, recordBytes, sheetAnswer, recordAnswer, judged, checkAnswer, labelPart, bySide, writingBack, programAnswer, serving, answering}
 use Rattle.rules.specs.Layout.{edgeLine, linesOfThose, nodeLine, procLine, procLines, programLines, writeProgram}
 use Rattle.rules.specs.WriteBack.{inPart, ofParts, otherAlone}
 use Rattle.rules.specs.Former.{formerAlike, formerRule2, formerBroken, formerJudged, formerCheckAnswer}
@@ -143,13 +143,18 @@ backs =
 formerly : Job → String → Outcome → Example
 formerly j sheet o = (formerCheckAnswer (j .old) (j .new) (j .tests) (bytes sheet), o)
 
+-- The label of the node n that is shown of a program text.
+shows : String → ℕ → String → Example
+shows text n label = (outcome (readListing (bytes text)) (λ s. wrote (labelPart (record { text = bytes text; listing = s }) n)), wrote (bytes label))
+
 p2-spaced : Job
 unfolding job layers spaced two-tests
 p2-spaced = job layers spaced two-tests
 
--- At both ends and in a row blanks count for nothing, within `hold` one does; a label of blanks only matches another such one. The sheet that was written passed and passes; the new one passes, and would not have.
+-- At both ends and in a row blanks count for nothing, within `hold` one does; a label of blanks only matches another such one. The sheet that was written passed and passes; the new one would not have passed. Files and
+-- shown labels keep their blanks.
 pub blanks : List Example
-unfolding writes checks formerly job p2-spaced one-blank three-blanks winds
+unfolding writes checks formerly back shows job p2-spaced spaced one-blank three-blanks winds
 blanks =
     writes p2-spaced "sheet,1\nM,0,0\nM,1,1\nM,2,2\nD,2\nR,t1\nR,t2\nend,3,1,2\n"
     ∷ formerly p2-spaced "sheet,1\nM,0,0\nD,0\nR,t1\nR,t2\nend,1,1,2\n" passed
@@ -157,6 +162,8 @@ blanks =
     ∷ formerly p2-spaced "sheet,1\nM,0,0\nM,1,1\nM,2,2\nD,2\nR,t1\nR,t2\nend,3,1,2\n" (refusal 12 2)
     ∷ writes (job one-blank three-blanks "") "sheet,1\nM,0,0\nM,1,1\nM,2,2\nend,3,0,0\n"
     ∷ writes (job three-blanks winds "") "sheet,1\nM,0,0\nD,0\nend,1,1,0\n"
+    ∷ back p2-spaced 1 maxBytes (wrote (bytes spaced))
+    ∷ shows spaced 1 "  read   layer"
     ∷ []
 
 -- ---- refusals
@@ -189,6 +196,7 @@ refusals =
     ∷ (ofProgram (bytes "P,a\nP,b c\n"), refusal 2 2)
     ∷ (ofProgram (bytes "P,abcdefghijklm\n"), refusal 2 1)
     ∷ (ofProgram (bytes "P,a\nN,C,x,\n"), refusal 2 2)
+    ∷ (ofProgram (bytes "P,a\nN,S," ++ (times 60 (bytes "x") ++ bytes " ,\n")), refusal 2 2)
     ∷ (ofProgram (bytes "P,a\nN,E,,\nB,00,-,0\n"), refusal 2 3)
     ∷ (ofProgram (bytes "N,E,,\n"), refusal 3 1)
     ∷ (ofProgram (bytes "P,a\nN,E,,\nN,X,,\nB,0,-,1\nN,S,x,\n"), refusal 3 5)
@@ -235,7 +243,7 @@ unfolding answered sameOutcome examples backs blanks refusals
     selected mLine dLine rLine endLine sheetLines sheetText markByte marksOf crossed vLine recordText sheetForm before allBelow testOf takeSheetLine stepSheet finishSheet readSheet
     entered keeps edgeKept edgesKept rule1 rule2 rule3 rule4 rule5 broken formerAlike formerRule2 formerBroken formerJudged formerCheckAnswer
     outcome readJob written writing sheetBytes recordBytes judged serving answering
-    edgeLine linesOfThose nodeLine procLine procLines programLines writeProgram bySide writingBack
+    edgeLine linesOfThose nodeLine procLine procLines programLines writeProgram bySide writingBack labelPart
 examples-answered = refl
 
 -- ---- runs
