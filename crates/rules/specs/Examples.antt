@@ -166,6 +166,16 @@ blanks =
     ∷ shows spaced 1 "  read   layer"
     ∷ []
 
+-- Labels one by one: no blank but byte 32, none dropped between two words, and none compared only as far as the shorter one goes.
+labels-compared : (sameLabel (bytes " set   speed") (bytes "set speed  ") ≡ true)
+    × (sameLabel (bytes "set speed") (bytes "setspeed") ≡ false)
+    × (sameLabel (bytes "set speed") (bytes "set\tspeed") ≡ false)
+    × (sameLabel (bytes "set speed ") (bytes "set speed by layer") ≡ false)
+    × (sameLabel (bytes " ") (bytes "   ") ≡ true)
+    × (sameLabel (bytes "wind") (bytes " ") ≡ false)
+unfolding sameLabel squeezed nonEmpty split onto joinBy same empty choose _and_
+labels-compared = (refl, refl, refl, refl, refl, refl)
+
 -- ---- refusals
 
 -- The text t, n times.
