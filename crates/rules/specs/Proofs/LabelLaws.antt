@@ -93,10 +93,6 @@ unfolding squeezed
 squeezed-blank s = ap (joinBy 32) (pieces-blank s)
 
 -- What is left behind a byte, by the first piece behind it.
-behind-blank : (y : ℕ) (t : Bytes) → eqb y 32 ≡ true → joinBy 32 (nonEmpty (split 32 (y ∷ t))) ≡ squeezed t
-unfolding squeezed
-behind-blank y t e = let q : y ≡ 32 = eqb-true y 32 e in rw q (squeezed-blank t)
-
 behind-is : (s : Bytes) → joinBy 32 (getD (split 32 s) 0 [] ∷ nonEmpty (drop 1 (split 32 s))) ≡ behind s
 unfolding behind blankFirst squeezed split onto choose nonEmpty empty joinBy
 behind-is [] = refl
