@@ -50,7 +50,7 @@ use Rattle.rules.specs.Promises.{
 use Rattle.rules.specs.Proofs.Answers as Answers
 use Rattle.rules.specs.Proofs.BackLaws.{alone-by-parts, back-unchanged, programs-back}
 use Rattle.rules.specs.Proofs.Checked as Checked
-use Rattle.rules.specs.Proofs.ClosingLaws.{squeezed-of, squeezed-true}
+use Rattle.rules.specs.Proofs.ClosingLaws.{sameLabel-of, sameLabel-true}
 use Rattle.rules.specs.Proofs.Closure.{exact}
 use Rattle.rules.specs.Proofs.Exported.{exported, returned}
 use Rattle.rules.specs.Proofs.JobLaws.{checked-texts, marked-texts, unlisted-texts}
@@ -141,7 +141,7 @@ pub blanks-left-aside : (s t : Bytes) → BlanksAside s t
 blanks-left-aside = blanks-aside
 
 pub labels-match : LabelsMatch
-labels-match l l′ = (squeezed-true l l′, squeezed-of l l′)
+labels-match l l′ = (sameLabel-true l l′, sameLabel-of l l′)
 
 pub alike-exact : (old new : Program) → AlikeExact old new
 alike-exact = Words.alike-exact

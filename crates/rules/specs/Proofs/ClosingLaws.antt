@@ -14,21 +14,18 @@ use Rattle.rules.specs.Closing.{alike, fits, sameCallee, sameWord}
 use Rattle.rules.specs.Proofs.GraphLaws.{sameKind-of, sameKind-true}
 use Rattle.rules.specs.Proofs.TextLaws.{same-of, same-true}
 
--- Labels match by what they are without the blanks at both ends and with one for each inner run; labels of equal bytes match.
+-- Labels match by what is left of them.
 pub sameLabel-is : (l l′ : Bytes) → sameLabel l l′ ≡ same (squeezed l) (squeezed l′)
 unfolding sameLabel
 sameLabel-is l l′ = refl
 
-pub squeezed-true : (l l′ : Bytes) → sameLabel l l′ ≡ true → squeezed l ≡ squeezed l′
+pub sameLabel-true : (l l′ : Bytes) → sameLabel l l′ ≡ true → squeezed l ≡ squeezed l′
 unfolding sameLabel
-squeezed-true l l′ e = same-true _ _ e
+sameLabel-true l l′ e = same-true _ _ e
 
-pub squeezed-of : (l l′ : Bytes) → squeezed l ≡ squeezed l′ → sameLabel l l′ ≡ true
+pub sameLabel-of : (l l′ : Bytes) → squeezed l ≡ squeezed l′ → sameLabel l l′ ≡ true
 unfolding sameLabel
-squeezed-of l l′ e = same-of e
-
-pub sameLabel-of : {l l′ : Bytes} → l ≡ l′ → sameLabel l l′ ≡ true
-sameLabel-of e = squeezed-of _ _ (ap squeezed e)
+sameLabel-of l l′ e = same-of e
 
 -- Callee fields count as equal by their bytes.
 pub sameCallee-is : (c c′ : Bytes) → sameCallee c c′ ≡ same c c′
@@ -44,8 +41,8 @@ module _ (old new : Program) (n n′ : ℕ) where
   pub alike-is : (alike old new n n′ ≡ true) ↔ ((kindAt old n ≡ kindAt new n′) × (squeezed (labelAt old n) ≡ squeezed (labelAt new n′)) × (calleeAt old n ≡ calleeAt new n′))
   unfolding alike sameCallee
   alike-is = (
-    λ h. (sameKind-true _ _ (and-left _ _ h), squeezed-true _ _ (and-left _ _ (and-right _ _ h)), same-true _ _ (and-right _ _ (and-right _ _ h))),
-    λ h. and-both (sameKind-of (h .0)) (and-both (squeezed-of _ _ (h .1)) (same-of (h .2))),
+    λ h. (sameKind-true _ _ (and-left _ _ h), sameLabel-true _ _ (and-left _ _ (and-right _ _ h)), same-true _ _ (and-right _ _ (and-right _ _ h))),
+    λ h. and-both (sameKind-of (h .0)) (and-both (sameLabel-of _ _ (h .1)) (same-of (h .2))),
   )
 
   pub bare-callees : calleeAt old n ≡ [] → calleeAt new n′ ≡ [] → sameCallee (calleeAt old n) (calleeAt new n′) ≡ true
@@ -64,7 +61,7 @@ module _ (old new : Program) (n n′ : ℕ) where
   -- Two nodes of one kind with no label and no callee are alike.
   pub alike-bare : kindAt old n ≡ kindAt new n′ → labelAt old n ≡ [] → labelAt new n′ ≡ [] → calleeAt old n ≡ [] → calleeAt new n′ ≡ [] → alike old new n n′ ≡ true
   unfolding alike sameCallee
-  alike-bare k l l′ c c′ = and-both (sameKind-of k) (and-both (sameLabel-of (l ∙ sym l′)) (same-of (c ∙ sym c′)))
+  alike-bare k l l′ c c′ = and-both (sameKind-of k) (and-both (sameLabel-of _ _ (ap squeezed (l ∙ sym l′))) (same-of (c ∙ sym c′)))
 
 -- Alike nodes, of any programs: a node and itself, either way round, and through a third.
 pub alike-self : (p : Program) (n : ℕ) → alike p p n n ≡ true

@@ -1,5 +1,5 @@
 -- The check as it was, when labels matched by their bytes: it passes exactly the sheets that pass and list no pair whose labels differ in their bytes.
-use mathlib.Core.Path.{_≡_}
+use mathlib.Core.Path.{_≡_, ap}
 use mathlib.Core.Logic.{_↔_}
 use mathlib.Core.Bool.{true}
 use mathlib.Core.List.{List}
@@ -8,7 +8,7 @@ use borrow.Author.Tests.{eq-eqb, eqb-true}
 use Rattle.laws.specs.Tests.{listed}
 use Rattle.laws.specs.TestLaws.{allPairs-at, allPairs-of, and-both, and-left, and-right, failed-none, none-failed, none-left}
 use Rattle.laws.specs.Lists.{choose-yes}
-use Rattle.rules.specs.Text.{Bytes}
+use Rattle.rules.specs.Text.{Bytes, squeezed}
 use Rattle.rules.specs.Graph.{Program, labelAt}
 use Rattle.rules.specs.Closing.{Coverage, alike}
 use Rattle.rules.specs.Sheet.{Sheet}
@@ -28,7 +28,7 @@ module _ (old new : Program) where
   former-alike n n′ h =
       let t = and-right _ _ h in
       let e = same-true _ _ (and-left _ _ t) in
-      (and-both (and-left _ _ h) (and-both (sameLabel-of e) (and-right _ _ t)), e)
+      (and-both (and-left _ _ h) (and-both (sameLabel-of _ _ (ap squeezed e)) (and-right _ _ t)), e)
 
   alike-former : (n n′ : ℕ) → alike old new n n′ ≡ true → labelAt old n ≡ labelAt new n′ → formerAlike old new n n′ ≡ true
   unfolding formerAlike alike

@@ -15,7 +15,7 @@ use Rattle.rules.specs.Closing.{Coverage, bothCall, goesOn, holds, meets
 use Rattle.rules.specs.Sheet.{Sheet, among, leftOff, rLine}
 use Rattle.rules.specs.Check.{entered, keeps, edgeKept, edgesKept, rule1, rule2, rule3, rule4, rule5}
 use Rattle.rules.specs.Promises.{AlikeExact, LeftOffExact, Lookups, MeaningsFree, RulesExact}
-use Rattle.rules.specs.Proofs.ClosingLaws.{alike-is, same-word, word-same, fits-word, fits-ends, fits-of, squeezed-true}
+use Rattle.rules.specs.Proofs.ClosingLaws.{alike-is, same-word, word-same, fits-word, fits-ends, fits-of, sameLabel-true}
 use Rattle.rules.specs.Proofs.GraphLaws.{called-is, called-name, edge-is, entry-is, first-found, isOf-true, its-edge, sameKind-of, sameKind-true, taken-at}
 use Rattle.rules.specs.Proofs.SheetLaws.{among-here, among-later}
 use Rattle.rules.specs.Proofs.TextLaws.{same-true}
@@ -52,7 +52,7 @@ meaningBy next out word =
       out = λ l s. out (squeezed l) s;
       word = λ l s. word (squeezed l) s;
       matching = λ l l′ h s.
-          let e = squeezed-true l l′ h in
+          let e = sameLabel-true l l′ h in
           (ap (λ (t : Bytes). next t s) e, ap (λ (t : Bytes). out t s) e, ap (λ (t : Bytes). word t s) e);
     }
 
