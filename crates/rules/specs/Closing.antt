@@ -14,7 +14,7 @@ unfoldable pub sameCallee : Bytes → Bytes → Bool
 sameCallee c c′ = same c c′
 
 module _ (old new : Program) where
-  -- An old node and a new one are alike: kind and callee have equal bytes, and the labels match, blanks at the ends and how many stand in a row left aside.
+  -- An old node and a new one are alike: kind and callee have equal bytes, and the labels match.
   unfoldable pub alike : ℕ → ℕ → Bool
   alike n n′ = sameKind (kindAt old n) (kindAt new n′) and sameLabel (labelAt old n) (labelAt new n′) and sameCallee (calleeAt old n) (calleeAt new n′)
 

@@ -166,7 +166,7 @@ blanks =
     ∷ shows spaced 1 "  read   layer"
     ∷ []
 
--- Labels one by one: no blank but byte 32, none dropped between two words, and none compared only as far as the shorter one goes.
+-- Labels one by one: only byte 32 is a blank, one between two words counts, and the longer label is compared to its end.
 labels-compared : (sameLabel (bytes " set   speed") (bytes "set speed  ") ≡ true)
     × (sameLabel (bytes "set speed") (bytes "setspeed") ≡ false)
     × (sameLabel (bytes "set speed") (bytes "set\tspeed") ≡ false)
@@ -258,7 +258,7 @@ examples-answered = refl
 
 -- ---- runs
 
--- A meaning: the state counts actions, the output is the label without needless blanks, and the word is `stop` after `read layer` and else `ok`.
+-- A meaning: the state counts actions, the output is the label without spare blanks, and the word is `stop` after `read layer` and else `ok`.
 counting : Meaning ℕ Bytes
 counting = meaningBy (λ l s. suc s) (λ l s. l) (λ l s. choose (same l (bytes "read layer")) (bytes "stop") (bytes "ok"))
 

@@ -1,4 +1,4 @@
--- The check as it was when labels matched by their bytes: what a stored sheet has passed.
+-- The check but for labels, which match by their bytes as they did before (document 02, job 2): what a stored sheet has passed.
 use mathlib.Core.Bool.{Bool}
 use mathlib.Core.List.{List, [], _∷_}
 use Prim.Native.Nat.{ℕ}
@@ -11,14 +11,14 @@ use Rattle.rules.specs.Sheet.{Sheet, readSheet}
 use Rattle.rules.specs.Check.{rule1, rule3, rule4, rule5}
 use Rattle.rules.specs.Job.{Given, Outcome, outcome, passed, readJob, refusal}
 
--- Alike, with labels of equal bytes; rule 2 of that.
+-- Alike, with labels of equal bytes; rule 2, of these.
 unfoldable pub formerAlike : Program → Program → ℕ → ℕ → Bool
 formerAlike old new n n′ = sameKind (kindAt old n) (kindAt new n′) and same (labelAt old n) (labelAt new n′) and sameCallee (calleeAt old n) (calleeAt new n′)
 
 unfoldable pub formerRule2 : Program → Program → Sheet → Bool
 formerRule2 old new s = allPairs (formerAlike old new) (s .M)
 
--- The first broken rule, or 0; the check of a sheet's claims; of texts. Nothing else is other than in Check and Job.
+-- The first broken rule, or 0; the check of a sheet's claims; of texts. All else is as in Check and Job.
 unfoldable pub formerBroken : Program → Program → List Coverage → Sheet → ℕ
 formerBroken old new suite s = firstFailed 1 (rule1 old new s ∷ formerRule2 old new s ∷ rule3 old new s ∷ rule4 old new s ∷ rule5 suite s ∷ [])
 

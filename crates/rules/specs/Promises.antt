@@ -245,20 +245,20 @@ LookupsExact = (text : Bytes) (p : Program) → readProgram text ≡ accepted p 
 
 -- ---- blanks in labels (document 02, job 2)
 
--- Bytes without needless blanks: none at the front, none at the back, no two in a row.
-pub record NoneNeedless (s : Bytes) : Type 0 where
+-- No spare blanks: none at the front, none at the back, no two in a row.
+pub record NoSpareBlanks (s : Bytes) : Type 0 where
   pub front : (t : Bytes) → s ≡ 32 ∷ t → ⊥
   pub back : (t : Bytes) → s ≡ t ++ (32 ∷ []) → ⊥
   pub run : (t u : Bytes) → s ≡ t ++ (32 ∷ 32 ∷ u) → ⊥
 
--- What is left of bytes: a blank at the front, one at the back, and one more in a row are dropped, and bytes without needless blanks stay as they are.
-pub record BlanksAside (s t : Bytes) : Type 0 where
+-- What is left of a label: a blank at the front, one at the back, and one more in a row are dropped, and bytes without spare blanks stay as they are.
+pub record SqueezedExact (s t : Bytes) : Type 0 where
   pub front : squeezed (32 ∷ t) ≡ squeezed t
   pub back : squeezed (s ++ (32 ∷ [])) ≡ squeezed s
   pub run : squeezed (s ++ (32 ∷ 32 ∷ t)) ≡ squeezed (s ++ (32 ∷ t))
-  pub plain : NoneNeedless s → squeezed s ≡ s
+  pub plain : NoSpareBlanks s → squeezed s ≡ s
 
--- Two labels match exactly if the same is left of both.
+-- Two labels match exactly if the same is left of both; so labels of blanks only match.
 abbrev pub LabelsMatch : Type 0
 LabelsMatch = (l l′ : Bytes) → (sameLabel l l′ ≡ true) ↔ (squeezed l ≡ squeezed l′)
 

@@ -11,7 +11,6 @@ use Rattle.rules.specs.Promises.{
   AlikeExact,
   AnswersPlain,
   BackExactly,
-  BlanksAside,
   ClaimsFalse,
   ClosingRulesExact,
   Demand2,
@@ -36,6 +35,7 @@ use Rattle.rules.specs.Promises.{
   RecordUnnamed,
   RequestsNumbered,
   RulesExact,
+  SqueezedExact,
   StoredSheetsPass,
   SuiteLayout,
   SuitePlaced,
@@ -54,7 +54,7 @@ use Rattle.rules.specs.Proofs.ClosingLaws.{sameLabel-of, sameLabel-true}
 use Rattle.rules.specs.Proofs.Closure.{exact}
 use Rattle.rules.specs.Proofs.Exported.{exported, returned}
 use Rattle.rules.specs.Proofs.JobLaws.{checked-texts, marked-texts, unlisted-texts}
-use Rattle.rules.specs.Proofs.LabelLaws.{blanks-aside}
+use Rattle.rules.specs.Proofs.LabelLaws as LabelLaws
 use Rattle.rules.specs.Proofs.Places.{listing-placed, label-part, tests-placed}
 use Rattle.rules.specs.Proofs.ProgramLaws.{read-well-formed}
 use Rattle.rules.specs.Proofs.ReadBack.{written-passes}
@@ -137,8 +137,8 @@ label-shown = label-part
 pub lookups-exact : LookupsExact
 lookups-exact text p e = Words.lookups p (read-well-formed text p e)
 
-pub blanks-left-aside : (s t : Bytes) → BlanksAside s t
-blanks-left-aside = blanks-aside
+pub squeezed-exact : (s t : Bytes) → SqueezedExact s t
+squeezed-exact = LabelLaws.squeezed-exact
 
 pub labels-match : LabelsMatch
 labels-match l l′ = (sameLabel-true l l′, sameLabel-of l l′)

@@ -1,4 +1,4 @@
--- Labels that match: byte by byte, for code that compares two labels, and what taking blanks aside does, for a reader.
+-- Labels that match: byte by byte, for code that compares two labels, and what is left of a label, for a reader.
 use mathlib.Core.Path.{_≡_, refl, sym, ap, _∙_}
 use mathlib.Core.Logic.{_⊎_, inl, inr}
 use mathlib.Core.Bool.{Bool, true, false}
@@ -10,7 +10,7 @@ use borrow.Author.Tests.{eqb-false, eqb-true, ne-eqb}
 use Rattle.laws.specs.Tests.{_and_, choose}
 use Rattle.laws.specs.TestLaws.{eqb-self, passes?}
 use Rattle.rules.specs.Text.{Bytes, empty, joinBy, nonEmpty, onto, same, split, squeezed}
-use Rattle.rules.specs.Promises.{BlanksAside, NoneNeedless}
+use Rattle.rules.specs.Promises.{NoSpareBlanks, SqueezedExact}
 use Rattle.rules.specs.Proofs.TextLaws.{split-cons}
 
 -- ---- the pieces of two parts with a separator between them
@@ -156,7 +156,7 @@ behind-right s t h k = rw (h, k) (go (squeezed s) (squeezed t) (squeezed-first s
     go (x ∷ u) [] e = refl
     go (x ∷ u) (y ∷ v) e = ap (λ (t : Bool). t and same u (y ∷ v)) e
 
--- ---- what taking blanks aside does
+-- ---- what is left of a label
 
 -- Bytes without a blank at the back and two in a row stay as they are behind a byte, and behind a blank.
 abbrev NoBack : Bytes → Type 0
@@ -189,7 +189,7 @@ plain-behind (x ∷ s) b r = go (passes? (eqb x 32)) (plain-behind s (λ t e. b 
         rw (← q) (ap spaced (squeezed-blank s) ∙ plain-blank s (λ t h. b t (sym (ap (λ (z : ℕ). z ∷ s) q) ∙ h)) (λ t u h. r t u (sym (ap (λ (z : ℕ). z ∷ s) q) ∙ h)) k)
     go (inr e) k = rw e (squeezed-byte x s e ∙ ap (λ (l : Bytes). x ∷ l) k)
 
-plain-stays : (s : Bytes) → NoneNeedless s → squeezed s ≡ s
+plain-stays : (s : Bytes) → NoSpareBlanks s → squeezed s ≡ s
 plain-stays [] h = squeezed-none
 plain-stays (x ∷ s) h = go (passes? (eqb x 32))
   where
@@ -197,9 +197,9 @@ plain-stays (x ∷ s) h = go (passes? (eqb x 32))
     go (inl e) = absurd (h .front s (ap (λ (z : ℕ). z ∷ s) (eqb-true x 32 e)))
     go (inr e) = sym (behind-plain x s e) ∙ plain-behind (x ∷ s) (h .back) (h .run)
 
-pub blanks-aside : (s t : Bytes) → BlanksAside s t
+pub squeezed-exact : (s t : Bytes) → SqueezedExact s t
 unfolding squeezed
-blanks-aside s t =
+squeezed-exact s t =
     record {
       front = squeezed-blank t;
       back = ap (joinBy 32) (pieces-append s [] ∙ ap (λ (l : List Bytes). pieces s ++ l) pieces-none ∙ append-nil (pieces s));
