@@ -83,8 +83,8 @@ calls-itself = "P,up\nN,E,,\nN,C,wind,up\nN,X,,\nB,0,-,1\nB,1,-,2\n"
 returning : String
 returning = "P,main\nN,E,,\nN,C,wind,sub\nN,X,,\nB,0,-,1\nB,1,-,2\nP,sub\nN,E,,\nN,X,,\nB,3,-,4\n"
 
-spaced : String
-spaced = "P,up\nN,E,,\nN,S,  read   layer,\nN,S,set speed ,\nN,S, ho ld,\nN,X,,\nB,0,-,1\nB,1,up,2\nB,1,stop,3\nB,2,ok,1\nB,3,ok,4\n"
+blanks-moved : String
+blanks-moved = "P,up\nN,E,,\nN,S,  read   layer,\nN,S,set speed ,\nN,S, ho ld,\nN,X,,\nB,0,-,1\nB,1,up,2\nB,1,stop,3\nB,2,ok,1\nB,3,ok,4\n"
 
 one-blank : String
 one-blank = "P,up\nN,E,,\nN,S, ,\nN,X,,\nB,0,-,1\nB,1,T,1\nB,1,F,2\n"
@@ -147,23 +147,23 @@ formerly j sheet o = (formerCheckAnswer (j .old) (j .new) (j .tests) (bytes shee
 shows : String → ℕ → String → Example
 shows text n label = (outcome (readListing (bytes text)) (λ s. wrote (labelPart (record { text = bytes text; listing = s }) n)), wrote (bytes label))
 
-p2-spaced : Job
-unfolding job layers spaced two-tests
-p2-spaced = job layers spaced two-tests
+p2-moved : Job
+unfolding job layers blanks-moved two-tests
+p2-moved = job layers blanks-moved two-tests
 
 -- At both ends and in a row blanks count for nothing, within `hold` one does; a label of blanks only matches another such one. The sheet that was written passed and passes; the new one would not have passed. Files and
 -- shown labels keep their blanks.
 pub blanks : List Example
-unfolding writes checks formerly back shows job p2-spaced spaced one-blank three-blanks winds
+unfolding writes checks formerly back shows job p2-moved blanks-moved one-blank three-blanks winds
 blanks =
-    writes p2-spaced "sheet,1\nM,0,0\nM,1,1\nM,2,2\nD,2\nR,t1\nR,t2\nend,3,1,2\n"
-    ∷ formerly p2-spaced "sheet,1\nM,0,0\nD,0\nR,t1\nR,t2\nend,1,1,2\n" passed
-    ∷ checks p2-spaced "sheet,1\nM,0,0\nD,0\nR,t1\nR,t2\nend,1,1,2\n" passed
-    ∷ formerly p2-spaced "sheet,1\nM,0,0\nM,1,1\nM,2,2\nD,2\nR,t1\nR,t2\nend,3,1,2\n" (refusal 12 2)
+    writes p2-moved "sheet,1\nM,0,0\nM,1,1\nM,2,2\nD,2\nR,t1\nR,t2\nend,3,1,2\n"
+    ∷ formerly p2-moved "sheet,1\nM,0,0\nD,0\nR,t1\nR,t2\nend,1,1,2\n" passed
+    ∷ checks p2-moved "sheet,1\nM,0,0\nD,0\nR,t1\nR,t2\nend,1,1,2\n" passed
+    ∷ formerly p2-moved "sheet,1\nM,0,0\nM,1,1\nM,2,2\nD,2\nR,t1\nR,t2\nend,3,1,2\n" (refusal 12 2)
     ∷ writes (job one-blank three-blanks "") "sheet,1\nM,0,0\nM,1,1\nM,2,2\nend,3,0,0\n"
     ∷ writes (job three-blanks winds "") "sheet,1\nM,0,0\nD,0\nend,1,1,0\n"
-    ∷ back p2-spaced 1 maxBytes (wrote (bytes spaced))
-    ∷ shows spaced 1 "  read   layer"
+    ∷ back p2-moved 1 maxBytes (wrote (bytes blanks-moved))
+    ∷ shows blanks-moved 1 "  read   layer"
     ∷ []
 
 -- Labels one by one: only byte 32 is a blank, one between two words counts, and the longer label is compared to its end.

@@ -61,7 +61,7 @@ use Rattle.rules.specs.Proofs.ReadBack.{written-passes}
 use Rattle.rules.specs.Proofs.Refused as Refused
 use Rattle.rules.specs.Proofs.Selection.{selection-exact}
 use Rattle.rules.specs.Proofs.SheetLayout.{check-exact}
-use Rattle.rules.specs.Proofs.StoredSheets.{formerly}
+use Rattle.rules.specs.Proofs.StoredSheets.{former-is}
 use Rattle.rules.specs.Proofs.Words as Words
 use Rattle.rules.specs.Proofs.WriteProgram.{reads-layout}
 use Rattle.rules.specs.Proofs.WriteSuite.{reads-suite-layout}
@@ -167,10 +167,10 @@ pub passes-exactly : PassesExactly
 passes-exactly = check-exact
 
 pub former-exact : FormerExact
-former-exact = formerly
+former-exact = former-is
 
 pub stored-sheets-pass : StoredSheetsPass
-stored-sheets-pass old new tests sheet e = check-exact old new tests sheet .1 (formerly old new tests sheet .0 e .passes)
+stored-sheets-pass old new tests sheet e = check-exact old new tests sheet .1 (former-is old new tests sheet .0 e .passes)
 
 pub rules-exact : (old new : Program) (suite : List Coverage) (c : Sheet) → RulesExact old new suite c
 rules-exact = Words.rules-exact

@@ -1,21 +1,21 @@
 -- The turns and the returns of the functions that compare two labels, from one byte that is no blank to the next.
 use mathlib.Core.Path.{_≡_, refl, sym, ap, ap₂, _∙_}
 use mathlib.Core.Logic.{_⊎_, inl, inr, ⊎-elim}
-use mathlib.Core.Bool.{Bool, true, false}
-use mathlib.Core.List.{[], _∷_}
-use Prim.Native.Nat.{ℕ, zero, suc, _+_, _≤_, _<_}
+use mathlib.Core.Bool.{Bool, true, false, false≢true}
+use mathlib.Core.List.{[], _∷_, _++_}
+use Prim.Native.Nat.{ℕ, zero, suc, _+_, _-_, _≤_, _<_}
 use native.Mathlib.Omega.{arith}
 use lib.Dec.{eqb, leb, ltb}
-use lib.ListN.{length, getD, drop, length-drop}
+use lib.ListN.{length, getD, take, drop, length-drop, take-append-drop}
 use lib.Seq.{drop-drop}
 use borrow.Author.Tests.{eq-eqb, eqb-true, le-leb, le-ltb, lt-leb, lt-ltb, ne-eqb}
 use Rattle.laws.specs.Tests.{_and_, choose, isnt}
-use Rattle.laws.specs.TestLaws.{both-ways, passes?}
-use Rattle.laws.specs.Lists.{choose-no, choose-yes}
+use Rattle.laws.specs.TestLaws.{both-ways, fails, isnt-true, passes?}
+use Rattle.laws.specs.Lists.{choose-no, choose-yes, snoc-length}
 use Rattle.laws.specs.Slices.{below-or, drop-at, drop-end}
 use Rattle.rules.specs.Text.{Bytes, empty, same, sameLabel, squeezed}
-use Rattle.rules.specs.Proofs.ClosingLaws.{sameLabel-is, sameLabel-of}
-use Rattle.rules.specs.Proofs.LabelLaws.{behind, behind-left, behind-right, behind-same, blankFirst, squeezed-blank, squeezed-byte, squeezed-none}
+use Rattle.rules.specs.Proofs.ClosingLaws.{sameLabel-is, sameLabel-of, sameLabel-true}
+use Rattle.rules.specs.Proofs.LabelLaws.{behind, behind-left, behind-right, behind-same, blankFirst, spaced, squeezed-blank, squeezed-byte, squeezed-none}
 use Rattle.rules.specs.Proofs.TextLaws.{same-true}
 use Rattle.text.specs.Scans.{blanks}
 
@@ -53,6 +53,15 @@ blanks-most (x ∷ s) = go (eqb x 32) (blanks-most s)
     go : (t : Bool) → blanks s ≤ length s → choose t (suc (blanks s)) 0 ≤ suc (length s)
     go true h = omega arith
     go false h = omega arith
+
+-- What is left behind a byte, where a blank comes first and where none does.
+behind-spaced : (s : Bytes) → blankFirst s ≡ true → behind s ≡ spaced (squeezed s)
+unfolding behind
+behind-spaced s e = choose-yes _ _ e
+
+behind-bare : (s : Bytes) → blankFirst s ≡ false → behind s ≡ squeezed s
+unfolding behind
+behind-bare s e = choose-no _ _ e
 
 -- No blank; and the same is left of it.
 behind-byte : (s : Bytes) → (blankFirst (drop (blanks s) s) ≡ false) × (squeezed (drop (blanks s) s) ≡ squeezed s)
@@ -223,9 +232,73 @@ module _ (a b : Bytes) (i j : ℕ) (m : Matching a b i j) where
         unfolding _and_
         match-last z l = sym (nothing-more z ∙ ap (λ (t : Bool). t and leb (length b) o) (le-leb (length a) n l))
 
+-- ---- `ends_differ`
+
+-- A last byte that is no blank is the last of what is left, also behind a byte.
+pub record Kept (s : Bytes) (x : ℕ) : Type 0 where
+  pub front : Bytes
+  pub left : squeezed (s ++ (x ∷ [])) ≡ front ++ (x ∷ [])
+  pub further : Bytes
+  pub left-behind : behind (s ++ (x ∷ [])) ≡ further ++ (x ∷ [])
+
+spaced-snoc : (s : Bytes) (x : ℕ) → spaced (s ++ (x ∷ [])) ≡ 32 ∷ (s ++ (x ∷ []))
+unfolding spaced
+spaced-snoc [] x = refl
+spaced-snoc (y ∷ s) x = refl
+
+last-kept : (s : Bytes) (x : ℕ) → eqb x 32 ≡ false → Kept s x
+unfolding blankFirst
+last-kept [] x e =
+    let one : squeezed (x ∷ []) ≡ x ∷ [] = squeezed-byte x [] e ∙ ap (λ (t : Bytes). x ∷ t) (behind-bare [] refl ∙ squeezed-none) in
+    record { front = []; left = one; further = []; left-behind = behind-bare (x ∷ []) e ∙ one }
+last-kept (y ∷ s) x e = go (passes? (eqb y 32)) (last-kept s x e)
+  where
+    go : (eqb y 32 ≡ true) ⊎ (eqb y 32 ≡ false) → Kept s x → Kept (y ∷ s) x
+    go (inl b) k =
+        let whole : squeezed (y ∷ (s ++ (x ∷ []))) ≡ k .front ++ (x ∷ [])
+        = ap (λ (z : ℕ). squeezed (z ∷ (s ++ (x ∷ [])))) (eqb-true y 32 b) ∙ squeezed-blank (s ++ (x ∷ [])) ∙ k .left in
+        record {
+          front = k .front;
+          left = whole;
+          further = 32 ∷ k .front;
+          left-behind = behind-spaced (y ∷ (s ++ (x ∷ []))) b ∙ ap spaced whole ∙ spaced-snoc (k .front) x;
+        }
+    go (inr b) k =
+        let whole : squeezed (y ∷ (s ++ (x ∷ []))) ≡ y ∷ (k .further ++ (x ∷ []))
+        = squeezed-byte y (s ++ (x ∷ [])) b ∙ ap (λ (t : Bytes). y ∷ t) (k .left-behind) in
+        record { front = y ∷ k .further; left = whole; further = y ∷ k .further; left-behind = behind-bare (y ∷ (s ++ (x ∷ []))) b ∙ whole }
+
+snoc-is : (s : Bytes) → 1 ≤ length s → s ≡ take (length s - 1) s ++ (getD s (length s - 1) 0 ∷ [])
+snoc-is s h =
+    let q : length s ≤ length s - 1 + 1 = omega arith in
+    sym (take-append-drop (length s - 1) s)
+    ∙ ap (λ (t : Bytes). take (length s - 1) s ++ t)
+    (drop-at s (length s - 1) 0 (omega arith) ∙ ap (λ (t : Bytes). getD s (length s - 1) 0 ∷ t) (drop-end s (length s - 1 + 1) q))
+
+snoc-last : (u v : Bytes) (x y : ℕ) → u ++ (x ∷ []) ≡ v ++ (y ∷ []) → x ≡ y
+snoc-last [] [] x y e = cc
+snoc-last [] (z ∷ v) x y e = absurd (let q : 1 ≡ suc (length (v ++ (y ∷ []))) = ap length e in let z : ⊥ = omega (arith, snoc-length 0 v y) in z)
+snoc-last (z ∷ u) [] x y e = absurd (let q : suc (length (u ++ (x ∷ []))) ≡ 1 = ap length e in let z : ⊥ = omega (arith, snoc-length 0 u x) in z)
+snoc-last (z ∷ u) (w ∷ v) x y e = snoc-last u v x y (ap (drop 1) e)
+
+pub ends-untold : (a b : Bytes) → false ≡ true → sameLabel a b ≡ false
+ends-untold a b e = absurd (false≢true e)
+
+pub ends-told : (a b : Bytes) (x y : ℕ) → 1 ≤ length a → 1 ≤ length b → x ≡ getD a (length a - 1) 0 → y ≡ getD b (length b - 1) 0 → (x ≡ 32 → ⊥) → (y ≡ 32 → ⊥)
+    → isnt (eqb x y) ≡ true → sameLabel a b ≡ false
+ends-told a b x y la lb ex ey nx ny d =
+    fails _ (λ t.
+    let p = last-kept (take (length a - 1) a) (getD a (length a - 1) 0) (ne-eqb _ _ (λ q. nx (ex ∙ q))) in
+    let q = last-kept (take (length b - 1) b) (getD b (length b - 1) 0) (ne-eqb _ _ (λ q. ny (ey ∙ q))) in
+    let e = sym (p .left) ∙ ap squeezed (sym (snoc-is a la)) ∙ sameLabel-true a b t ∙ ap squeezed (snoc-is b lb) ∙ q .left in
+    both-ways (eq-eqb x y (ex ∙ snoc-last (p .front) (q .front) _ _ e ∙ sym ey)) (isnt-true _ d))
+
 -- ---- `same_label`
 
-pub label-bytes : (a b : Bytes) (r : Bool) → r ≡ same a b → r ≡ true → true ≡ sameLabel a b
-label-bytes a b r e y = sym (sameLabel-of (same-true a b (sym e ∙ y)))
+pub label-differs : (a b : Bytes) (r : Bool) → (r ≡ true → sameLabel a b ≡ false) → r ≡ true → false ≡ sameLabel a b
+label-differs a b r f y = sym (f y)
 
-pub ruleset labels = (blanks-stop, blanks-on, blanks-end, apart-left, apart-right, match-start, match-end, match-left, match-differ, match-on, match-more, match-last, label-bytes)
+pub label-bytes : (a b : Bytes) (r : Bool) → r ≡ same a b → r ≡ true → true ≡ sameLabel a b
+label-bytes a b r e y = sym (sameLabel-of a b (ap squeezed (same-true a b (sym e ∙ y))))
+
+pub ruleset labels = (blanks-stop, blanks-on, blanks-end, apart-left, apart-right, match-start, match-end, match-left, match-differ, match-on, match-more, match-last, ends-untold, ends-told, label-differs, label-bytes)

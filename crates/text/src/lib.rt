@@ -2,6 +2,7 @@
 // any place: a part that goes past the end is cut there, a read past the end is 0, and a store past the end does nothing. A writer requires
 // only that the next place can be counted.
 ghost use mathlib.Core.Path.{_≡_};
+ghost use mathlib.Core.Bool.{false, true};
 ghost use mathlib.Core.List.{_∷_, []};
 ghost use Prim.Native.Nat.{_+_, _-_, _*_, _%_, _^_, _≤_, _<_, min};
 ghost use lib.Dec.{leb, ltb};
@@ -196,12 +197,37 @@ fn same_squeezed(a: &[u8], b: &[u8]) -> bool
     b.len() <= j
 }
 
-// Whether two labels match, blanks at both ends and how many stand in a row left aside: equal bytes are told at once.
+// Whether the last bytes of two labels are no blanks and differ: then the labels do not match.
+fn ends_differ(a: &[u8], b: &[u8]) -> bool
+    ensures { λ r. ⌜ (r ≡ true → sameLabel (now (a .entry)) (now (b .entry)) ≡ false) ⌝ }
+{
+    if a.len() < 1 {
+        return false;
+    }
+    if b.len() < 1 {
+        return false;
+    }
+    let x = a[a.len() - 1];
+    let y = b[b.len() - 1];
+    if x == 32 {
+        return false;
+    }
+    if y == 32 {
+        return false;
+    }
+    x != y
+}
+
+// Whether two labels match, blanks at both ends and how many stand in a row left aside. Equal bytes are told at once, and so are mostly labels
+// that have no needless blank and do not match.
 pub fn same_label(a: &[u8], b: &[u8]) -> bool
     ensures { λ r. ⌜ r ≡ sameLabel (now (a .entry)) (now (b .entry)) ⌝ }
 {
     if same_long(a, b) {
         return true;
+    }
+    if ends_differ(a, b) {
+        return false;
     }
     same_squeezed(a, b)
 }

@@ -77,5 +77,5 @@ passes-former old new tests sheet f =
     let b = broken-former (g .old) (g .new) (g .suite .coverages) (p .claims) (p .holds1) (p .holds2) (p .holds3) (p .holds4) (p .holds5) (f .labels) in
     rw (p .reads, passing-read p) (choose-yes _ _ (eq-eqb _ _ b))
 
-pub formerly : (old new tests sheet : Bytes) → (formerCheckAnswer old new tests sheet ≡ passed) ↔ PassedFormerly old new tests sheet
-formerly old new tests sheet = (former-passes old new tests sheet, passes-former old new tests sheet)
+pub former-is : (old new tests sheet : Bytes) → (formerCheckAnswer old new tests sheet ≡ passed) ↔ PassedFormerly old new tests sheet
+former-is old new tests sheet = (former-passes old new tests sheet, passes-former old new tests sheet)
