@@ -1,7 +1,7 @@
 -- Programs written back from a lent job (document 02, job 1): what 14 asks of the two texts, in the document's words, and that what the tables write back is just that.
 use mathlib.Core.Path.{_≡_, refl, sym, ap, ap₂, _∙_, subst}
-use mathlib.Core.Logic.{_↔_}
-use mathlib.Core.Bool.{Bool, true, false, true≢false}
+use mathlib.Core.Logic.{_↔_, ⊎-elim}
+use mathlib.Core.Bool.{Bool, true, false}
 use mathlib.Core.Option.{Option, none, some}
 use mathlib.Core.List.{List, _++_}
 use Prim.Native.Nat.{ℕ, zero, suc, _≤_, _<_}
@@ -18,8 +18,8 @@ use Rattle.rules.specs.Layout.{writeProgram}
 use Rattle.rules.specs.Job.{Given, Request, answering, bySide, outcome, refusal, requestBy, serving, write-program, writingBack, written, wrote}
 use Rattle.rules.specs.WriteBack.{otherAlone}
 use Rattle.rules.specs.Theorems.{other-bytes-alone, written-unchanged}
-use Rattle.rules.specs.Proofs.BackLaws.{other-self, other-side}
-use Rattle.rules.specs.Proofs.JobLaws.{outcome-wrote, written-wrote}
+use Rattle.rules.specs.Proofs.BackLaws.{by-side, other-self, other-side}
+use Rattle.rules.specs.Proofs.JobLaws.{outcome-wrote}
 use Rattle.records.specs.declared.Job.{Job}
 use Rattle.records.specs.declared.Node.{Node}
 use Rattle.records.specs.NodeLaws.{flat-length}
@@ -225,9 +225,8 @@ module _ (k : LentJob) (whole : Whole k) where
       (_, _, w .0, st, by (givenBy (w .0)) side (written-unchanged _ _ (program-of _ (w .0 .old) (version-read _ _ (p .0)))) (written-unchanged _ _ (program-of _ (w .0 .new) (version-read _ _ (p .1)))) (w .2))
     where
       by : (g : Given) {old new : Bytes} (m : ℕ) → writeProgram (g .old) ≡ old → writeProgram (g .new) ≡ new → writingBack g m room ≡ wrote b → bySide old new m ≡ some b
-      by g zero d f q = ap some (sym d ∙ written-wrote room _ b q .1)
-      by g (suc zero) d f q = ap some (sym f ∙ written-wrote room _ b q .1)
-      by g (suc (suc m)) d f q = absurd (true≢false (let z : true ≡ false = cc in z))
+      by g {old} {new} m d f q =
+          ⊎-elim (λ u. ap (bySide old new) (u .0) ∙ ap some (sym d ∙ u .1)) (λ u. ap (bySide old new) (u .0) ∙ ap some (sym f ∙ u .1)) (by-side g m room b q)
 
   -- The request 4 for a side returns a number below 4,294,967,296: so many bytes of that text stand at the front of the output.
   pub program-returned : (side b : ℕ) (input : Bytes) (r : ℕ) (j j′ : Job) (w w′ out out′ : List ℕ) → Called (lentCall (requestBy 4 side b) k input (length out)) r j j′ w w′ out out′

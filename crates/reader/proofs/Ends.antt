@@ -8,14 +8,14 @@ use Prim.Native.Nat.{ℕ, zero, suc, _+_, _-_, _*_, _/_, _%_, _≤_, _<_}
 use native.Mathlib.Omega.{arith}
 use lib.ListN.{length, getD, take, drop, set}
 use lib.Seq.{drop-drop, getD-set-same, getD-set-other}
-use borrow.Author.Tests.{lt-ltb, le-ltb, leb-true}
+use borrow.Author.Tests.{lt-ltb, le-ltb}
 use Rattle.laws.specs.Tests.{_and_, isnt, any, first, found, after}
 use Rattle.laws.specs.TestLaws.{and-left, and-right, and-both, fails, both-ways, below-suc, true-isnt, false-isnt, isnt-true, any-of, any-at, first-at, first-none, first-skip, first-least}
 use Rattle.laws.specs.Slices.{drop-sets-after, same-or}
-use Rattle.rules.specs.Text.{Bytes, same, between, isName, maxBytes, Reading, refused, accepted, readText}
+use Rattle.rules.specs.Text.{Bytes, same, isName, maxBytes, Reading, refused, accepted, readText}
 use Rattle.rules.specs.Graph.{Kind, E, S, C, X, Program, nameAt, kindAt, labelAt, calleeAt, procCount, nodeCount, kindNumber, sameKind, orZero, entry, exit, procOf, called}
 use Rattle.rules.specs.ProgramFile.{Listing, current, begun, isNode, named, lost, complete, finishProgram, readListing}
-use Rattle.rules.specs.Proofs.TextLaws.{same-true, empty-true, unless-passes, unless-refuses}
+use Rattle.rules.specs.Proofs.TextLaws.{same-true, empty-true, name-sized, unless-passes, unless-refuses}
 use Rattle.rules.specs.Proofs.GraphLaws.{sameKind-of, sameKind-true}
 use Rattle.rules.specs.Proofs.ProgramLaws.{Complete, complete-says}
 use Rattle.rules.specs.Proofs.Places.{part-is}
@@ -60,10 +60,6 @@ call-callee : (k : Kind) (label callee : Bytes) → isNode k label callee ≡ tr
 unfolding isNode
 call-callee k label callee h e = and-right _ _ (subst (λ (t : Kind). isNode t label callee ≡ true) e h)
 
-name-short : (s : Bytes) → isName s ≡ true → (0 < length s) × (length s ≤ 12)
-unfolding isName between
-name-short s h = (let z : 1 ≤ length s = leb-true _ _ (and-left _ _ (and-left _ _ h)) in z, leb-true _ _ (and-right _ _ (and-left _ _ h)))
-
 c-number : (k : Kind) → k ≡ C → kindNumber k ≡ 2
 c-number k e = ap kindNumber e
 
@@ -83,7 +79,7 @@ module _ (text : Bytes) (s : Listing) (k : Known text s) (n : ℕ) (l : n < node
     where
       nameless : (q : ℕ) → q < procCount p → same (nameAt p q) [] ≡ true → ⊥
       nameless q h t =
-          let a = name-short (nameAt p q) (k .sound .nameForms q h) in
+          let a = name-sized (nameAt p q) (k .sound .nameForms q h) in
           let b : length (nameAt p q) ≡ 0 = ap length (same-true (nameAt p q) [] t) in
           let y : ⊥ = omega (arith, a .0) in y
 
@@ -173,7 +169,7 @@ module _ (text w : List ℕ) (procs n kind : ℕ) (ek : kind ≡ getD w (4 * n) 
       is-two = sym (row-kind text s k w₀ w n l h few) ∙ sym ek ∙ is-call
 
       short : length (calleeAt (s .program) n) ≤ 12
-      short = name-short _ (call-callee (kindAt (s .program) n) (labelAt (s .program) n) (calleeAt (s .program) n) (k .sound .nodeForms n l) (number-kind _ .1 is-two)) .1
+      short = name-sized _ (call-callee (kindAt (s .program) n) (labelAt (s .program) n) (calleeAt (s .program) n) (k .sound .nodeForms n l) (number-kind _ .1 is-two)) .1
 
       last-is : last ≡ getD (s .places .nodeLines) n 0 * 16 + length (calleeAt (s .program) n)
       last-is = et ∙ row-last text s k w₀ w n l h few

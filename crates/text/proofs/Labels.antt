@@ -10,7 +10,7 @@ use lib.ListN.{length, getD, take, drop, length-drop, take-append-drop}
 use lib.Seq.{drop-drop}
 use borrow.Author.Tests.{eq-eqb, eqb-true, le-leb, le-ltb, lt-leb, lt-ltb, ne-eqb}
 use Rattle.laws.specs.Tests.{_and_, choose, isnt}
-use Rattle.laws.specs.TestLaws.{both-ways, fails, isnt-true, passes?}
+use Rattle.laws.specs.TestLaws.{fails, passes?}
 use Rattle.laws.specs.Lists.{choose-no, choose-yes, snoc-length}
 use Rattle.laws.specs.Slices.{below-or, drop-at, drop-end}
 use Rattle.rules.specs.Text.{Bytes, empty, same, sameLabel, squeezed}
@@ -284,14 +284,13 @@ snoc-last (z ∷ u) (w ∷ v) x y e = snoc-last u v x y (ap (drop 1) e)
 pub ends-untold : (a b : Bytes) → false ≡ true → sameLabel a b ≡ false
 ends-untold a b e = absurd (false≢true e)
 
-pub ends-told : (a b : Bytes) (x y : ℕ) → 1 ≤ length a → 1 ≤ length b → x ≡ getD a (length a - 1) 0 → y ≡ getD b (length b - 1) 0 → (x ≡ 32 → ⊥) → (y ≡ 32 → ⊥)
-    → isnt (eqb x y) ≡ true → sameLabel a b ≡ false
-ends-told a b x y la lb ex ey nx ny d =
+pub ends-told : (a b : Bytes) → 1 ≤ length a → 1 ≤ length b → (getD a (length a - 1) 0 ≡ 32 → ⊥) → (getD b (length b - 1) 0 ≡ 32 → ⊥)
+    → (getD a (length a - 1) 0 ≡ getD b (length b - 1) 0 → ⊥) → true ≡ true → sameLabel a b ≡ false
+ends-told a b la lb x y d _ =
     fails _ (λ t.
-    let p = last-kept (take (length a - 1) a) (getD a (length a - 1) 0) (ne-eqb _ _ (λ q. nx (ex ∙ q))) in
-    let q = last-kept (take (length b - 1) b) (getD b (length b - 1) 0) (ne-eqb _ _ (λ q. ny (ey ∙ q))) in
-    let e = sym (p .left) ∙ ap squeezed (sym (snoc-is a la)) ∙ sameLabel-true a b t ∙ ap squeezed (snoc-is b lb) ∙ q .left in
-    both-ways (eq-eqb x y (ex ∙ snoc-last (p .front) (q .front) _ _ e ∙ sym ey)) (isnt-true _ d))
+    let p = last-kept (take (length a - 1) a) (getD a (length a - 1) 0) (ne-eqb _ _ x) in
+    let q = last-kept (take (length b - 1) b) (getD b (length b - 1) 0) (ne-eqb _ _ y) in
+    d (snoc-last (p .front) (q .front) _ _ (sym (p .left) ∙ ap squeezed (sym (snoc-is a la)) ∙ sameLabel-true a b t ∙ ap squeezed (snoc-is b lb) ∙ q .left)))
 
 -- ---- `same_label`
 

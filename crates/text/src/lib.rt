@@ -215,7 +215,10 @@ fn ends_differ(a: &[u8], b: &[u8]) -> bool
     if y == 32 {
         return false;
     }
-    x != y
+    if x == y {
+        return false;
+    }
+    true
 }
 
 // Whether two labels match, blanks at both ends and how many stand in a row left aside. Equal bytes are told at once, and so are mostly labels

@@ -12,11 +12,11 @@ use Rattle.laws.specs.TestLaws.{and-both, and-left, and-right, every-at, every-
 use Rattle.laws.specs.Digits.{number}
 use Rattle.laws.specs.Lists.{choose-no, choose-yes}
 use Rattle.laws.specs.Slices.{same-or}
-use Rattle.rules.specs.Text.{Bytes, allBytes, between, isLabel, isName, isWord, wordByte}
+use Rattle.rules.specs.Text.{Bytes, allBytes, between, isLabel, isWord, wordByte}
 use Rattle.rules.specs.Graph.{C, E, Kind, S, X, called, calleeAt, edgeCount, kindAt, kindNumber, labelAt, nameAt, nodeCount, procCount, sameKind, wordAt}
 use Rattle.rules.specs.ProgramFile.{Listing, isNode}
 use Rattle.rules.specs.WriteBack.{SameParts, calleeStart, labelStart, nameStart, otherAlone, wordStart}
-use Rattle.rules.specs.Proofs.TextLaws.{empty-true, same-of, same-true}
+use Rattle.rules.specs.Proofs.TextLaws.{empty-true, name-sized, same-of, same-true}
 use Rattle.rules.specs.Proofs.GraphLaws.{called-below, called-name, sameKind-true}
 use Rattle.rules.specs.Proofs.BackLaws.{alone-by-parts, other-self}
 use Rattle.graph.specs.Keys.{digit-of, wordKey}
@@ -34,10 +34,6 @@ use Rattle.writeback.specs.Parts.{behindLabel, calleeIn, digitsOf, label
 cut-short : (m n : ℕ) (s : Bytes) → n ≤ m → take m (take n s) ≡ take n s
 cut-short m n s h = take-all m (take n s) (omega (arith, length-take n s))
 
-name-short : (s : Bytes) → isName s ≡ true → length s ≤ 12
-unfolding isName between
-name-short s h = leb-true (length s) 12 (and-right _ _ (and-left _ _ h))
-
 label-short : (s : Bytes) → isLabel s ≡ true → length s ≤ 60
 unfolding isLabel between
 label-short s h = leb-true (length s) 60 (and-right _ _ (and-left _ _ h))
@@ -49,7 +45,7 @@ node-short : (k : Kind) (a c : Bytes) → isNode k a c ≡ true → (length a �
 unfolding isNode
 node-short E a c h = (none-short a 60 (empty-true a (and-left _ _ h)), none-short c 12 (empty-true c (and-right _ _ h)))
 node-short S a c h = (label-short a (and-left _ _ h), none-short c 12 (empty-true c (and-right _ _ h)))
-node-short C a c h = (label-short a (and-left _ _ h), name-short c (and-right _ _ h))
+node-short C a c h = (label-short a (and-left _ _ h), name-sized c (and-right _ _ h) .1)
 node-short X a c h = (none-short a 60 (empty-true a (and-left _ _ h)), none-short c 12 (empty-true c (and-right _ _ h)))
 
 -- Only a C has a callee.
@@ -84,7 +80,7 @@ module _ (t n l : List ℕ) (s : Listing) (h : InMemory (memory t n l) s) where
     name-cut q b =
         ap (take 12)
         (ap₂ (λ (i j : ℕ). take i (drop j x)) (h .procs q b 1 (omega arith)) (ap (λ (k : ℕ). getD l k 0) (sym (add-zero (procBase q))) ∙ h .procs q b 0 (omega arith)))
-        ∙ cut-short 12 (length (nameAt (s .program) q)) (drop (nameStart s q) x) (name-short _ (sound _ s h .nameForms q b))
+        ∙ cut-short 12 (length (nameAt (s .program) q)) (drop (nameStart s q) x) (name-sized _ (sound _ s h .nameForms q b) .1)
 
     module _ (m : ℕ) (b : m < nodeCount (s .program)) where
       pub label-cut : labelIn x n m ≡ take (length (labelAt (s .program) m)) (drop (labelStart s m) x)

@@ -129,7 +129,7 @@ alone-by-parts text t s e = (parts-there text t s e, λ p. alone-of text t s (p 
 -- ---- the call
 
 -- What is written back is the program of that side.
-by-side : (g : Given) (side room : ℕ) (b : Bytes) → writingBack g side room ≡ wrote b → ((side ≡ 0) × (writeProgram (g .old) ≡ b)) ⊎ ((side ≡ 1) × (writeProgram (g .new) ≡ b))
+pub by-side : (g : Given) (side room : ℕ) (b : Bytes) → writingBack g side room ≡ wrote b → ((side ≡ 0) × (writeProgram (g .old) ≡ b)) ⊎ ((side ≡ 1) × (writeProgram (g .new) ≡ b))
 unfolding writingBack bySide
 by-side g zero room b h = inl (refl, written-wrote room _ b h .1)
 by-side g (suc zero) room b h = inr (refl, written-wrote room _ b h .1)

@@ -8,11 +8,11 @@ use Prim.Native.Nat.{ℕ, suc, _+_, _*_, _≤_, _<_}
 use native.Mathlib.Omega.{arith}
 use native.Mathlib.Decide.{decLt}
 use lib.ListN.{length, getD, length-append, List·getD-eq-default}
-use borrow.Author.Tests.{eq-eqb, lt-ltb, le-ltb, lt-leb, leb-true}
+use borrow.Author.Tests.{eq-eqb, lt-ltb, le-ltb, lt-leb}
 use Rattle.laws.specs.Tests.{_and_, isnt, has, listed, choose, none?}
 use Rattle.laws.specs.TestLaws.{false-isnt, none-has, one-has, and-left, and-right, and-both, or-left, or-right, eqb-self, first-only, has-append, those-at, listed-here, listed-append, listed-one, allPairs-of, Before, Ascending, asc-more}
 use Rattle.laws.specs.Lists.{choose-yes, choose-no, Rising, has-first, has-rest, listed-rest, none-listed, rise-more, those-few, those-rise}
-use Rattle.rules.specs.Text.{Bytes, same, empty, bytes, maxBytes, maxEdges, maxTests, maxPairs, between, allBytes, onto, split, linesOf, fieldsOf, joinBy, textOf, isName, value, decimal, accepted, readLines, readText}
+use Rattle.rules.specs.Text.{Bytes, same, empty, bytes, maxBytes, maxEdges, maxTests, maxPairs, allBytes, onto, split, linesOf, fieldsOf, joinBy, textOf, isName, value, decimal, accepted, readLines, readText}
 use Rattle.rules.specs.Graph.{Program, nodeCount, edgeCount}
 use Rattle.rules.specs.SuiteFile.{Suite, testCount, testName}
 use Rattle.rules.specs.Closing.{pairs, dangers, dangerous, meets, repeated}
@@ -24,7 +24,7 @@ use Rattle.rules.specs.Proofs.JobLaws.{known, passed-check, sheet-wrote}
 use Rattle.rules.specs.Proofs.ProgramLaws.{Sound}
 use Rattle.rules.specs.Proofs.SheetLaws.{sheet-lines}
 use Rattle.rules.specs.Proofs.SuiteLaws.{SoundSuite}
-use Rattle.rules.specs.Proofs.TextLaws.{same-true, same-self, decimal-free, nothing-ended, unless-passes, then-passes, other, split-join, name-free, value-decimal, decimal-number, decimal-most}
+use Rattle.rules.specs.Proofs.TextLaws.{same-true, same-self, decimal-free, nothing-ended, unless-passes, then-passes, other, split-join, name-free, name-sized, value-decimal, decimal-number, decimal-most}
 
 -- ---- the forms of written lines
 
@@ -245,11 +245,10 @@ ended-r f [] h = omega arith
 ended-r f (x ∷ l) h = omega (arith, length-append (rLine (f x)) (10 ∷ textOf (map (λ i. rLine (f i)) l)), r-short (f x) (h x), ended-r f l h)
 
 pub name-short : (w : ℕ) (s : Suite) → SoundSuite w s → (i : ℕ) → length (testName s i) ≤ 12
-unfolding isName between
 name-short w s h i = go (decLt i (testCount s))
   where
     go : Dec (i < testCount s) → length (testName s i) ≤ 12
-    go (yes k) = leb-true _ _ (and-right _ _ (and-left _ _ (h .nameForms i k)))
+    go (yes k) = name-sized _ (h .nameForms i k) .1
     go (no k) = subst (λ (n : Bytes). length n ≤ 12) (sym (List·getD-eq-default (s .names) [] (let z : testCount s ≤ i = omega arith in z))) (omega arith)
 
 -- How many edges and tests a sheet can list.

@@ -226,6 +226,11 @@ pub name-free : (b : ℕ) (s : Bytes) → b < 48 → isName s ≡ true → Free 
 unfolding isName
 name-free b s l h = allBytes-more nameByte (other b) (λ x k. name-other b x l k) s (and-right _ _ h)
 
+-- A name has from 1 to 12 bytes.
+pub name-sized : (s : Bytes) → isName s ≡ true → (1 ≤ length s) × (length s ≤ 12)
+unfolding isName
+name-sized s h = between-at 1 12 (length s) (and-left _ _ h)
+
 pub label-free-ten : (s : Bytes) → isLabel s ≡ true → Free 10 s
 unfolding isLabel
 label-free-ten s h = allBytes-more labelByte (other 10) label-ten s (and-right _ _ h)
