@@ -1,9 +1,11 @@
 #!/usr/bin/env python3
-"""job_vectors.py SOURCE_DIR: writes the cases of the program job_vectors, and the lines that it must print.
+"""job_vectors.py SOURCE_DIR [LAST CHANGES OUTS]: writes the cases of the program job_vectors, and the lines that it must print.
 
 SOURCE_DIR is that of read_vectors.py, with two things more: the file `sheet` of each folder, a sheet to be checked, and the file `answers`,
 with the line NAME NUMBER PLACE for each folder: what another implementation's check answered for that sheet. `out` and `answers` are all
-that the lines expected are made of.
+that the lines expected are made of, but for cases that the change requests up to LAST gave other answers: CHANGES has a line REQUEST NAME WHAT
+for each, in the order of the requests, where WHAT is `out` (the sheet program now prints the file REQUEST-NAME of the folder OUTS),
+`refused,NUMBER,PLACE` (it prints this line) or `check NUMBER PLACE`.
 
 Beyond these, `made_cases` has P1 and P3 to P8 of the requirements (p2 is given). Their lines are those that the requirements state; where they
 state only the marks or the dangerous edges, the sheet is worked out by hand, with the reason beside it.
@@ -49,8 +51,25 @@ def made_cases():
     yield 'p8', LAYERS, BY_LAYER, TESTS, p8, P2_OUT, (12, 4)
 
 
-def given_cases(source):
-    """The cases of the folders."""
+def changes(last, lines, outs):
+    """What the requests up to `last` changed, by case: the lines that the sheet program prints now, and the answer of the check."""
+    printed, checked = {}, {}
+    for line in lines:
+        request, name, *what = line.split()
+        if int(request) > last:
+            continue
+        if what[0] == 'check':
+            checked[name] = int(what[1]), int(what[2])
+        elif what[0] == 'out':
+            with open(os.path.join(outs, request + '-' + name), 'rb') as f:
+                printed[name] = f.read()
+        else:
+            printed[name] = text_of(what[0])
+    return printed, checked
+
+
+def given_cases(source, printed, checked):
+    """The cases of the folders, with what was changed."""
     answers = {}
     with open(os.path.join(source, 'answers')) as f:
         for line in f:
@@ -59,7 +78,7 @@ def given_cases(source):
     for name, files in folders(source):
         with open(os.path.join(source, name, 'sheet'), 'rb') as f:
             sheet = f.read()
-        yield name, files['old'], files['new'], files['tests'], sheet, files['out'], answers[name]
+        yield name, files['old'], files['new'], files['tests'], sheet, printed.get(name, files['out']), checked.get(name, answers[name])
 
 
 def head(name, texts):
@@ -78,9 +97,13 @@ def expected(name, out, answer):
 
 
 def main():
-    if len(sys.argv) != 2:
-        raise SystemExit('usage: job_vectors.py SOURCE_DIR')
-    given = list(given_cases(sys.argv[1]))
+    if len(sys.argv) not in (2, 5):
+        raise SystemExit('usage: job_vectors.py SOURCE_DIR [LAST CHANGES OUTS]')
+    changed = {}, {}
+    if len(sys.argv) == 5:
+        with open(sys.argv[3]) as f:
+            changed = changes(int(sys.argv[2]), f, sys.argv[4])
+    given = list(given_cases(sys.argv[1], *changed))
     made = [('made-' + case[0], *case[1:]) for case in made_cases()]
     crate = os.path.join(REPOSITORY, 'crates', 'job_vectors')
     os.makedirs(os.path.join(crate, 'data'), exist_ok=True)

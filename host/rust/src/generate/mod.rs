@@ -1,6 +1,7 @@
 //! Jobs to compare implementations on. A job is fixed by seed and number.
 
 pub mod damage;
+pub mod labels;
 pub mod limits;
 pub mod model;
 pub mod programs;

@@ -1,5 +1,6 @@
 //! Random programs and their new versions.
 
+use super::labels::{self, format_some, formatted, labelled, near};
 use super::model::{Bytes, Edge, Node, Procedure, Program};
 use super::random::Random;
 
@@ -17,18 +18,24 @@ const NAMES: [&[u8]; 12] = [
     b"twelve_bytes",
     b"F",
 ];
-const LABELS: [&[u8]; 12] = [
+const LABELS: [&[u8]; 18] = [
     b"a",
     b"b",
     b"ab",
+    b"a b",
+    b"a  b",
     b"a ",
     b" a",
     b"read layer",
     b"set speed",
+    b"setspeed",
+    b"set!speed",
     b"set speed by layer",
+    b"set  speed by layer ",
     b"hold",
     b" ",
     b"  ",
+    b"                                                            ",
     b"P;~!x",
 ];
 const WORDS: [&[u8]; 14] = [
@@ -52,6 +59,10 @@ const WORDS: [&[u8]; 14] = [
 pub struct Pools {
     pub labels: Vec<Bytes>,
     pub words: Vec<Bytes>,
+    /// How many in a hundred labels have their blanks moved, and how many
+    /// others only nearly match.
+    moved: usize,
+    near: usize,
 }
 
 fn some(random: &mut Random, all: &[&[u8]], count: usize) -> Vec<Bytes> {
@@ -65,10 +76,27 @@ impl Pools {
     pub fn new(random: &mut Random) -> Pools {
         let labels = random.within(1, 6);
         let words = random.within(2, 6);
-        Pools {
+        let mut pools = Pools {
             labels: some(random, &LABELS, labels),
             words: some(random, &WORDS, words),
+            moved: *random.pick(&[0, 0, 0, 10, 60]),
+            near: *random.pick(&[0, 0, 0, 4, 12]),
+        };
+        if random.one_in(8) {
+            pools.labels[0] = labels::long(random);
         }
+        pools
+    }
+
+    fn label(&self, random: &mut Random) -> Bytes {
+        let label = random.pick(&self.labels);
+        if random.percent(self.moved) {
+            return formatted(random, label);
+        }
+        if random.percent(self.near) {
+            return near(random, label);
+        }
+        label.clone()
     }
 }
 
@@ -100,7 +128,7 @@ fn procedure(random: &mut Random, pools: &Pools, names: &[Bytes], own: usize) ->
     let later = own + 1 < names.len();
     let inner = random.within(usize::from(own == 0), 6);
     for _ in 0..inner {
-        let label = random.pick(&pools.labels).clone();
+        let label = pools.label(random);
         // Without a later procedure a call is recursive, and seldom returns.
         if random.percent(if later { 40 } else { 4 }) {
             let callee = callee(random, names, own);
@@ -184,7 +212,29 @@ pub fn version(random: &mut Random, pools: &Pools, old: &Program) -> Program {
     for _ in 0..changes {
         change(random, pools, &mut new);
     }
+    reformat(random, &mut new);
     new
+}
+
+/// Blanks moved in every label or in some, then some labels made such that
+/// they only nearly match.
+fn reformat(random: &mut Random, program: &mut Program) {
+    match random.below(12) {
+        0..=2 => format_some(random, program, 100),
+        3 => format_some(random, program, 30),
+        _ => (),
+    }
+    if random.one_in(6) {
+        let mut nodes: Vec<&mut Node> = labelled(program).collect();
+        random.shuffle(&mut nodes);
+        for node in nodes.into_iter().take(random.within(1, 2)) {
+            node.label = near(random, &node.label);
+            // Byte 9 is no blank, and of no label.
+            if random.one_in(40) {
+                node.label.insert(random.below(node.label.len() + 1), b'\t');
+            }
+        }
+    }
 }
 
 /// Nodes of these kinds.
@@ -278,7 +328,7 @@ fn relabel(random: &mut Random, pools: &Pools, procedure: &mut Procedure) -> Opt
             label.pop();
         }
         2 => *label = random.pick(&LABELS).to_vec(),
-        _ => *label = random.pick(&pools.labels).clone(),
+        _ => *label = pools.label(random),
     }
     Some(())
 }
@@ -423,7 +473,7 @@ fn insert_node(random: &mut Random, pools: &Pools, procedure: &mut Procedure) ->
         return None;
     }
     let edge = random.below(procedure.edges.len());
-    let label = random.pick(&pools.labels).clone();
+    let label = pools.label(random);
     let node = procedure.nodes.len();
     procedure.nodes.push(Node::new(b'S', &label, b""));
     let to = std::mem::replace(&mut procedure.edges[edge].to, node);

@@ -18,6 +18,7 @@ pub struct Leaving {
 
 /// A program with its edges laid out by node, by word within a node, and a
 /// class for each node: two nodes are alike exactly if their classes are equal.
+/// Labels are compared without blanks at both ends, each inner run as one.
 pub struct Graph<'p> {
     pub program: &'p Program<'p>,
     class: Vec<u16>,
@@ -102,7 +103,17 @@ pub fn graphs<'p>(old: &'p Program<'p>, new: &'p Program<'p>) -> (Graph<'p>, Gra
 /// Classes of nodes by open addressing, numbered as they are first met.
 struct Classes<'p> {
     slots: Vec<u16>,
-    keys: Vec<(Kind, &'p [u8], Name)>,
+    keys: Vec<(Kind, Label<'p>, Name)>,
+    /// The labels of keys that are no part of their text, one after another.
+    squeezed: Vec<u8>,
+}
+
+/// A label without spare blanks: a part of the text, or where it begins and
+/// ends among those that were squeezed.
+#[derive(Clone, Copy)]
+enum Label<'p> {
+    Part(&'p [u8]),
+    Squeezed(usize, usize),
 }
 
 const FREE: u16 = u16::MAX;
@@ -112,6 +123,7 @@ impl<'p> Classes<'p> {
         Classes {
             slots: vec![FREE; (2 * limit).next_power_of_two()],
             keys: Vec::with_capacity(limit),
+            squeezed: Vec::new(),
         }
     }
 
@@ -128,22 +140,72 @@ impl<'p> Classes<'p> {
             Kind::Call => program.procedures[node.procedure as usize].name,
             _ => 0,
         };
-        let key = (node.kind, node.label, callee);
-        let mask = self.slots.len() - 1;
-        let mut slot = hash(node.kind, node.label, callee) as usize & mask;
-        loop {
-            match self.slots[slot] {
-                FREE => {
-                    let class = self.keys.len() as u16;
-                    self.slots[slot] = class;
-                    self.keys.push(key);
-                    return class;
-                }
-                class if self.keys[class as usize] == key => return class,
-                _ => slot = (slot + 1) & mask,
+        let start = self.squeezed.len();
+        let part = within_blanks(node.label);
+        let label = match has_run(part) {
+            false => Label::Part(part),
+            true => {
+                squeeze(part, &mut self.squeezed);
+                Label::Squeezed(start, self.squeezed.len())
             }
+        };
+        let bytes = |label| match label {
+            Label::Part(part) => part,
+            Label::Squeezed(start, end) => &self.squeezed[start..end],
+        };
+        let own = bytes(label);
+        let mask = self.slots.len() - 1;
+        let mut slot = hash(node.kind, own, callee) as usize & mask;
+        loop {
+            let class = self.slots[slot];
+            if class == FREE {
+                let class = self.keys.len() as u16;
+                self.slots[slot] = class;
+                self.keys.push((node.kind, label, callee));
+                return class;
+            }
+            let (kind, label, name) = self.keys[class as usize];
+            if (kind, bytes(label), name) == (node.kind, own, callee) {
+                self.squeezed.truncate(start);
+                return class;
+            }
+            slot = (slot + 1) & mask;
         }
     }
+}
+
+const BLANK: u8 = 32;
+
+/// A label without the blanks at both ends.
+fn within_blanks(mut label: &[u8]) -> &[u8] {
+    while let [BLANK, rest @ ..] = label {
+        label = rest;
+    }
+    while let [rest @ .., BLANK] = label {
+        label = rest;
+    }
+    label
+}
+
+/// Whether a blank follows a blank, without leaving early.
+fn has_run(label: &[u8]) -> bool {
+    let pairs = label.iter().zip(label.iter().skip(1));
+    pairs.fold(false, |found, (&one, &next)| {
+        found | (one == BLANK) & (next == BLANK)
+    })
+}
+
+/// Appends a label with each run of blanks as one; no run is at its end.
+fn squeeze(label: &[u8], squeezed: &mut Vec<u8>) {
+    let start = squeezed.len();
+    squeezed.resize(start + label.len(), 0);
+    let (mut end, mut last) = (start, 0);
+    for &byte in label {
+        squeezed[end] = byte;
+        end += usize::from((byte != BLANK) | (last != BLANK));
+        last = byte;
+    }
+    squeezed.truncate(end);
 }
 
 fn hash(kind: Kind, label: &[u8], callee: Name) -> u64 {
