@@ -18,7 +18,7 @@ use Rattle.rules.specs.Check.{entered, keeps, edgeKept, edgesKept, rule1
 use Rattle.rules.specs.Job.{Outcome, wrote, refusal, passed, outcome, readJob, written, writing, sheetBytes, recordBytes, sheetAnswer, recordAnswer, judged, checkAnswer, labelPart, bySide, writingBack, programAnswer, serving, answering}
 use Rattle.rules.specs.Layout.{edgeLine, linesOfThose, nodeLine, procLine, procLines, programLines, writeProgram}
 use Rattle.rules.specs.WriteBack.{inPart, ofParts, otherAlone}
-use Rattle.rules.specs.Former.{formerAlike, formerRule2, formerBroken, formerJudged, formerCheckAnswer}
+use Rattle.rules.specs.Former.{formerAlike, formerRule2, formerBroken, formerCheckAnswer}
 use Rattle.rules.specs.Proofs.Words.{meaningBy}
 
 -- A job: the texts of the old program, the new one and the tests.
@@ -139,7 +139,7 @@ backs =
 
 -- ---- blanks in labels (document 02, job 2)
 
--- The check as it was.
+-- The check with labels that match by their bytes.
 formerly : Job → String → Outcome → Example
 formerly j sheet o = (formerCheckAnswer (j .old) (j .new) (j .tests) (bytes sheet), o)
 
@@ -161,7 +161,6 @@ blanks =
     ∷ checks p2-moved "sheet,1\nM,0,0\nD,0\nR,t1\nR,t2\nend,1,1,2\n" passed
     ∷ formerly p2-moved "sheet,1\nM,0,0\nM,1,1\nM,2,2\nD,2\nR,t1\nR,t2\nend,3,1,2\n" (refusal 12 2)
     ∷ writes (job one-blank three-blanks "") "sheet,1\nM,0,0\nM,1,1\nM,2,2\nend,3,0,0\n"
-    ∷ writes (job three-blanks winds "") "sheet,1\nM,0,0\nD,0\nend,1,1,0\n"
     ∷ back p2-moved 1 maxBytes (wrote (bytes blanks-moved))
     ∷ shows blanks-moved 1 "  read   layer"
     ∷ []
@@ -251,7 +250,7 @@ unfolding answered sameOutcome examples backs blanks refusals
     testForm hexByte hexValue bitsOf noneSet rowFine tested takeTest stepSuite readTests readSuite nonEmpty squeezed
     sameLabel sameCallee sameWord alike fits bothCall fitted goesOn joined byStart byCall byEdge follows grown dangerousAt dangerous closed pairs dangers meets repeated carries carriesOnly mark
     selected mLine dLine rLine endLine sheetLines sheetText markByte marksOf crossed vLine recordText sheetForm before allBelow testOf takeSheetLine stepSheet finishSheet readSheet
-    entered keeps edgeKept edgesKept rule1 rule2 rule3 rule4 rule5 broken formerAlike formerRule2 formerBroken formerJudged formerCheckAnswer
+    entered keeps edgeKept edgesKept rule1 rule2 rule3 rule4 rule5 broken formerAlike formerRule2 formerBroken formerCheckAnswer
     outcome readJob written writing sheetBytes recordBytes judged serving answering
     edgeLine linesOfThose nodeLine procLine procLines programLines writeProgram bySide writingBack labelPart
 examples-answered = refl

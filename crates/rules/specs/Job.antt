@@ -143,10 +143,13 @@ recording limit over g i room = choose (ltb i (testCount (g .suite))) (writing l
 
 -- ---- checking
 
--- The check of a sheet's claims: 12, whose place is the first broken rule, or pass.
+-- By the first broken rule, or 0: 12, whose place is that rule, or pass.
+abbrev pub verdict : ℕ → Outcome
+verdict rule = choose (eqb rule 0) passed (refusal 12 rule)
+
+-- The check of a sheet's claims.
 unfoldable pub judged : Given → Sheet → Outcome
-judged g s =
-    choose (eqb (broken (g .old) (g .new) (g .suite .coverages) s) 0) passed (refusal 12 (broken (g .old) (g .new) (g .suite .coverages) s))
+judged g s = verdict (broken (g .old) (g .new) (g .suite .coverages) s)
 
 -- Check a sheet of at most `limit` pairs.
 abbrev pub checking : ℕ → Given → Bytes → Outcome

@@ -366,8 +366,8 @@ pub record Passes (old new tests sheet : Bytes) : Type 0 where
 abbrev pub PassesExactly : Type 0
 PassesExactly = (old new tests sheet : Bytes) → (checkAnswer old new tests sheet ≡ passed) ↔ Passes old new tests sheet
 
--- The check as it was, when labels matched by their bytes (document 02, job 2), passes exactly the sheets that pass and list no pair whose labels differ in their bytes; so a stored sheet
--- that passed still passes.
+-- The check with labels that match by their bytes, as they did (document 02, job 2), all else being as now, passes exactly the sheets that pass and list no pair whose labels differ in
+-- their bytes; so a stored sheet that passed still passes.
 pub record PassedFormerly (old new tests sheet : Bytes) : Type 0 where
   pub passes : Passes old new tests sheet
   pub labels : (n n′ : ℕ) → listed (passes .claims .M) n n′ ≡ true → labelAt (passes .given .old) n ≡ labelAt (passes .given .new) n′
@@ -407,7 +407,7 @@ pub record Alongside {ℓ κ} {St : Type ℓ} {Out : Type κ} (old new : Program
   pub ends : ended old c ≡ ended new c′
 
 module _ {ℓ κ} (St : Type ℓ) (Out : Type κ) where
-  -- A meaning is held to nothing else than that labels that match have equal actions: whatever is done by what is left of a label and the state is done by one.
+  -- A meaning is held to nothing else than that labels that match have equal actions: for any actions by what is left of a label and the state there is a meaning that has them.
   abbrev pub MeaningsFree : Type (ℓ ⊔ κ)
   MeaningsFree =
       (next : Bytes → St → St) (out : Bytes → St → Out) (word : Bytes → St → Bytes)

@@ -1,23 +1,23 @@
--- The turns and the returns of the functions that compare two labels, from one byte that is no blank to the next.
+-- The turns and the returns of the functions that compare two labels, from one run of blanks to the next.
 use mathlib.Core.Path.{_≡_, refl, sym, ap, ap₂, _∙_}
 use mathlib.Core.Logic.{_⊎_, inl, inr, ⊎-elim}
 use mathlib.Core.Bool.{Bool, true, false, false≢true}
-use mathlib.Core.List.{[], _∷_, _++_}
-use Prim.Native.Nat.{ℕ, zero, suc, _+_, _-_, _≤_, _<_}
+use mathlib.Core.List.{[], _∷_}
+use Prim.Native.Nat.{ℕ, zero, suc, _+_, _-_, _^_, _≤_, _<_}
 use native.Mathlib.Omega.{arith}
 use lib.Dec.{eqb, leb, ltb}
-use lib.ListN.{length, getD, take, drop, length-drop, take-append-drop}
+use lib.ListN.{length, getD, drop, length-drop}
 use lib.Seq.{drop-drop}
-use borrow.Author.Tests.{eq-eqb, eqb-true, le-leb, le-ltb, lt-leb, lt-ltb, ne-eqb}
+use borrow.Author.Tests.{eq-eqb, eqb-false, eqb-true, le-leb, le-ltb, lt-leb, lt-ltb, ne-eqb}
 use Rattle.laws.specs.Tests.{_and_, choose, isnt}
-use Rattle.laws.specs.TestLaws.{fails, passes?}
-use Rattle.laws.specs.Lists.{choose-no, choose-yes, snoc-length}
+use Rattle.laws.specs.TestLaws.{and-both, and-left, and-right, eqb-self, fails, isnt-true, passes?, true-isnt}
+use Rattle.laws.specs.Lists.{choose-no, choose-yes}
 use Rattle.laws.specs.Slices.{below-or, drop-at, drop-end}
 use Rattle.rules.specs.Text.{Bytes, empty, same, sameLabel, squeezed}
 use Rattle.rules.specs.Proofs.ClosingLaws.{sameLabel-is, sameLabel-of, sameLabel-true}
 use Rattle.rules.specs.Proofs.LabelLaws.{behind, behind-left, behind-right, behind-same, blankFirst, spaced, squeezed-blank, squeezed-byte, squeezed-none}
 use Rattle.rules.specs.Proofs.TextLaws.{same-true}
-use Rattle.text.specs.Scans.{blanks}
+use Rattle.text.specs.Scans.{blanks, endsDiffer, lastByte, together}
 
 -- ---- `past_blanks`
 
@@ -75,14 +75,14 @@ behind-byte (x ∷ s) = go (passes? (eqb x 32)) (behind-byte s)
     go (inr e) h = rw e (e, refl)
 
 -- There are some just if the first byte is one.
-first-blank : (s : Bytes) (p k : ℕ) → k ≡ p + blanks s → (blankFirst s ≡ ltb p k) × (isnt (blankFirst s) ≡ leb k p)
-unfolding blanks choose blankFirst isnt
-first-blank [] p k h = (sym (le-ltb p k (omega arith)), sym (le-leb k p (omega arith)))
+first-blank : (s : Bytes) (p k : ℕ) → k ≡ p + blanks s → blankFirst s ≡ ltb p k
+unfolding blanks choose blankFirst
+first-blank [] p k h = sym (le-ltb p k (omega arith))
 first-blank (x ∷ s) p k h = go (eqb x 32) h
   where
-    go : (t : Bool) → k ≡ p + choose t (suc (blanks s)) 0 → (t ≡ ltb p k) × (isnt t ≡ leb k p)
-    go true e = (sym (lt-ltb p k (omega arith)), sym (lt-leb k p (omega arith)))
-    go false e = (sym (le-ltb p k (omega arith)), sym (le-leb k p (omega arith)))
+    go : (t : Bool) → k ≡ p + choose t (suc (blanks s)) 0 → t ≡ ltb p k
+    go true e = sym (lt-ltb p k (omega arith))
+    go false e = sym (le-ltb p k (omega arith))
 
 -- From the place n of s on: the place k behind the blanks.
 module _ (s : Bytes) (n k : ℕ) (h : k ≡ n + blanks (drop n s)) where
@@ -98,6 +98,9 @@ module _ (s : Bytes) (n k : ℕ) (h : k ≡ n + blanks (drop n s)) where
   past-rest : squeezed (drop k s) ≡ squeezed (drop n s)
   past-rest = ap squeezed past-drop ∙ behind-byte (drop n s) .1
 
+  past-behind : behind (drop k s) ≡ squeezed (drop n s)
+  past-behind = behind-bare (drop k s) past-byte ∙ past-rest
+
 -- Nothing is left just at the end.
 nothing-left : (s : Bytes) (k : ℕ) → blankFirst (drop k s) ≡ false → empty (squeezed (drop k s)) ≡ leb (length s) k
 unfolding empty blankFirst
@@ -108,196 +111,264 @@ nothing-left s k b =
     ap (λ (t : Bytes). empty (squeezed t)) d ∙ ap empty (squeezed-byte _ _ (sym (ap blankFirst d) ∙ b)) ∙ sym (lt-leb (length s) k l))
     (λ l. ap (λ (t : Bytes). empty (squeezed t)) (drop-end s k l) ∙ ap empty squeezed-none ∙ sym (le-leb (length s) k l))
 
--- ---- `apart`
+-- ---- `common`
 
-module _ (p k q l : ℕ) where
-  pub apart-left : p < k → leb l q ≡ choose (ltb p k) (leb l q) (ltb q l)
-  apart-left h = sym (choose-yes (leb l q) (ltb q l) (lt-ltb p k h))
+together-most : (s t : Bytes) → (together s t ≤ length s) × (together s t ≤ length t)
+unfolding together choose
+together-most [] t = (omega arith, omega arith)
+together-most (x ∷ s) [] = (omega arith, omega arith)
+together-most (x ∷ s) (y ∷ t) = go (eqb x y and isnt (eqb x 32)) (together-most s t)
+  where
+    go : (u : Bool) → (together s t ≤ length s) × (together s t ≤ length t)
+        → (choose u (suc (together s t)) 0 ≤ suc (length s)) × (choose u (suc (together s t)) 0 ≤ suc (length t))
+    go true h = let l = h .0 in let r = h .1 in (omega arith, omega arith)
+    go false h = (omega arith, omega arith)
 
-  pub apart-right : k ≤ p → ltb q l ≡ choose (ltb p k) (leb l q) (ltb q l)
-  apart-right h = sym (choose-no (leb l q) (ltb q l) (le-ltb p k h))
+module _ (a b : Bytes) (i : ℕ) (inv : together a b ≡ i + together (drop i a) (drop i b)) where
+  module _ (h : i < length a) (k : i < length b) where
+    here : together (drop i a) (drop i b) ≡ choose (eqb (getD a i 0) (getD b i 0) and isnt (eqb (getD a i 0) 32)) (suc (together (drop (i + 1) a) (drop (i + 1) b))) 0
+    unfolding together
+    here = ap₂ together (drop-at a i 0 h) (drop-at b i 0 k)
+
+    pub common-differ : (getD a i 0 ≡ getD b i 0 → ⊥) → i ≡ together a b
+    unfolding _and_ choose
+    common-differ e = let q = here ∙ ap (λ (t : Bool). choose (t and isnt (eqb (getD a i 0) 32)) (suc (together (drop (i + 1) a) (drop (i + 1) b))) 0) (ne-eqb _ _ e) in omega arith
+
+    module _ (e : getD a i 0 ≡ getD b i 0) where
+      equal-here : together (drop i a) (drop i b) ≡ choose (isnt (eqb (getD a i 0) 32)) (suc (together (drop (i + 1) a) (drop (i + 1) b))) 0
+      unfolding _and_
+      equal-here = here ∙ ap (λ (t : Bool). choose (t and isnt (eqb (getD a i 0) 32)) (suc (together (drop (i + 1) a) (drop (i + 1) b))) 0) (eq-eqb _ _ e)
+
+      pub common-blank : getD a i 0 ≡ 32 → i ≡ together a b
+      unfolding isnt choose
+      common-blank z = let q = equal-here ∙ ap (λ (t : Bool). choose (isnt t) (suc (together (drop (i + 1) a) (drop (i + 1) b))) 0) (eq-eqb _ _ z) in omega arith
+
+      pub common-on : (getD a i 0 ≡ 32 → ⊥) → together a b ≡ i + 1 + together (drop (i + 1) a) (drop (i + 1) b)
+      unfolding isnt choose
+      common-on z = let q = equal-here ∙ ap (λ (t : Bool). choose (isnt t) (suc (together (drop (i + 1) a) (drop (i + 1) b))) 0) (ne-eqb _ _ z) in omega arith
+
+  pub common-end : length a ≤ i → i ≡ together a b
+  unfolding together
+  common-end h = let q : together (drop i a) (drop i b) ≡ 0 = ap (λ (s : Bytes). together s (drop i b)) (drop-end a i h) in omega arith
+
+  pub common-short : i < length a → length b ≤ i → i ≡ together a b
+  unfolding together
+  common-short h k = let q : together (drop i a) (drop i b) ≡ 0 = ap₂ together (drop-at a i 0 h) (drop-end b i k) in omega arith
+
+-- ---- `both_past`
+
+module _ (a b : Bytes) (i j : ℕ) where
+  pub past-left : length a ≤ i → leb (length b) j ≡ (leb (length a) i and leb (length b) j)
+  unfolding _and_
+  past-left h = sym (ap (λ (t : Bool). t and leb (length b) j) (le-leb (length a) i h))
+
+  pub past-not : i < length a → false ≡ (leb (length a) i and leb (length b) j)
+  unfolding _and_
+  past-not h = sym (ap (λ (t : Bool). t and leb (length b) j) (lt-leb (length a) i h))
 
 -- ---- `same_squeezed`
 
--- The places i and j of two labels: each is an end or holds no blank, and the labels match just if the same is left of them from there on.
+-- Behind bytes that are the same and no blanks, what is left is compared.
+behind-together : (s t : Bytes) → same (behind s) (behind t) ≡ same (behind (drop (together s t) s)) (behind (drop (together s t) t))
+unfolding together same blankFirst choose _and_
+behind-together [] t = refl
+behind-together (x ∷ s) [] = refl
+behind-together (x ∷ s) (y ∷ t) = go (passes? (eqb x y and isnt (eqb x 32))) (behind-together s t)
+  where
+    go : ((eqb x y and isnt (eqb x 32)) ≡ true) ⊎ ((eqb x y and isnt (eqb x 32)) ≡ false)
+        → same (behind s) (behind t) ≡ same (behind (drop (together s t) s)) (behind (drop (together s t) t))
+        → same (behind (x ∷ s)) (behind (y ∷ t))
+        ≡ same (behind (drop (choose (eqb x y and isnt (eqb x 32)) (suc (together s t)) 0) (x ∷ s))) (behind (drop (choose (eqb x y and isnt (eqb x 32)) (suc (together s t)) 0) (y ∷ t)))
+    go (inl e) h =
+        let q : eqb x y ≡ true = and-left (eqb x y) (isnt (eqb x 32)) e in
+        let n : eqb x 32 ≡ false = isnt-true (eqb x 32) (and-right (eqb x y) (isnt (eqb x 32)) e) in
+        let n′ : eqb y 32 ≡ false = ap (λ (z : ℕ). eqb z 32) (sym (eqb-true x y q)) ∙ n in
+        rw e
+        (ap₂ same (behind-bare (x ∷ s) n ∙ squeezed-byte x s n) (behind-bare (y ∷ t) n′ ∙ squeezed-byte y t n′)
+        ∙ ap (λ (c : Bool). c and same (behind s) (behind t)) q ∙ h)
+    go (inr e) h = rw e refl
+
+-- They are all: none is the same and no blank behind them.
+together-ends : (s t : Bytes) → together (drop (together s t) s) (drop (together s t) t) ≡ 0
+unfolding together choose
+together-ends [] t = refl
+together-ends (x ∷ s) [] = refl
+together-ends (x ∷ s) (y ∷ t) = go (passes? (eqb x y and isnt (eqb x 32))) (together-ends s t)
+  where
+    go : ((eqb x y and isnt (eqb x 32)) ≡ true) ⊎ ((eqb x y and isnt (eqb x 32)) ≡ false) → together (drop (together s t) s) (drop (together s t) t) ≡ 0
+        → together (drop (choose (eqb x y and isnt (eqb x 32)) (suc (together s t)) 0) (x ∷ s)) (drop (choose (eqb x y and isnt (eqb x 32)) (suc (together s t)) 0) (y ∷ t)) ≡ 0
+    go (inl e) h = rw e h
+    go (inr e) h = rw e (ap (λ (u : Bool). choose u (suc (together s t)) 0) e)
+
+-- There, where no blank stands in one of them or in both, nothing may be left.
+parted : (s t : Bytes) → together s t ≡ 0 → blankFirst s ≡ false → blankFirst t ≡ false → same (behind s) (behind t) ≡ (empty (squeezed s) and empty (squeezed t))
+unfolding together same empty _and_ blankFirst choose
+parted [] [] e h k = rw (behind-bare [] refl, squeezed-none) refl
+parted [] (y ∷ t) e h k = rw (behind-bare [] refl, squeezed-none, behind-bare (y ∷ t) k, squeezed-byte y t k) refl
+parted (x ∷ s) [] e h k = rw (behind-bare [] refl, squeezed-none, behind-bare (x ∷ s) h, squeezed-byte x s h) refl
+parted (x ∷ s) (y ∷ t) e h k =
+    rw (behind-bare (x ∷ s) h, squeezed-byte x s h, behind-bare (y ∷ t) k, squeezed-byte y t k)
+    (ap (λ (c : Bool). c and same (behind s) (behind t)) (fails (eqb x y) (λ q. differ (and-both q (true-isnt h)))))
+  where
+    differ : (eqb x y and isnt (eqb x 32)) ≡ true → ⊥
+    differ q = let z : suc (together s t) ≡ 0 = sym (ap (λ (u : Bool). choose u (suc (together s t)) 0) q) ∙ e in omega arith
+
+one-blank : (s t : Bytes) → together s t ≡ 0 → (blankFirst s ≡ false) ⊎ (blankFirst t ≡ false) → same (behind s) (behind t) ≡ (empty (squeezed s) and empty (squeezed t))
+one-blank s t e (inl h) = ⊎-elim (λ k. behind-right s t h k) (λ k. parted s t e h k) (passes? (blankFirst t))
+one-blank s t e (inr k) = ⊎-elim (λ h. behind-left s t h k) (λ h. parted s t e h k) (passes? (blankFirst s))
+
+-- The places i and j of two labels: the labels match just if the same is left of them from there on, behind a byte.
 pub record Matching (a b : Bytes) (i j : ℕ) : Type 0 where
   pub left-in : i ≤ length a
   pub right-in : j ≤ length b
-  pub left-byte : blankFirst (drop i a) ≡ false
-  pub right-byte : blankFirst (drop j b) ≡ false
-  pub rest : sameLabel a b ≡ same (squeezed (drop i a)) (squeezed (drop j b))
+  pub rest : sameLabel a b ≡ same (behind (drop i a)) (behind (drop j b))
 
 pub match-start : (a b : Bytes) (i j : ℕ) → i ≡ 0 + blanks (drop 0 a) → j ≡ 0 + blanks (drop 0 b) → Matching a b i j
 match-start a b i j h k =
     record {
       left-in = past-in a 0 i h (omega arith);
       right-in = past-in b 0 j k (omega arith);
-      left-byte = past-byte a 0 i h;
-      right-byte = past-byte b 0 j k;
-      rest = sameLabel-is a b ∙ sym (ap₂ same (past-rest a 0 i h) (past-rest b 0 j k));
+      rest = sameLabel-is a b ∙ sym (ap₂ same (past-behind a 0 i h) (past-behind b 0 j k));
     }
 
--- Blanks behind both bytes, or behind neither; behind just one.
-together : (u v : Bool) → choose u (isnt v) v ≡ false → u ≡ v
-unfolding choose isnt
-together true true e = refl
-together true false e = e
-together false true e = sym e
-together false false e = refl
+-- From there n bytes are the same and no blanks, and k and l are the next places without a blank.
+module _ (a b s t : Bytes) (i j n : ℕ) (m : Matching a b i j) (es : s ≡ drop i a) (et : t ≡ drop j b) (en : n ≡ together s t) where
+  so-many : together (drop i a) (drop j b) ≡ n
+  so-many = sym (en ∙ ap₂ together es et)
 
-parted : (u v : Bool) → choose u (isnt v) v ≡ true → ((u ≡ true) × (v ≡ false)) ⊎ ((u ≡ false) × (v ≡ true))
-unfolding choose isnt
-parted true true e = inl (refl, sym e)
-parted true false e = inl (refl, refl)
-parted false true e = inr (refl, refl)
-parted false false e = inr (refl, e)
+  pub common-left : i + n ≤ length a
+  common-left = let l = m .left-in in let h = together-most (drop i a) (drop j b) .0 in omega (arith, so-many, length-drop i a)
 
-same-none : (s : Bytes) → same [] s ≡ empty s
-unfolding same empty
-same-none [] = refl
-same-none (x ∷ s) = refl
+  pub common-right : j + n ≤ length b
+  common-right = let l = m .right-in in let h = together-most (drop i a) (drop j b) .1 in omega (arith, so-many, length-drop j b)
 
-module _ (a b : Bytes) (i j : ℕ) (m : Matching a b i j) where
-  -- A byte that is no blank, before what is left behind it.
-  left-is : i < length a → squeezed (drop i a) ≡ getD a i 0 ∷ behind (drop (i + 1) a)
-  unfolding blankFirst
-  left-is h = let d = drop-at a i 0 h in ap squeezed d ∙ squeezed-byte _ _ (sym (ap blankFirst d) ∙ m .left-byte)
+  pub left-fits : length a < 2 ^ 64 → i + n < 2 ^ 64
+  left-fits h = omega (arith, common-left)
 
-  right-is : j < length b → squeezed (drop j b) ≡ getD b j 0 ∷ behind (drop (j + 1) b)
-  unfolding blankFirst
-  right-is h = let d = drop-at b j 0 h in ap squeezed d ∙ squeezed-byte _ _ (sym (ap blankFirst d) ∙ m .right-byte)
+  pub right-fits : length b < 2 ^ 64 → j + n < 2 ^ 64
+  right-fits h = omega (arith, common-right)
 
-  pub match-end : length a ≤ i → leb (length b) j ≡ sameLabel a b
-  match-end h =
-      sym (m .rest ∙ ap (λ (s : Bytes). same s (squeezed (drop j b))) (ap squeezed (drop-end a i h) ∙ squeezed-none) ∙ same-none _ ∙ nothing-left b j (m .right-byte))
+  left-there : drop (together (drop i a) (drop j b)) (drop i a) ≡ drop (i + n) a
+  left-there = drop-drop _ i a ∙ ap (λ (x : ℕ). drop (i + x) a) so-many
 
-  pub match-left : i < length a → length b ≤ j → false ≡ sameLabel a b
-  unfolding same
-  match-left h k = sym (m .rest ∙ ap₂ same (left-is h) (ap squeezed (drop-end b j k) ∙ squeezed-none))
+  right-there : drop (together (drop i a) (drop j b)) (drop j b) ≡ drop (j + n) b
+  right-there = drop-drop _ j b ∙ ap (λ (x : ℕ). drop (j + x) b) so-many
 
-  module _ (h : i < length a) (k : j < length b) where
-    heads : sameLabel a b ≡ (eqb (getD a i 0) (getD b j 0) and same (behind (drop (i + 1) a)) (behind (drop (j + 1) b)))
-    unfolding same
-    heads = m .rest ∙ ap₂ same (left-is h) (right-is k)
+  there : sameLabel a b ≡ same (behind (drop (i + n) a)) (behind (drop (j + n) b))
+  there = m .rest ∙ behind-together (drop i a) (drop j b) ∙ ap₂ (λ (s t : Bytes). same (behind s) (behind t)) left-there right-there
 
-    pub match-differ : (getD a i 0 ≡ getD b j 0 → ⊥) → false ≡ sameLabel a b
-    unfolding _and_
-    match-differ e = sym (heads ∙ ap (λ (t : Bool). t and same (behind (drop (i + 1) a)) (behind (drop (j + 1) b))) (ne-eqb _ _ e))
+  module _ (k l : ℕ) (ek : k ≡ i + n + blanks (drop (i + n) a)) (el : l ≡ j + n + blanks (drop (j + n) b)) where
+    pub match-less : i + n < k → length a - k < length a - i
+    match-less h = omega (arith, past-in a (i + n) k ek common-left)
 
-    module _ (e : getD a i 0 ≡ getD b j 0) where
-      tails : sameLabel a b ≡ same (behind (drop (i + 1) a)) (behind (drop (j + 1) b))
-      unfolding _and_
-      tails = heads ∙ ap (λ (t : Bool). t and same (behind (drop (i + 1) a)) (behind (drop (j + 1) b))) (eq-eqb _ _ e)
+    pub match-on : i + n < k → j + n < l → Matching a b k l
+    match-on h h′ =
+        record {
+          left-in = past-in a (i + n) k ek common-left;
+          right-in = past-in b (j + n) l el common-right;
+          rest =
+              there
+              ∙ behind-same _ _ true (first-blank (drop (i + n) a) (i + n) k ek ∙ lt-ltb (i + n) k h) (first-blank (drop (j + n) b) (j + n) l el ∙ lt-ltb (j + n) l h′)
+              ∙ sym (ap₂ same (past-behind a (i + n) k ek) (past-behind b (j + n) l el));
+        }
 
-      -- Behind these bytes, where n and o are the next places without a blank, and r says that a blank stands behind just one of the two.
-      module _ (n o : ℕ) (hn : n ≡ i + 1 + blanks (drop (i + 1) a)) (ho : o ≡ j + 1 + blanks (drop (j + 1) b)) (r : Bool)
-          (er : r ≡ choose (ltb (i + 1) n) (leb o (j + 1)) (ltb (j + 1) o)) where
-        gaps : r ≡ choose (blankFirst (drop (i + 1) a)) (isnt (blankFirst (drop (j + 1) b))) (blankFirst (drop (j + 1) b))
-        gaps =
-            let x = first-blank (drop (i + 1) a) (i + 1) n hn in
-            let y = first-blank (drop (j + 1) b) (j + 1) o ho in
-            er
-            ∙ ap (λ (t : Bool). choose t (leb o (j + 1)) (ltb (j + 1) o)) (sym (x .0))
-            ∙ ap₂ (λ (u v : Bool). choose (blankFirst (drop (i + 1) a)) u v) (sym (y .1)) (sym (y .0))
+    nothing-more : (blankFirst (drop (i + n) a) ≡ false) ⊎ (blankFirst (drop (j + n) b) ≡ false) → (leb (length a) k and leb (length b) l) ≡ sameLabel a b
+    nothing-more u =
+        sym (there
+        ∙ one-blank _ _ (sym (ap₂ together left-there right-there) ∙ together-ends (drop i a) (drop j b)) u
+        ∙ ap₂ (λ (s t : Bytes). empty s and empty t) (sym (past-rest a (i + n) k ek)) (sym (past-rest b (j + n) l el))
+        ∙ ap₂ (λ (s t : Bool). s and t) (nothing-left a k (past-byte a (i + n) k ek)) (nothing-left b l (past-byte b (j + n) l el)))
 
-        pub match-on : r ≡ false → Matching a b n o
-        match-on z =
-            record {
-              left-in = past-in a (i + 1) n hn (omega arith);
-              right-in = past-in b (j + 1) o ho (omega arith);
-              left-byte = past-byte a (i + 1) n hn;
-              right-byte = past-byte b (j + 1) o ho;
-              rest =
-                  tails
-                  ∙ behind-same (drop (i + 1) a) (drop (j + 1) b) _ (together _ _ (sym gaps ∙ z)) refl
-                  ∙ sym (ap₂ same (past-rest a (i + 1) n hn) (past-rest b (j + 1) o ho));
-            }
+    pub match-left : (r : Bool) → k ≤ i + n → r ≡ (leb (length a) k and leb (length b) l) → r ≡ sameLabel a b
+    match-left r h e = e ∙ nothing-more (inl (first-blank (drop (i + n) a) (i + n) k ek ∙ le-ltb (i + n) k h))
 
-        -- Nothing may be left on either side.
-        nothing-more : r ≡ true → sameLabel a b ≡ (leb (length a) n and leb (length b) o)
-        nothing-more z =
-            tails
-            ∙ ⊎-elim
-            (λ u. behind-left (drop (i + 1) a) (drop (j + 1) b) (u .0) (u .1))
-            (λ u. behind-right (drop (i + 1) a) (drop (j + 1) b) (u .0) (u .1))
-            (parted _ _ (sym gaps ∙ z))
-            ∙ ap₂ (λ (s t : Bytes). empty s and empty t) (sym (past-rest a (i + 1) n hn)) (sym (past-rest b (j + 1) o ho))
-            ∙ ap₂ (λ (s t : Bool). s and t) (nothing-left a n (past-byte a (i + 1) n hn)) (nothing-left b o (past-byte b (j + 1) o ho))
-
-        pub match-more : r ≡ true → n < length a → false ≡ sameLabel a b
-        unfolding _and_
-        match-more z l = sym (nothing-more z ∙ ap (λ (t : Bool). t and leb (length b) o) (lt-leb (length a) n l))
-
-        pub match-last : r ≡ true → length a ≤ n → leb (length b) o ≡ sameLabel a b
-        unfolding _and_
-        match-last z l = sym (nothing-more z ∙ ap (λ (t : Bool). t and leb (length b) o) (le-leb (length a) n l))
+    pub match-right : (r : Bool) → l ≤ j + n → r ≡ (leb (length a) k and leb (length b) l) → r ≡ sameLabel a b
+    match-right r h e = e ∙ nothing-more (inr (first-blank (drop (j + n) b) (j + n) l el ∙ le-ltb (j + n) l h))
 
 -- ---- `ends_differ`
 
+pub last-none : (s : Bytes) → length s < 1 → 32 ≡ lastByte s
+unfolding lastByte
+last-none [] h = refl
+last-none (x ∷ s) h = absurd (let z : ⊥ = omega arith in z)
+
+last-at : (s : Bytes) (k : ℕ) → length s ≡ suc k → getD s k 0 ≡ lastByte s
+unfolding lastByte
+last-at [] k h = absurd (let z : ⊥ = omega arith in z)
+last-at (x ∷ []) zero h = refl
+last-at (x ∷ []) (suc k) h = absurd (let z : ⊥ = omega arith in z)
+last-at (x ∷ y ∷ s) zero h = absurd (let z : ⊥ = omega arith in z)
+last-at (x ∷ y ∷ s) (suc k) h = last-at (y ∷ s) k (omega arith)
+
+pub last-is : (s : Bytes) → 1 ≤ length s → getD s (length s - 1) 0 ≡ lastByte s
+last-is s h = last-at s (length s - 1) (omega arith)
+
+module _ (a b : Bytes) (x y : ℕ) (ex : x ≡ lastByte a) (ey : y ≡ lastByte b) where
+  ends-are : endsDiffer a b ≡ (isnt (eqb x 32) and isnt (eqb y 32) and isnt (eqb x y))
+  unfolding endsDiffer
+  ends-are = rw (ex, ey) refl
+
+  pub ends-left : x ≡ 32 → false ≡ endsDiffer a b
+  unfolding _and_ isnt
+  ends-left h = sym (ends-are ∙ ap (λ (t : Bool). isnt t and isnt (eqb y 32) and isnt (eqb x y)) (eq-eqb _ _ h))
+
+  pub ends-right : (x ≡ 32 → ⊥) → y ≡ 32 → false ≡ endsDiffer a b
+  unfolding _and_ isnt
+  ends-right h k = sym (ends-are ∙ ap₂ (λ (t u : Bool). isnt t and isnt u and isnt (eqb x y)) (ne-eqb _ _ h) (eq-eqb _ _ k))
+
+  module _ (h : x ≡ 32 → ⊥) (k : y ≡ 32 → ⊥) where
+    ends-both : endsDiffer a b ≡ isnt (eqb x y)
+    unfolding _and_ isnt
+    ends-both = ends-are ∙ ap₂ (λ (t u : Bool). isnt t and isnt u and isnt (eqb x y)) (ne-eqb _ _ h) (ne-eqb _ _ k)
+
+    pub ends-same : x ≡ y → false ≡ endsDiffer a b
+    unfolding isnt
+    ends-same e = sym (ends-both ∙ ap isnt (eq-eqb _ _ e))
+
+    pub ends-other : (x ≡ y → ⊥) → true ≡ endsDiffer a b
+    unfolding isnt
+    ends-other e = sym (ends-both ∙ ap isnt (ne-eqb _ _ e))
+
 -- A last byte that is no blank is the last of what is left, also behind a byte.
-pub record Kept (s : Bytes) (x : ℕ) : Type 0 where
-  pub front : Bytes
-  pub left : squeezed (s ++ (x ∷ [])) ≡ front ++ (x ∷ [])
-  pub further : Bytes
-  pub left-behind : behind (s ++ (x ∷ [])) ≡ further ++ (x ∷ [])
+last-behind : (x : ℕ) (s : Bytes) → eqb (lastByte s) 32 ≡ false → lastByte (x ∷ s) ≡ lastByte s
+unfolding lastByte
+last-behind x [] e = absurd (false≢true (sym e ∙ eqb-self 32))
+last-behind x (y ∷ s) e = refl
 
-spaced-snoc : (s : Bytes) (x : ℕ) → spaced (s ++ (x ∷ [])) ≡ 32 ∷ (s ++ (x ∷ []))
-unfolding spaced
-spaced-snoc [] x = refl
-spaced-snoc (y ∷ s) x = refl
+last-spaced : (s : Bytes) → lastByte (spaced s) ≡ lastByte s
+unfolding lastByte spaced
+last-spaced [] = refl
+last-spaced (x ∷ s) = refl
 
-last-kept : (s : Bytes) (x : ℕ) → eqb x 32 ≡ false → Kept s x
-unfolding blankFirst
-last-kept [] x e =
-    let one : squeezed (x ∷ []) ≡ x ∷ [] = squeezed-byte x [] e ∙ ap (λ (t : Bytes). x ∷ t) (behind-bare [] refl ∙ squeezed-none) in
-    record { front = []; left = one; further = []; left-behind = behind-bare (x ∷ []) e ∙ one }
-last-kept (y ∷ s) x e = go (passes? (eqb y 32)) (last-kept s x e)
+last-kept : (s : Bytes) → eqb (lastByte s) 32 ≡ false → (lastByte (squeezed s) ≡ lastByte s) × (lastByte (behind s) ≡ lastByte s)
+unfolding lastByte blankFirst
+last-kept [] e = absurd (false≢true (sym e ∙ eqb-self 32))
+last-kept (x ∷ []) e =
+    let one : lastByte (squeezed (x ∷ [])) ≡ x = ap lastByte (squeezed-byte x [] e ∙ ap (λ (t : Bytes). x ∷ t) (behind-bare [] refl ∙ squeezed-none)) in
+    (one, ap lastByte (behind-bare (x ∷ []) e) ∙ one)
+last-kept (x ∷ y ∷ s) e = go (passes? (eqb x 32)) (last-kept (y ∷ s) e)
   where
-    go : (eqb y 32 ≡ true) ⊎ (eqb y 32 ≡ false) → Kept s x → Kept (y ∷ s) x
+    go : (eqb x 32 ≡ true) ⊎ (eqb x 32 ≡ false) → (lastByte (squeezed (y ∷ s)) ≡ lastByte (y ∷ s)) × (lastByte (behind (y ∷ s)) ≡ lastByte (y ∷ s))
+        → (lastByte (squeezed (x ∷ y ∷ s)) ≡ lastByte (y ∷ s)) × (lastByte (behind (x ∷ y ∷ s)) ≡ lastByte (y ∷ s))
     go (inl b) k =
-        let whole : squeezed (y ∷ (s ++ (x ∷ []))) ≡ k .front ++ (x ∷ [])
-        = ap (λ (z : ℕ). squeezed (z ∷ (s ++ (x ∷ [])))) (eqb-true y 32 b) ∙ squeezed-blank (s ++ (x ∷ [])) ∙ k .left in
-        record {
-          front = k .front;
-          left = whole;
-          further = 32 ∷ k .front;
-          left-behind = behind-spaced (y ∷ (s ++ (x ∷ []))) b ∙ ap spaced whole ∙ spaced-snoc (k .front) x;
-        }
+        let whole = ap lastByte (ap (λ (z : ℕ). squeezed (z ∷ y ∷ s)) (eqb-true x 32 b) ∙ squeezed-blank (y ∷ s)) ∙ k .0 in
+        (whole, ap lastByte (behind-spaced (x ∷ y ∷ s) b) ∙ last-spaced (squeezed (x ∷ y ∷ s)) ∙ whole)
     go (inr b) k =
-        let whole : squeezed (y ∷ (s ++ (x ∷ []))) ≡ y ∷ (k .further ++ (x ∷ []))
-        = squeezed-byte y (s ++ (x ∷ [])) b ∙ ap (λ (t : Bytes). y ∷ t) (k .left-behind) in
-        record { front = y ∷ k .further; left = whole; further = y ∷ k .further; left-behind = behind-bare (y ∷ (s ++ (x ∷ []))) b ∙ whole }
-
-snoc-is : (s : Bytes) → 1 ≤ length s → s ≡ take (length s - 1) s ++ (getD s (length s - 1) 0 ∷ [])
-snoc-is s h =
-    let q : length s ≤ length s - 1 + 1 = omega arith in
-    sym (take-append-drop (length s - 1) s)
-    ∙ ap (λ (t : Bytes). take (length s - 1) s ++ t)
-    (drop-at s (length s - 1) 0 (omega arith) ∙ ap (λ (t : Bytes). getD s (length s - 1) 0 ∷ t) (drop-end s (length s - 1 + 1) q))
-
-snoc-last : (u v : Bytes) (x y : ℕ) → u ++ (x ∷ []) ≡ v ++ (y ∷ []) → x ≡ y
-snoc-last [] [] x y e = cc
-snoc-last [] (z ∷ v) x y e = absurd (let q : 1 ≡ suc (length (v ++ (y ∷ []))) = ap length e in let z : ⊥ = omega (arith, snoc-length 0 v y) in z)
-snoc-last (z ∷ u) [] x y e = absurd (let q : suc (length (u ++ (x ∷ []))) ≡ 1 = ap length e in let z : ⊥ = omega (arith, snoc-length 0 u x) in z)
-snoc-last (z ∷ u) (w ∷ v) x y e = snoc-last u v x y (ap (drop 1) e)
-
-pub ends-untold : (a b : Bytes) → false ≡ true → sameLabel a b ≡ false
-ends-untold a b e = absurd (false≢true e)
-
-pub ends-told : (a b : Bytes) → 1 ≤ length a → 1 ≤ length b → (getD a (length a - 1) 0 ≡ 32 → ⊥) → (getD b (length b - 1) 0 ≡ 32 → ⊥)
-    → (getD a (length a - 1) 0 ≡ getD b (length b - 1) 0 → ⊥) → true ≡ true → sameLabel a b ≡ false
-ends-told a b la lb x y d _ =
-    fails _ (λ t.
-    let p = last-kept (take (length a - 1) a) (getD a (length a - 1) 0) (ne-eqb _ _ x) in
-    let q = last-kept (take (length b - 1) b) (getD b (length b - 1) 0) (ne-eqb _ _ y) in
-    d (snoc-last (p .front) (q .front) _ _ (sym (p .left) ∙ ap squeezed (sym (snoc-is a la)) ∙ sameLabel-true a b t ∙ ap squeezed (snoc-is b lb) ∙ q .left)))
+        let whole = ap lastByte (squeezed-byte x (y ∷ s) b) ∙ last-behind x (behind (y ∷ s)) (ap (λ (z : ℕ). eqb z 32) (k .1) ∙ e) ∙ k .1 in
+        (whole, ap lastByte (behind-bare (x ∷ y ∷ s) b) ∙ whole)
 
 -- ---- `same_label`
 
-pub label-differs : (a b : Bytes) (r : Bool) → (r ≡ true → sameLabel a b ≡ false) → r ≡ true → false ≡ sameLabel a b
-label-differs a b r f y = sym (f y)
+pub label-differs : (a b : Bytes) (r : Bool) → r ≡ endsDiffer a b → r ≡ true → false ≡ sameLabel a b
+unfolding endsDiffer
+label-differs a b r d y =
+    let t : endsDiffer a b ≡ true = sym d ∙ y in
+    let u = and-right _ _ t in
+    sym (fails _ (λ h.
+    let e : lastByte a ≡ lastByte b = sym (last-kept a (isnt-true _ (and-left _ _ t)) .0) ∙ ap lastByte (sameLabel-true a b h) ∙ last-kept b (isnt-true _ (and-left _ _ u)) .0 in
+    eqb-false _ _ (isnt-true _ (and-right _ _ u)) e))
 
 pub label-bytes : (a b : Bytes) (r : Bool) → r ≡ same a b → r ≡ true → true ≡ sameLabel a b
 label-bytes a b r e y = sym (sameLabel-of a b (ap squeezed (same-true a b (sym e ∙ y))))
 
-pub ruleset labels = (blanks-stop, blanks-on, blanks-end, apart-left, apart-right, match-start, match-end, match-left, match-differ, match-on, match-more, match-last, ends-untold, ends-told, label-differs, label-bytes)
+pub ruleset labels = (blanks-stop, blanks-on, blanks-end, common-differ, common-blank, common-on, common-end, common-short, past-left, past-not, match-start, common-left, common-right, left-fits, right-fits, match-less, match-on, match-left, match-right, last-none, last-is, ends-left, ends-right, ends-same, ends-other, label-differs, label-bytes)

@@ -22,7 +22,6 @@ use Rattle.text.specs.Scans.{span, plainByte, classByte, sized}
 use Rattle.text.specs.SplitLaws.{span-hit, span-miss, span-end}
 use Rattle.text.specs.Puts.{Puts, puts-none, puts-then, puts-length}
 use Rattle.text.specs.Hash.{hashFrom, hashOf}
-use Rattle.text.proofs.Labels.{labels}
 
 -- The test of the code and that of the rules.
 also : (a b : Bool) → (a && b) ≡ (a and b)
@@ -632,4 +631,4 @@ hash-start s = refl
 
 pub ruleset hashes = (hash-on, hash-done, hash-start)
 
-pub ruleset all = (hashes, labels, finds, sames, parts, stores, runs, classes, alls, sizes, values, spelled, writes)
+pub ruleset all = (hashes, finds, sames, parts, stores, runs, classes, alls, sizes, values, spelled, writes)

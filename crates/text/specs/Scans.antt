@@ -18,6 +18,21 @@ unfoldable pub blanks : Bytes → ℕ
 blanks [] = 0
 blanks (x ∷ s) = choose (eqb x 32) (suc (blanks s)) 0
 
+-- How many bytes at the front of both are the same and no blanks.
+unfoldable pub together : Bytes → Bytes → ℕ
+together [] t = 0
+together (x ∷ s) [] = 0
+together (x ∷ s) (y ∷ t) = choose (eqb x y and isnt (eqb x 32)) (suc (together s t)) 0
+
+-- The last byte: a blank, where there is none. The last bytes of two are no blanks and differ.
+unfoldable pub lastByte : Bytes → ℕ
+lastByte [] = 32
+lastByte (x ∷ []) = x
+lastByte (x ∷ y ∷ s) = lastByte (y ∷ s)
+
+unfoldable pub endsDiffer : Bytes → Bytes → Bool
+endsDiffer a b = isnt (eqb (lastByte a) 32) and isnt (eqb (lastByte b) 32) and isnt (eqb (lastByte a) (lastByte b))
+
 -- The byte x is from a to 126, and no comma: of a label where a is 32, of a word where it is 33.
 unfoldable pub plainByte : ℕ → ℕ → Bool
 plainByte a x = between a 126 x and isnt (eqb x 44)

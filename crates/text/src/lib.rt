@@ -2,10 +2,9 @@
 // any place: a part that goes past the end is cut there, a read past the end is 0, and a store past the end does nothing. A writer requires
 // only that the next place can be counted.
 ghost use mathlib.Core.Path.{_≡_};
-ghost use mathlib.Core.Bool.{false, true};
 ghost use mathlib.Core.List.{_∷_, []};
 ghost use Prim.Native.Nat.{_+_, _-_, _*_, _%_, _^_, _≤_, _<_, min};
-ghost use lib.Dec.{leb, ltb};
+ghost use lib.Dec.{leb};
 ghost use lib.ListN.{take, drop, getD, set, length, replicate};
 ghost use lib.Seq.{sets};
 ghost use Rattle.rules.specs.Text.{
@@ -22,13 +21,22 @@ ghost use Rattle.rules.specs.Text.{
   sameLabel,
   value as valueOf,
 };
-ghost use Rattle.laws.specs.Tests.{choose, has};
+ghost use Rattle.laws.specs.Tests.{_and_, choose, has};
 ghost use Rattle.laws.specs.Bits.{bitIn};
 ghost use Rattle.laws.specs.BitSets.{withBit};
 ghost use Rattle.rules.specs.SuiteFile.{hexByte};
 ghost use Rattle.text.specs.Hash.{hashOf};
 ghost use Rattle.text.specs.Puts.{Puts};
-ghost use Rattle.text.specs.Scans.{blanks, classByte, plainByte, sized as isSized, span};
+ghost use Rattle.text.specs.Scans.{
+  blanks,
+  classByte,
+  endsDiffer,
+  lastByte,
+  plainByte,
+  sized as isSized,
+  span,
+  together,
+};
 
 // The bytes of a sheet's first line.
 pub const SHEET_HEAD: [u8; 7] = *b"sheet,1";
@@ -158,57 +166,76 @@ fn past_blanks(s: &[u8], n: usize) -> usize
     i
 }
 
-// Whether just one of two places, p and q, holds blanks, where k and l are the next that hold none.
-fn apart(p: usize, k: usize, q: usize, l: usize) -> bool
-    ensures { λ r. ⌜ r ≡ choose (ltb p k) (leb l q) (ltb q l) ⌝ }
+// How many bytes at the front of both are the same and no blanks.
+fn common(a: &[u8], b: &[u8]) -> usize
+    ensures { λ r. ⌜ r ≡ together (now (a .entry)) (now (b .entry)) ⌝ }
 {
-    if p < k {
-        return l <= q;
+    let mut i = 0;
+    while i < a.len() {
+        if b.len() <= i {
+            return i;
+        }
+        if a[i] != b[i] {
+            return i;
+        }
+        if a[i] == 32 {
+            return i;
+        }
+        i += 1;
     }
-    q < l
+    i
 }
 
-// Whether two labels match, byte by byte, from one that is no blank to the next. Where a blank stands behind just one of two bytes, nothing may be left.
+// Whether both places are past the end.
+fn both_past(a: &[u8], i: usize, b: &[u8], j: usize) -> bool
+    ensures { λ r. ⌜ r ≡ (leb (length (now (a .entry))) i and leb (length (now (b .entry))) j) ⌝ }
+{
+    if a.len() <= i {
+        return b.len() <= j;
+    }
+    false
+}
+
+// Whether two labels match, from one run of blanks in both to the next. Where the bytes between them differ, or blanks stand in just one label,
+// nothing but blanks may be left of either.
 fn same_squeezed(a: &[u8], b: &[u8]) -> bool
     ensures { λ r. ⌜ r ≡ sameLabel (now (a .entry)) (now (b .entry)) ⌝ }
 {
     let mut i = past_blanks(a, 0);
     let mut j = past_blanks(b, 0);
-    while i < a.len() {
-        if b.len() <= j {
-            return false;
-        }
-        if a[i] != b[j] {
-            return false;
-        }
-        let p = i + 1;
-        let q = j + 1;
+    loop {
+        let n = common(after(a, i), after(b, j));
+        let p = i + n;
+        let q = j + n;
         let k = past_blanks(a, p);
         let l = past_blanks(b, q);
-        if apart(p, k, q, l) {
-            if k < a.len() {
-                return false;
-            }
-            return b.len() <= l;
+        if k <= p {
+            return both_past(a, k, b, l);
+        }
+        if l <= q {
+            return both_past(a, k, b, l);
         }
         i = k;
         j = l;
     }
-    b.len() <= j
+}
+
+// The last byte: a blank, where there is none.
+fn last_byte(s: &[u8]) -> u8
+    ensures { λ r. ⌜ r ≡ lastByte (now (s .entry)) ⌝ }
+{
+    if s.len() < 1 {
+        return 32;
+    }
+    s[s.len() - 1]
 }
 
 // Whether the last bytes of two labels are no blanks and differ: then the labels do not match.
 fn ends_differ(a: &[u8], b: &[u8]) -> bool
-    ensures { λ r. ⌜ (r ≡ true → sameLabel (now (a .entry)) (now (b .entry)) ≡ false) ⌝ }
+    ensures { λ r. ⌜ r ≡ endsDiffer (now (a .entry)) (now (b .entry)) ⌝ }
 {
-    if a.len() < 1 {
-        return false;
-    }
-    if b.len() < 1 {
-        return false;
-    }
-    let x = a[a.len() - 1];
-    let y = b[b.len() - 1];
+    let x = last_byte(a);
+    let y = last_byte(b);
     if x == 32 {
         return false;
     }
@@ -221,8 +248,8 @@ fn ends_differ(a: &[u8], b: &[u8]) -> bool
     true
 }
 
-// Whether two labels match, blanks at both ends and how many stand in a row left aside. Equal bytes are told at once, and so are mostly labels
-// that have no needless blank and do not match.
+// Whether two labels match: blanks at both ends, and how many stand in a row, are left aside. Equal bytes are told at once, and so mostly are
+// labels without spare blanks that do not match.
 pub fn same_label(a: &[u8], b: &[u8]) -> bool
     ensures { λ r. ⌜ r ≡ sameLabel (now (a .entry)) (now (b .entry)) ⌝ }
 {

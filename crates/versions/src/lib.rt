@@ -1,7 +1,7 @@
 // Two versions of a program in memory: the old text, nodes and links, and the new ones. Every function takes any slice and any number: what
 // stands past the end of a table is 0.
 ghost use mathlib.Core.Path.{_≡_};
-ghost use Prim.Native.Nat.{_+_, _<_, _≤_};
+ghost use Prim.Native.Nat.{_+_, _^_, _<_, _≤_};
 ghost use lib.ListN.{getD};
 ghost use Rattle.graph.specs.Table.{edgeBase, headBase, nodeBase, procBase};
 ghost use Rattle.graph.specs.Reads.{partAt, upTo};
@@ -231,17 +231,38 @@ fn twin(text: &[u8], nodes: &[usize], links: &[usize], r: usize, x: usize) -> bo
     alike(text, nodes, links, text, nodes, links, r - 1, x)
 }
 
-// Where the table of groups keeps, behind the 512 nodes, 1 + the latest node that began a group and whose label ends as that of the node x, by
-// a hash of the last 4 bytes.
+// The byte b put behind the bytes of the key; a blank is left out.
+fn with_byte(key: usize, b: u8) -> usize
+    requires { ⌜ key < 2 ^ 24 ⌝ }
+    ensures { λ r. ⌜ r < 2 ^ 32 ⌝ }
+{
+    if b == 32 {
+        return key;
+    }
+    256 * key + b as usize
+}
+
+// A hash of the last 4 bytes of a label that are no blanks: which number is left open.
+fn ending(label: &[u8]) -> usize
+    ensures { λ r. ⌜ r < 512 ⌝ }
+{
+    let mut key = 0;
+    let mut i = label.len();
+    while 0 < i {
+        if 16777216 <= key {
+            return key % 509;
+        }
+        i -= 1;
+        key = with_byte(key, label[i]);
+    }
+    key % 509
+}
+
+// Where the table of groups keeps, behind the 512 nodes, 1 + the latest node that began a group and whose label ends as that of the node x.
 fn latest_at(text: &[u8], nodes: &[usize], x: usize) -> usize
     ensures { λ r. ⌜ 512 ≤ r ⌝ }
 {
-    let whole = label(text, nodes, x);
-    if whole.len() < 4 {
-        return 512;
-    }
-    let last = text::after(whole, whole.len() - 4);
-    512 + text::hash(last) % 512
+    512 + ending(label(text, nodes, x))
 }
 
 // Puts the node x into the group of that latest node, where the two are alike, and else into one of its own.

@@ -20,7 +20,7 @@ unfolding onto
 onto-append true x p ps qs = refl
 onto-append false x p ps qs = refl
 
-pub split-append : (b : ℕ) (s t : Bytes) → split b (s ++ (b ∷ t)) ≡ split b s ++ split b t
+split-append : (b : ℕ) (s t : Bytes) → split b (s ++ (b ∷ t)) ≡ split b s ++ split b t
 unfolding split onto
 split-append b [] t = ap (λ (c : Bool). onto c b (split b t)) (eqb-self b)
 split-append b (x ∷ s) t =

@@ -1,5 +1,5 @@
--- The check as it was, when labels matched by their bytes: it passes exactly the sheets that pass and list no pair whose labels differ in their bytes.
-use mathlib.Core.Path.{_≡_, ap}
+-- The check with labels that match by their bytes passes exactly the sheets that pass and list no pair whose labels differ in their bytes.
+use mathlib.Core.Path.{_≡_, sym, ap, _∙_}
 use mathlib.Core.Logic.{_↔_}
 use mathlib.Core.Bool.{true}
 use mathlib.Core.List.{List}
@@ -14,9 +14,9 @@ use Rattle.rules.specs.Closing.{Coverage, alike}
 use Rattle.rules.specs.Sheet.{Sheet}
 use Rattle.rules.specs.Check.{broken, rule1, rule2, rule3, rule4, rule5}
 use Rattle.rules.specs.Job.{outcome, passed}
-use Rattle.rules.specs.Former.{formerAlike, formerBroken, formerCheckAnswer, formerJudged, formerRule2}
+use Rattle.rules.specs.Former.{formerAlike, formerBroken, formerCheckAnswer, formerRule2}
 use Rattle.rules.specs.Promises.{PassedFormerly, Passes}
-use Rattle.rules.specs.Proofs.ClosingLaws.{sameLabel-of}
+use Rattle.rules.specs.Proofs.ClosingLaws.{alike-parts, sameLabel-of}
 use Rattle.rules.specs.Proofs.JobLaws.{Passed, outcome-wrote, wrote-choose}
 use Rattle.rules.specs.Proofs.SheetLayout.{passes-from, passing-read}
 use Rattle.rules.specs.Proofs.TextLaws.{same-of, same-true}
@@ -24,15 +24,17 @@ use Rattle.rules.specs.Proofs.TextLaws.{same-of, same-true}
 module _ (old new : Program) where
   -- Nodes that were alike are alike, and have labels of equal bytes; and the other way.
   former-alike : (n n′ : ℕ) → formerAlike old new n n′ ≡ true → (alike old new n n′ ≡ true) × (labelAt old n ≡ labelAt new n′)
-  unfolding formerAlike alike
+  unfolding formerAlike
   former-alike n n′ h =
       let t = and-right _ _ h in
       let e = same-true _ _ (and-left _ _ t) in
-      (and-both (and-left _ _ h) (and-both (sameLabel-of _ _ (ap squeezed e)) (and-right _ _ t)), e)
+      (alike-parts old new n n′ ∙ and-both (and-left _ _ h) (and-both (sameLabel-of _ _ (ap squeezed e)) (and-right _ _ t)), e)
 
   alike-former : (n n′ : ℕ) → alike old new n n′ ≡ true → labelAt old n ≡ labelAt new n′ → formerAlike old new n n′ ≡ true
-  unfolding formerAlike alike
-  alike-former n n′ h e = and-both (and-left _ _ h) (and-both (same-of e) (and-right _ _ (and-right _ _ h)))
+  unfolding formerAlike
+  alike-former n n′ h e =
+      let p = sym (alike-parts old new n n′) ∙ h in
+      and-both (and-left _ _ p) (and-both (same-of e) (and-right _ _ (and-right _ _ p)))
 
   -- No rule was broken: none is, and the labels of listed pairs have equal bytes; and the other way.
   former-broken : (suite : List Coverage) (s : Sheet) → formerBroken old new suite s ≡ 0
@@ -59,7 +61,7 @@ module _ (old new : Program) where
       none-failed 1 _ a (none-failed 2 _ two (none-failed 3 _ c (none-failed 4 _ d (none-failed 5 _ f (none-left 6)))))
 
 former-passes : (old new tests sheet : Bytes) → formerCheckAnswer old new tests sheet ≡ passed → PassedFormerly old new tests sheet
-unfolding formerCheckAnswer formerJudged
+unfolding formerCheckAnswer
 former-passes old new tests sheet e =
     let u = outcome-wrote _ _ _ e in
     let v = outcome-wrote _ _ _ (u .2) in
@@ -70,7 +72,7 @@ former-passes old new tests sheet e =
     record { passes = passes-from p; labels = b .1 }
 
 passes-former : (old new tests sheet : Bytes) → PassedFormerly old new tests sheet → formerCheckAnswer old new tests sheet ≡ passed
-unfolding formerCheckAnswer formerJudged outcome
+unfolding formerCheckAnswer outcome
 passes-former old new tests sheet f =
     let p = f .passes in
     let g = p .given in

@@ -1,5 +1,5 @@
 use borrow.Author.Needs.{needs}
-use Rattle.text.proofs.Laws.{all}
+use Rattle.text.proofs.Labels.{labels}
 use Prim.Native.Nat.{_+_, _≤_, _-_}
 use mathlib.Core.Path.{_≡_}
 use lib.ListN.{length, drop}
@@ -14,25 +14,25 @@ abbrev μ-loop : tie.MeasureT-loop
 μ-loop s n i₀ i = length s - i
 
 loop-holds : tie.Need-loop-holds Inv-loop μ-loop
-loop-holds c = search (all, needs)
+loop-holds c = search (labels, needs)
 
 shared-slice-read-if1 : tie.Need-shared-slice-read-if1 Inv-loop μ-loop
-shared-slice-read-if1 c = search (all, needs)
+shared-slice-read-if1 c = search (labels, needs)
 
 returns : tie.Need-returns Inv-loop μ-loop
-returns c = search (all, needs)
+returns c = search (labels, needs)
 
 add-i : tie.Need-add-i Inv-loop μ-loop
-add-i c = search (all, needs)
+add-i c = search (labels, needs)
 
 loop-less : tie.Need-loop-less Inv-loop μ-loop
-loop-less c = search (all, needs)
+loop-less c = search (labels, needs)
 
 loop-again : tie.Need-loop-again Inv-loop μ-loop
-loop-again c = search (all, needs)
+loop-again c = search (labels, needs)
 
 returns-2 : tie.Need-returns-2 Inv-loop μ-loop
-returns-2 c = search (all, needs)
+returns-2 c = search (labels, needs)
 
 pub past-blanks-spec : {M : Type 1} → statement M
 past-blanks-spec =

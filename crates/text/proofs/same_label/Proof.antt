@@ -1,5 +1,5 @@
 use borrow.Author.Needs.{needs}
-use Rattle.text.proofs.Laws.{all}
+use Rattle.text.proofs.Labels.{labels}
 use Rattle.text.proofs.same_label.Statement.{statement}
 use Rattle.text.proofs.same_label.Tie as tie
 
@@ -7,13 +7,13 @@ same-long-requires : tie.Need-same-long-requires
 same-long-requires c κs = search needs
 
 returns : tie.Need-returns
-returns c = search (all, needs)
+returns c = search (labels, needs)
 
 ends-differ-requires : tie.Need-ends-differ-requires
 ends-differ-requires c κs = search needs
 
 returns-2 : tie.Need-returns-2
-returns-2 c = search (all, needs)
+returns-2 c = search (labels, needs)
 
 same-squeezed-requires : tie.Need-same-squeezed-requires
 same-squeezed-requires c κs = search needs
