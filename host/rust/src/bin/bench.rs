@@ -3,7 +3,9 @@
 //! many times the library's is the other's.
 
 use rivetyellow_host::calls::{Calls, INDEPENDENT, LINKED};
+use rivetyellow_host::generate::labels::format_some;
 use rivetyellow_host::generate::limits::{deep, groups, many_tests, ring, wide};
+use rivetyellow_host::generate::limits::{formatted_ring, put_blanks};
 use rivetyellow_host::generate::model::{joined, Program, Sheet};
 use rivetyellow_host::generate::random::Random;
 use rivetyellow_host::generate::sheets::all_alike;
@@ -43,6 +45,15 @@ fn largest_sheet(texts: &Texts) -> Vec<u8> {
     joined(&sheet.lines(|test| job.suite.name(test).to_vec()))
 }
 
+/// The selector's sheet.
+fn own_sheet(texts: &Texts) -> Vec<u8> {
+    let mut out = vec![0; 65_536];
+    let answer = (INDEPENDENT.sheet)(&texts.old, &texts.new, &texts.tests, &mut out);
+    assert!(answer.is_success(), "refused: {answer}");
+    out.truncate(answer.place as usize);
+    out
+}
+
 /// A case is run by one implementation at the given turn.
 type Run<'t> = Box<dyn Fn(&Calls, usize) -> u64 + 't>;
 
@@ -68,6 +79,14 @@ fn write_records(texts: &Texts, count: usize) -> Run<'_> {
     })
 }
 
+fn check<'t>(texts: &'t Texts, sheet: &'t [u8]) -> Run<'t> {
+    Box::new(|calls, _| {
+        let answer = (calls.check)(&texts.old, &texts.new, &texts.tests, sheet);
+        assert!(answer.is_success(), "{} refuses: {answer}", calls.name);
+        answer.packed()
+    })
+}
+
 fn median(mut times: Vec<Duration>) -> Duration {
     times.sort();
     times[times.len() / 2]
@@ -83,10 +102,24 @@ fn main() {
     let tests = many_tests(&mut random, 200, 1_024, 30);
     let full = Texts::new(&distinct, &distinct, tests.clone());
     let grouped = [groups(&mut random, 8), groups(&mut random, 8)];
-    let groups = Texts::new(&grouped[0], &grouped[1], tests);
+    let groups = Texts::new(&grouped[0], &grouped[1], tests.clone());
     let rings = Texts::new(&ring(46), &ring(89), Vec::new());
     let calls_deep = Texts::new(&deep(64), &deep(64), Vec::new());
     let largest = largest_sheet(&groups);
+
+    // Blanks moved in every label.
+    let mut blanks = distinct;
+    put_blanks(&mut blanks);
+    let mut moved = blanks.clone();
+    format_some(&mut random, &mut moved, 100);
+    let formatted = Texts::new(&blanks, &moved, tests);
+    let own = own_sheet(&formatted);
+    let label = b"turn the drum until one layer of rope is on";
+    let rings_formatted = Texts::new(
+        &formatted_ring(&mut random, 46, label),
+        &formatted_ring(&mut random, 89, label),
+        Vec::new(),
+    );
 
     let cases: Vec<(&str, Run)> = vec![
         (
@@ -106,18 +139,20 @@ fn main() {
             "sheet: 64 procedures deep in calls",
             write_sheet(&calls_deep),
         ),
-        (
-            "check: the largest sheet",
-            Box::new(|calls, _| {
-                let answer = (calls.check)(&groups.old, &groups.new, &groups.tests, &largest);
-                assert!(answer.is_success(), "{} refuses: {answer}", calls.name);
-                answer.packed()
-            }),
-        ),
+        ("check: the largest sheet", check(&groups, &largest)),
         ("record: one line of 200", write_records(&full, 200)),
         (
             "record: the same, 8 partners of each step",
             write_records(&groups, 200),
+        ),
+        (
+            "sheet: 512 nodes, blanks moved in labels",
+            write_sheet(&formatted),
+        ),
+        ("check: this sheet", check(&formatted, &own)),
+        (
+            "sheet: rings 46 x 89, blanks moved in labels",
+            write_sheet(&rings_formatted),
         ),
     ];
 

@@ -1,13 +1,17 @@
 //! `differential SEED COUNT`: compares the linked library with the independent
 //! implementation on COUNT generated jobs, every call of each, answers and
 //! lent bytes. Exits 1 on a difference; the first one's job is left in
-//! `differential-job`. Without the library it exits 2 after the statistics.
+//! `differential-job`. So it does if COUNT is 20,000 or more and labels that
+//! match with other bytes, or that nearly match, were met too seldom. Without
+//! the library it exits 2 after the statistics.
 
 use rivetyellow_host::answer::{meaning, Answer};
 use rivetyellow_host::calls::{Calls, INDEPENDENT, LINKED};
+use rivetyellow_host::generate::labels::parts;
 use rivetyellow_host::generate::random::Random;
+use rivetyellow_host::generate::sheets::label;
 use rivetyellow_host::generate::{self, Generated};
-use rivetyellow_host::independent::closing;
+use rivetyellow_host::independent::closing::{self, Closing, Graph};
 use rivetyellow_host::independent::job::Job;
 use rivetyellow_host::independent::program::Kind;
 use rivetyellow_host::independent::suite::meet;
@@ -34,6 +38,28 @@ const SHEET: usize = 3;
 const RECORD: usize = 4;
 const PROGRAM: usize = 6;
 
+/// Pairs whose labels match with other bytes; ends of edges with one word that
+/// are not alike only because their labels, which nearly match, do not.
+const OTHER_BYTES: &str = "pairs alike by labels of other bytes";
+const OTHER_JOBS: &str = "accepted jobs with pairs alike by labels of other bytes";
+const OTHER_CALLS: &str = "pairs of calls alike by labels of other bytes";
+const BLANKS_ONLY: &str = "pairs alike by labels of blanks only, of other lengths";
+const BLANK_MORE: &str = "ends not alike by labels equal without all blanks";
+const BLANK_FOR_BYTE: &str = "ends not alike by labels with a blank for another byte";
+const LONGER: &str = "ends not alike by labels of which one begins the other";
+
+/// In so many jobs each of these is met so often.
+const ENOUGH: u64 = 20_000;
+const MET: [(&str, u64); 7] = [
+    (OTHER_BYTES, 10_000),
+    (OTHER_JOBS, 1_000),
+    (OTHER_CALLS, 1_000),
+    (BLANKS_ONLY, 500),
+    (BLANK_MORE, 500),
+    (BLANK_FOR_BYTE, 500),
+    (LONGER, 500),
+];
+
 #[derive(Default)]
 struct Statistics {
     /// Answers by call and number.
@@ -46,6 +72,56 @@ struct Statistics {
 impl Statistics {
     fn count(&mut self, what: &'static str, holds: bool) {
         *self.counts.entry(what).or_default() += u64::from(holds);
+    }
+
+    /// What was met less often than it must be.
+    fn unmet(&self) -> Vec<&'static str> {
+        let met = |what| self.counts.get(what).copied().unwrap_or_default();
+        let unmet = MET.iter().filter(|(what, least)| met(what) < *least);
+        unmet.map(|(what, _)| *what).collect()
+    }
+
+    /// Counts pairs and ends by their labels.
+    fn labels(&mut self, old: &Graph, new: &Graph, closed: &Closing) {
+        for &(n, m) in &closed.pairs.list {
+            let (one, other) = (label(old, n), label(new, m));
+            let call = old.kind(n) == Kind::Call;
+            if one != other {
+                self.count(OTHER_BYTES, true);
+                self.count(OTHER_CALLS, call);
+                self.count(BLANKS_ONLY, parts(one).is_empty());
+            }
+            if call && !goes_on(old, new, closed, n, m) {
+                continue;
+            }
+            for edge in old.leaving(n) {
+                let mut others = new.leaving(m).iter();
+                if let Some(other) = others.find(|other| other.word == edge.word) {
+                    if other.class != edge.class {
+                        self.near(old, new, edge.end, other.end);
+                    }
+                }
+            }
+        }
+    }
+
+    /// Counts two nodes that are not alike.
+    fn near(&mut self, old: &Graph, new: &Graph, n: u16, m: u16) {
+        let callee = |graph: &Graph, node| match graph.kind(node) {
+            Kind::Call => graph.program.procedures[graph.callee(node) as usize].name,
+            _ => 0,
+        };
+        if old.kind(n) != new.kind(m) || callee(old, n) != callee(new, m) {
+            return;
+        }
+        let (one, other) = (parts(label(old, n)), parts(label(new, m)));
+        self.count(BLANK_MORE, one.concat() == other.concat());
+        let (one, other) = (one.join(&b' '), other.join(&b' '));
+        let blank = |(a, b): (&u8, &u8)| a == b || *a == b' ' || *b == b' ';
+        let bytes = one.iter().zip(&other);
+        let same = one.len() == other.len();
+        self.count(BLANK_FOR_BYTE, same && bytes.clone().all(blank));
+        self.count(LONGER, !same && bytes.clone().all(|(a, b)| a == b));
     }
 
     fn answer(&mut self, call: usize, answer: Answer) {
@@ -292,13 +368,16 @@ impl<'g> Comparison<'g> {
         for &(n, m) in &closed.pairs.list {
             *partners.entry(n).or_insert(0) += 1;
             if old.kind(n) == Kind::Call {
-                let exits = (old.ends(old.callee(n)).1, new.ends(new.callee(m)).1);
-                let goes_on = closed.pairs.contains(exits.0, exits.1);
+                let goes_on = goes_on(&old, &new, &closed, n, m);
                 going |= goes_on;
                 staying |= !goes_on;
             }
         }
         let statistics = &mut *self.statistics;
+        statistics.labels(&old, &new, &closed);
+        let mut pairs = closed.pairs.list.iter();
+        let other = pairs.any(|&(n, m)| label(&old, n) != label(&new, m));
+        statistics.count(OTHER_JOBS, other);
         statistics.count("accepted jobs", true);
         statistics.count("accepted jobs with D lines", danger);
         statistics.count("accepted jobs without D lines", !danger);
@@ -323,6 +402,12 @@ impl<'g> Comparison<'g> {
             statistics.count("left-off tests with all three marks", all);
         }
     }
+}
+
+/// Whether a pair of calls may go on.
+fn goes_on(old: &Graph, new: &Graph, closed: &Closing, n: u16, m: u16) -> bool {
+    let exits = (old.ends(old.callee(n)).1, new.ends(new.callee(m)).1);
+    closed.pairs.contains(exits.0, exits.1)
 }
 
 /// Leaves the job of a difference as files.
@@ -377,8 +462,12 @@ fn main() {
     }
     println!("seed {seed}, {count} jobs, {} s", start.elapsed().as_secs());
     statistics.print();
+    let unmet = statistics.unmet();
+    if count >= ENOUGH && !unmet.is_empty() {
+        println!("met too seldom: {}", unmet.join(", "));
+    }
     println!("{differing} jobs differ");
-    if differing > 0 {
+    if differing > 0 || (count >= ENOUGH && !unmet.is_empty()) {
         process::exit(1);
     }
     if linked.is_none() {

@@ -67,29 +67,27 @@ pub fn near(random: &mut Random, label: &[u8]) -> Bytes {
     let count = parts.len();
     let inner = (count > 1).then(|| random.below(count - 1));
     let at = random.below(count.max(1));
-    match (random.below(16), inner) {
+    match (random.below(32), inner) {
         _ if count == 0 => parts.push(vec![*random.pick(b"!_a")]),
-        (0..=3, Some(first)) => {
+        (0..=7, Some(first)) => {
             let next = parts.remove(first + 1);
             parts[first].extend(next);
         }
-        (4..=6, Some(first)) => {
+        (8..=15, Some(first)) => {
             let next = parts.remove(first + 1);
             parts[first].push(*random.pick(OTHERS));
             parts[first].extend(next);
         }
-        (7, Some(first)) => parts.swap(first, first + 1),
-        (8, Some(_)) => {
+        (16, Some(first)) => parts.swap(first, first + 1),
+        (17, Some(_)) => {
             parts.pop();
         }
-        (9, _) => parts.push(b"a".to_vec()),
-        (10, _) => {
-            parts[count - 1].push(b'a');
-        }
-        (11, _) if parts[count - 1].len() > 1 => {
+        (18, _) => parts.push(b"a".to_vec()),
+        (19, _) => parts[count - 1].push(b'a'),
+        (20, _) if parts[count - 1].len() > 1 => {
             parts[count - 1].pop();
         }
-        (12, _) => {
+        (21, _) => {
             let byte = random.below(parts[at].len());
             parts[at][byte] ^= 1;
         }

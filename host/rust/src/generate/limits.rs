@@ -1,5 +1,6 @@
 //! Jobs at the limits and one above them.
 
+use super::labels::{format_some, formatted, labelled, near, LABEL_LIMIT};
 use super::model::{put_line, row, Bytes, Procedure, Program};
 use super::random::Random;
 
@@ -33,6 +34,25 @@ fn word(at: usize) -> [u8; 8] {
 /// A label of 60 bytes.
 fn label(number: usize) -> Bytes {
     format!("{number:0>60}").into_bytes()
+}
+
+/// Puts several runs of blanks into each label of 60 bytes, so that there are
+/// some to move; labels that differ at their end stay such.
+pub fn put_blanks(program: &mut Program) {
+    for node in labelled(program) {
+        for at in [3, 8, 9, 17, 21, 22, 23, 30, 38, 39, 47] {
+            node.label[at] = b' ';
+        }
+    }
+}
+
+/// A ring whose steps have one label, its blanks moved in each.
+pub fn formatted_ring(random: &mut Random, count: usize, label: &[u8]) -> Program {
+    let mut made = ring(count);
+    for node in labelled(&mut made) {
+        node.label = formatted(random, label);
+    }
+    made
 }
 
 /// One procedure of `nodes` nodes and `edges` edges, its steps in groups of
@@ -273,7 +293,18 @@ pub fn heavy(random: &mut Random) -> Texts {
                 (510, 510),
                 (7, 509),
             ]);
-            let (old, new) = (ring(one), ring(other));
+            let (mut old, mut new) = (ring(one), ring(other));
+            if random.percent(40) {
+                new = formatted_ring(random, other, b"turn");
+            }
+            if random.percent(30) {
+                old = formatted_ring(random, one, b"turn the drum");
+                new = formatted_ring(random, other, b"turn the drum");
+            }
+            if random.one_in(6) {
+                let label = &mut new.procedures[0].nodes[other].label;
+                *label = near(random, label);
+            }
             let mut texts = Texts::both(&old, &new);
             let count = random.below(4);
             texts.tests = many_tests(random, count, old.edges(), 50);
@@ -281,13 +312,18 @@ pub fn heavy(random: &mut Random) -> Texts {
         }
         5 => {
             let alike = *random.pick(&[1, 2, 7, 8, 9]);
-            let (old, mut new) = match random.percent(50) {
+            let (mut old, mut new) = match random.percent(50) {
                 true => (groups(random, alike), groups(random, alike)),
                 false => {
                     let old = wide(random, 512, 1_024, alike);
                     (old.clone(), old)
                 }
             };
+            if random.percent(50) {
+                put_blanks(&mut old);
+                put_blanks(&mut new);
+                format_some(random, &mut new, 100);
+            }
             for _ in 0..random.below(6) {
                 let edge = random.below(1_024);
                 new.procedures[0].edges[edge].to = random.within(1, 511);
@@ -298,7 +334,7 @@ pub fn heavy(random: &mut Random) -> Texts {
             texts
         }
         6 => {
-            let old = deep(64);
+            let mut old = deep(64);
             let mut new = old.clone();
             if random.percent(50) {
                 new.procedures[1..].reverse();
@@ -306,6 +342,11 @@ pub fn heavy(random: &mut Random) -> Texts {
             if random.percent(50) {
                 let at = random.below(64);
                 new.procedures[at].nodes[1].label[0] = b'x';
+            }
+            if random.percent(50) {
+                put_blanks(&mut old);
+                put_blanks(&mut new);
+                format_some(random, &mut new, 100);
             }
             let mut texts = Texts::both(&old, &new);
             texts.tests = many_tests(random, 20, 1_024, 30);
@@ -318,7 +359,10 @@ pub fn heavy(random: &mut Random) -> Texts {
 
 /// Sheets of 4,096 and 4,097 M lines for rings with 4,097 pairs.
 pub fn many_pairs(random: &mut Random) -> Texts {
-    let (old, new) = (ring(63), ring(65));
+    let (old, mut new) = (ring(63), ring(65));
+    if random.percent(40) {
+        new = formatted_ring(random, 65, b"turn");
+    }
     let mut texts = Texts::both(&old, &new);
     let mut pairs = vec![(0, 0)];
     pairs.extend((1..=63).flat_map(|n| (1..=65).map(move |m| (n, m))));
@@ -415,9 +459,7 @@ pub fn light(random: &mut Random) -> Texts {
             }
         }
         1 => fan_of.name = vec![b'n'; 12 + over],
-        2 => {
-            fan_of.nodes[1].label = vec![b'l'; 60 + over];
-        }
+        2 => fan_of.nodes[1].label = long_label(random, LABEL_LIMIT + over),
         3 => {
             fan_of.edges[1].word = vec![b'w'; 8 + over];
         }
@@ -438,6 +480,27 @@ pub fn light(random: &mut Random) -> Texts {
         _ => return long_number(random, &usual),
     }
     Texts::one_of(random, &usual, program.text())
+}
+
+/// A label of this length. Without spare blanks it may be the usual one, or
+/// have no bytes: it is the bytes given that are counted.
+fn long_label(random: &mut Random, length: usize) -> Bytes {
+    let mut label = vec![b' '; length];
+    let usual = b"choose";
+    match random.below(4) {
+        0 => label.fill(b'l'),
+        1 => (),
+        2 => {
+            let at = random.below(length - usual.len() + 1);
+            label[at..at + usual.len()].copy_from_slice(usual);
+        }
+        _ => {
+            label.fill(b'l');
+            let at = random.below(length);
+            label[at] = b' ';
+        }
+    }
+    label
 }
 
 /// A number of any length in some field.

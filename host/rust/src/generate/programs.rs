@@ -25,7 +25,7 @@ const LABELS: [&[u8]; 18] = [
     b"a b",
     b"a  b",
     b"a ",
-    b" a",
+    b" a b c",
     b"read layer",
     b"set speed",
     b"setspeed",
@@ -80,10 +80,22 @@ impl Pools {
             labels: some(random, &LABELS, labels),
             words: some(random, &WORDS, words),
             moved: *random.pick(&[0, 0, 0, 10, 60]),
-            near: *random.pick(&[0, 0, 0, 4, 12]),
+            near: *random.pick(&[0, 0, 0, 5, 12]),
         };
         if random.one_in(8) {
             pools.labels[0] = labels::long(random);
+        }
+        if random.percent(30) {
+            // All match the first one, or nearly.
+            let first = match random.percent(60) {
+                true => random.pick(&[&b"set speed"[..], b"a b c"]).to_vec(),
+                false => pools.labels[0].clone(),
+            };
+            pools.labels.fill_with(|| match random.percent(60) {
+                true => near(random, &first),
+                false => formatted(random, &first),
+            });
+            pools.labels.push(first);
         }
         pools
     }
@@ -224,10 +236,10 @@ fn reformat(random: &mut Random, program: &mut Program) {
         3 => format_some(random, program, 30),
         _ => (),
     }
-    if random.one_in(6) {
+    if random.percent(45) {
         let mut nodes: Vec<&mut Node> = labelled(program).collect();
         random.shuffle(&mut nodes);
-        for node in nodes.into_iter().take(random.within(1, 2)) {
+        for node in nodes.into_iter().take(random.within(1, 4)) {
             node.label = near(random, &node.label);
             // Byte 9 is no blank, and of no label.
             if random.one_in(40) {

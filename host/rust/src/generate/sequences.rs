@@ -3,7 +3,7 @@
 //! the job or a length is spoilt, and made right again afterwards.
 
 use super::damage::{self, damage, parts, spoil_program, twin, Part};
-use super::limits::{self, many_tests, ring};
+use super::limits::{self, formatted_ring, many_tests, ring};
 use super::random::Random;
 use super::{finish, mostly_right, Generated};
 use crate::answer::Answer;
@@ -75,9 +75,13 @@ fn many_pairs(random: &mut Random) -> Generated {
     }
     let (old, new) = *random.pick(&[(46, 89), (63, 65), (65, 63)]);
     let tests = random.below(3);
+    let new = match random.percent(40) {
+        true => formatted_ring(random, new, b"turn"),
+        false => ring(new),
+    };
     Generated {
         old: ring(old).text(),
-        new: ring(new).text(),
+        new: new.text(),
         tests: many_tests(random, tests, 2 * old + 1, 50),
         sheet: Bytes::new(),
         passes: false,
@@ -509,6 +513,7 @@ impl Maker<'_> {
                 damage(self.random, &mut bytes);
                 "a text damaged"
             }
+            5..=6 if self.other_blank(&mut bytes) => "a label with a blank more or less",
             5..=8 if !bytes.is_empty() => {
                 self.other_byte(&mut bytes);
                 "a byte of a text changed for one like it"
@@ -544,6 +549,23 @@ impl Maker<'_> {
         };
         self.driver.lend_text(text, &bytes);
         (what, mend)
+    }
+
+    /// Changes a byte of a label for a blank, or a blank for a byte. The tables
+    /// stay what reading leaves, and the label may match others now.
+    fn other_blank(&mut self, bytes: &mut Bytes) -> bool {
+        let labels = parts(bytes).into_iter();
+        let labels: Vec<_> = labels.filter(|(part, _)| *part == Part::Label).collect();
+        if labels.is_empty() || self.random.percent(30) {
+            return false;
+        }
+        let (_, place) = self.random.pick(&labels).clone();
+        let at = self.random.within(place.start, place.end - 1);
+        bytes[at] = match bytes[at] {
+            b' ' => *self.random.pick(b"a_!"),
+            _ => b' ',
+        };
+        true
     }
 
     /// Changes a letter or digit for another. In a name or label the tables

@@ -17,14 +17,18 @@ pub struct Made {
 }
 
 /// A stranger's sheet that passes. Its list may hold more pairs than the
-/// closing rules give, or fewer where it cuts at an edge.
+/// closing rules give, or fewer where it cuts at an edge. Some sheets were
+/// stored when labels matched only if their bytes were equal; they still pass.
 pub fn stranger(random: &mut Random, job: &Job) -> Sheet {
     let (old, new) = job.graphs();
     let mut sheet = Sheet::default();
     sheet
         .pairs
         .insert((old.ends(0).0 as usize, new.ends(0).0 as usize));
-    let alike = all_alike(&old, &new);
+    let stored = random.one_in(4);
+    let listed = |n: u16, m: u16| !stored || label(&old, n) == label(&new, m);
+    let mut alike = all_alike(&old, &new);
+    alike.retain(|&(n, m)| listed(n as u16, m as u16));
     match random.below(4) {
         0 if alike.len() <= PAIR_LIMIT => sheet.pairs.extend(&alike),
         1 => {
@@ -35,7 +39,9 @@ pub fn stranger(random: &mut Random, job: &Job) -> Sheet {
         _ => (),
     }
     let kept = *random.pick(&[0, 60, 90, 100]);
-    close(random, &old, &new, &mut sheet.pairs, kept);
+    close(&old, &new, &mut sheet.pairs, |n, m| {
+        random.percent(kept) && listed(n, m)
+    });
     complete(job, &old, &new, &mut sheet);
     if random.percent(40) {
         for _ in 0..random.within(1, 3) {
@@ -62,14 +68,18 @@ pub fn all_alike(old: &Graph, new: &Graph) -> Vec<(usize, usize)> {
     pairs
 }
 
-/// Adds the entries of callees, and `kept` in a hundred of the ends that
-/// rule 3 gives.
+/// The bytes of a node's label.
+pub fn label<'p>(graph: &Graph<'p>, node: u16) -> &'p [u8] {
+    graph.program.nodes[node as usize].label
+}
+
+/// Adds the entries of callees, and of the ends that rule 3 gives those that
+/// are kept.
 fn close(
-    random: &mut Random,
     old: &Graph,
     new: &Graph,
     pairs: &mut BTreeSet<(usize, usize)>,
-    kept: usize,
+    mut kept: impl FnMut(u16, u16) -> bool,
 ) {
     let mut work: Vec<(usize, usize)> = pairs.iter().copied().collect();
     while let Some((n, m)) = work.pop() {
@@ -81,8 +91,9 @@ fn close(
         }
         for edge in old.leaving(n) {
             for other in new.leaving(m) {
-                if edge.word == other.word && edge.class == other.class && random.percent(kept) {
-                    found.push((edge.end, other.end));
+                let (n, m) = (edge.end, other.end);
+                if edge.word == other.word && edge.class == other.class && kept(n, m) {
+                    found.push((n, m));
                 }
             }
         }

@@ -104,6 +104,30 @@ fn p8() {
     assert_eq!(answer, Answer::new(12, 4));
 }
 
+/// P2's old program with blanks moved in the new one, then with labels that
+/// nearly match.
+#[test]
+fn blanks_in_labels() {
+    let new = P2_OLD.replace("read~layer", "~read~~~layer~~");
+    let new = new
+        .replace("set~speed", "set~~speed")
+        .replace("hold", "hold~");
+    assert_eq!(
+        sheet_of(P2_OLD, &new, P2_TESTS),
+        text("sheet,1 M,0,0 M,1,1 M,2,2 M,3,3 M,4,4 end,5,0,0")
+    );
+    let second = record_of(P2_OLD, &new, P2_TESTS, 1);
+    assert_eq!(second, text("V,t2,5,11111"));
+    for near in ["setspeed", "set~speed~b", "set_speed", "s~et~speed", "~~"] {
+        let new = new.replace("set~~speed", near);
+        assert_eq!(dangers(&sheet_of(P2_OLD, &new, "")), ["D,1"], "{near}");
+    }
+    let blank = P2_OLD.replace("hold", "~");
+    let blanks = P2_OLD.replace("hold", "~~~");
+    assert!(dangers(&sheet_of(&blank, &blanks, "")).is_empty());
+    assert_eq!(dangers(&sheet_of(&blank, P2_OLD, "")), ["D,2"]);
+}
+
 #[track_caller]
 fn program(lines: &str, number: u32, place: u32) {
     assert_eq!(
