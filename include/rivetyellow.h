@@ -100,9 +100,9 @@ enum {
     /* The sheet's layout is right but a claim of it is false. Place: the first
        broken rule, 1 to 5:
          1 the entries of the two first procedures are listed;
-         2 listed pairs are alike: kind and callee are equal, and the labels are
-           after dropping blanks (byte 32) at both ends and taking each inner
-           run of them as one;
+         2 listed pairs are alike: equal kinds, equal callees, and labels that
+           are equal after dropping blanks (byte 32) at both ends and taking
+           each inner run of them as one;
          3 for a listed pair of calls the callee's entries are listed;
          4 each old edge of a listed pair that may go on is listed under D, or
            the new node has its word and the ends are listed;

@@ -1,19 +1,19 @@
 -- Programs written back from a lent job (document 02, job 1): what 14 asks of the two texts, in the document's words, and that what the tables write back is just that.
-use mathlib.Core.Path.{_≡_, refl, sym, ap, ap₂, _∙_, subst}
+use mathlib.Core.Path.{_≡_, refl, sym, ap, ap₂, _∙_}
 use mathlib.Core.Logic.{_↔_, ⊎-elim}
 use mathlib.Core.Bool.{Bool, true, false}
 use mathlib.Core.Option.{Option, none, some}
 use mathlib.Core.List.{List, _++_}
-use Prim.Native.Nat.{ℕ, zero, suc, _≤_, _<_}
+use Prim.Native.Nat.{ℕ, _≤_, _<_}
 use native.Mathlib.Omega.{arith}
 use lib.ListN.{drop, length, take}
 use lib.Seq.{take-all}
 use Rattle.laws.specs.Tests.{_and_, after, choose}
 use Rattle.laws.specs.TestLaws.{and-both, and-left, and-right}
 use Rattle.laws.specs.Lists.{choose-yes}
-use Rattle.rules.specs.Text.{Bytes, Reading, accepted, maxBytes}
+use Rattle.rules.specs.Text.{Bytes, Reading, maxBytes}
 use Rattle.rules.specs.Graph.{edgeCount, nodeCount, procCount}
-use Rattle.rules.specs.ProgramFile.{Listing, readListing}
+use Rattle.rules.specs.ProgramFile.{Listing}
 use Rattle.rules.specs.Layout.{writeProgram}
 use Rattle.rules.specs.Job.{Given, Request, answering, bySide, outcome, refusal, requestBy, serving, write-program, writingBack, written, wrote}
 use Rattle.rules.specs.WriteBack.{otherAlone}
@@ -30,7 +30,7 @@ use Rattle.writeback.specs.PartLaws.{parts-same}
 use Rattle.writeback.specs.BackLaws.{back-text-is}
 use Rattle.lent_job.specs.Held.{AllRead, Lent, jobTests, lent, numbers, versionLeft}
 use Rattle.lent_job.specs.HeldLaws.{after-some, chosen-some, held-tests-parts, version-long, version-memory, version-read, version-sound}
-use Rattle.lent_job.specs.Calls.{Called, LentJob, givenBy, goesBy, held, heldBack, holding, lentCall, lentJob, limited, newBack, newCount, oldBack, oldCount, othersAlone, requestScratch, takesParts, textBack, withTexts, writtenBack}
+use Rattle.lent_job.specs.Calls.{Called, LentJob, givenBy, held, heldBack, holding, lentCall, lentJob, limited, newBack, newCount, oldBack, oldCount, othersAlone, requestScratch, takesParts, textBack, withTexts, writtenBack}
 use Rattle.lent_job.specs.DueLaws.{goes-held, goes-on, held-stage}
 use Rattle.lent_job.specs.Progress.{program-of}
 use Rattle.lent_job.specs.Answers.{call-written, text-short, texts-given}

@@ -154,7 +154,7 @@ p2-moved = job layers blanks-moved two-tests
 -- At both ends and in a row blanks count for nothing, within `hold` one does; a label of blanks only matches another such one. The sheet that was written passed and passes; the new one would not have passed. Files and
 -- shown labels keep their blanks.
 pub blanks : List Example
-unfolding writes checks formerly back shows job p2-moved blanks-moved one-blank three-blanks winds
+unfolding writes checks formerly back shows job p2-moved blanks-moved one-blank three-blanks
 blanks =
     writes p2-moved "sheet,1\nM,0,0\nM,1,1\nM,2,2\nD,2\nR,t1\nR,t2\nend,3,1,2\n"
     ∷ formerly p2-moved "sheet,1\nM,0,0\nD,0\nR,t1\nR,t2\nend,1,1,2\n" passed
@@ -165,7 +165,7 @@ blanks =
     ∷ shows blanks-moved 1 "  read   layer"
     ∷ []
 
--- Labels one by one: only byte 32 is a blank, one between two words counts, and the longer label is compared to its end.
+-- Labels one by one: only byte 32 is a blank, one between two other bytes counts, and the longer label is compared to its end.
 labels-compared : (sameLabel (bytes " set   speed") (bytes "set speed  ") ≡ true)
     × (sameLabel (bytes "set speed") (bytes "setspeed") ≡ false)
     × (sameLabel (bytes "set speed") (bytes "set\tspeed") ≡ false)

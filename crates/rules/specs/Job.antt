@@ -143,7 +143,7 @@ recording limit over g i room = choose (ltb i (testCount (g .suite))) (writing l
 
 -- ---- checking
 
--- By the first broken rule, or 0: 12, whose place is that rule, or pass.
+-- What a check answers by the first broken rule, or 0 for none: pass, or 12 with that rule as its place.
 abbrev pub verdict : ℕ → Outcome
 verdict rule = choose (eqb rule 0) passed (refusal 12 rule)
 

@@ -11,13 +11,12 @@ use lib.Seq.{drop-drop}
 use borrow.Author.Tests.{eq-eqb, eqb-false, eqb-true, le-leb, le-ltb, lt-leb, lt-ltb, ne-eqb}
 use Rattle.laws.specs.Tests.{_and_, choose, isnt}
 use Rattle.laws.specs.TestLaws.{and-both, and-left, and-right, eqb-self, fails, isnt-true, passes?, true-isnt}
-use Rattle.laws.specs.Lists.{choose-no, choose-yes}
 use Rattle.laws.specs.Slices.{below-or, drop-at, drop-end}
 use Rattle.rules.specs.Text.{Bytes, empty, same, sameLabel, squeezed}
 use Rattle.rules.specs.Proofs.ClosingLaws.{sameLabel-is, sameLabel-of, sameLabel-true}
-use Rattle.rules.specs.Proofs.LabelLaws.{behind, behind-left, behind-right, behind-same, blankFirst, spaced, squeezed-blank, squeezed-byte, squeezed-none}
+use Rattle.rules.specs.Proofs.LabelLaws.{behind, behind-bare, behind-left, behind-right, behind-same, behind-spaced, blankFirst, spaced, squeezed-blank, squeezed-byte, squeezed-none}
 use Rattle.rules.specs.Proofs.TextLaws.{same-true}
-use Rattle.text.specs.Scans.{blanks, endsDiffer, lastByte, together}
+use Rattle.text.specs.Scans.{blanks, endsDiffer, lastByte, inCommon}
 
 -- ---- `past_blanks`
 
@@ -54,27 +53,18 @@ blanks-most (x ∷ s) = go (eqb x 32) (blanks-most s)
     go true h = omega arith
     go false h = omega arith
 
--- What is left behind a byte, where a blank comes first and where none does.
-behind-spaced : (s : Bytes) → blankFirst s ≡ true → behind s ≡ spaced (squeezed s)
-unfolding behind
-behind-spaced s e = choose-yes _ _ e
-
-behind-bare : (s : Bytes) → blankFirst s ≡ false → behind s ≡ squeezed s
-unfolding behind
-behind-bare s e = choose-no _ _ e
-
--- No blank; and the same is left of it.
-behind-byte : (s : Bytes) → (blankFirst (drop (blanks s) s) ≡ false) × (squeezed (drop (blanks s) s) ≡ squeezed s)
+-- Behind the blanks at the front no blank comes first, and what is left is the same.
+front-past : (s : Bytes) → (blankFirst (drop (blanks s) s) ≡ false) × (squeezed (drop (blanks s) s) ≡ squeezed s)
 unfolding blanks choose blankFirst
-behind-byte [] = (refl, refl)
-behind-byte (x ∷ s) = go (passes? (eqb x 32)) (behind-byte s)
+front-past [] = (refl, refl)
+front-past (x ∷ s) = go (passes? (eqb x 32)) (front-past s)
   where
     go : (eqb x 32 ≡ true) ⊎ (eqb x 32 ≡ false) → (blankFirst (drop (blanks s) s) ≡ false) × (squeezed (drop (blanks s) s) ≡ squeezed s)
         → (blankFirst (drop (choose (eqb x 32) (suc (blanks s)) 0) (x ∷ s)) ≡ false) × (squeezed (drop (choose (eqb x 32) (suc (blanks s)) 0) (x ∷ s)) ≡ squeezed (x ∷ s))
     go (inl e) h = rw e (h .0, h .1 ∙ sym (squeezed-blank s) ∙ ap (λ (z : ℕ). squeezed (z ∷ s)) (sym (eqb-true x 32 e)))
     go (inr e) h = rw e (e, refl)
 
--- There are some just if the first byte is one.
+-- There are blanks at the front just if the first byte is one; p and k are the places before and behind them.
 first-blank : (s : Bytes) (p k : ℕ) → k ≡ p + blanks s → blankFirst s ≡ ltb p k
 unfolding blanks choose blankFirst
 first-blank [] p k h = sym (le-ltb p k (omega arith))
@@ -93,10 +83,10 @@ module _ (s : Bytes) (n k : ℕ) (h : k ≡ n + blanks (drop n s)) where
   past-drop = ap (λ (m : ℕ). drop m s) h ∙ sym (drop-drop (blanks (drop n s)) n s)
 
   past-byte : blankFirst (drop k s) ≡ false
-  past-byte = ap blankFirst past-drop ∙ behind-byte (drop n s) .0
+  past-byte = ap blankFirst past-drop ∙ front-past (drop n s) .0
 
   past-rest : squeezed (drop k s) ≡ squeezed (drop n s)
-  past-rest = ap squeezed past-drop ∙ behind-byte (drop n s) .1
+  past-rest = ap squeezed past-drop ∙ front-past (drop n s) .1
 
   past-behind : behind (drop k s) ≡ squeezed (drop n s)
   past-behind = behind-bare (drop k s) past-byte ∙ past-rest
@@ -113,72 +103,72 @@ nothing-left s k b =
 
 -- ---- `common`
 
-together-most : (s t : Bytes) → (together s t ≤ length s) × (together s t ≤ length t)
-unfolding together choose
-together-most [] t = (omega arith, omega arith)
-together-most (x ∷ s) [] = (omega arith, omega arith)
-together-most (x ∷ s) (y ∷ t) = go (eqb x y and isnt (eqb x 32)) (together-most s t)
+common-most : (s t : Bytes) → (inCommon s t ≤ length s) × (inCommon s t ≤ length t)
+unfolding inCommon choose
+common-most [] t = (omega arith, omega arith)
+common-most (x ∷ s) [] = (omega arith, omega arith)
+common-most (x ∷ s) (y ∷ t) = go (eqb x y and isnt (eqb x 32)) (common-most s t)
   where
-    go : (u : Bool) → (together s t ≤ length s) × (together s t ≤ length t)
-        → (choose u (suc (together s t)) 0 ≤ suc (length s)) × (choose u (suc (together s t)) 0 ≤ suc (length t))
+    go : (u : Bool) → (inCommon s t ≤ length s) × (inCommon s t ≤ length t)
+        → (choose u (suc (inCommon s t)) 0 ≤ suc (length s)) × (choose u (suc (inCommon s t)) 0 ≤ suc (length t))
     go true h = let l = h .0 in let r = h .1 in (omega arith, omega arith)
     go false h = (omega arith, omega arith)
 
-module _ (a b : Bytes) (i : ℕ) (inv : together a b ≡ i + together (drop i a) (drop i b)) where
+module _ (a b : Bytes) (i : ℕ) (inv : inCommon a b ≡ i + inCommon (drop i a) (drop i b)) where
   module _ (h : i < length a) (k : i < length b) where
-    here : together (drop i a) (drop i b) ≡ choose (eqb (getD a i 0) (getD b i 0) and isnt (eqb (getD a i 0) 32)) (suc (together (drop (i + 1) a) (drop (i + 1) b))) 0
-    unfolding together
-    here = ap₂ together (drop-at a i 0 h) (drop-at b i 0 k)
+    here : inCommon (drop i a) (drop i b) ≡ choose (eqb (getD a i 0) (getD b i 0) and isnt (eqb (getD a i 0) 32)) (suc (inCommon (drop (i + 1) a) (drop (i + 1) b))) 0
+    unfolding inCommon
+    here = ap₂ inCommon (drop-at a i 0 h) (drop-at b i 0 k)
 
-    pub common-differ : (getD a i 0 ≡ getD b i 0 → ⊥) → i ≡ together a b
+    pub common-differ : (getD a i 0 ≡ getD b i 0 → ⊥) → i ≡ inCommon a b
     unfolding _and_ choose
-    common-differ e = let q = here ∙ ap (λ (t : Bool). choose (t and isnt (eqb (getD a i 0) 32)) (suc (together (drop (i + 1) a) (drop (i + 1) b))) 0) (ne-eqb _ _ e) in omega arith
+    common-differ e = let q = here ∙ ap (λ (t : Bool). choose (t and isnt (eqb (getD a i 0) 32)) (suc (inCommon (drop (i + 1) a) (drop (i + 1) b))) 0) (ne-eqb _ _ e) in omega arith
 
     module _ (e : getD a i 0 ≡ getD b i 0) where
-      equal-here : together (drop i a) (drop i b) ≡ choose (isnt (eqb (getD a i 0) 32)) (suc (together (drop (i + 1) a) (drop (i + 1) b))) 0
+      equal-here : inCommon (drop i a) (drop i b) ≡ choose (isnt (eqb (getD a i 0) 32)) (suc (inCommon (drop (i + 1) a) (drop (i + 1) b))) 0
       unfolding _and_
-      equal-here = here ∙ ap (λ (t : Bool). choose (t and isnt (eqb (getD a i 0) 32)) (suc (together (drop (i + 1) a) (drop (i + 1) b))) 0) (eq-eqb _ _ e)
+      equal-here = here ∙ ap (λ (t : Bool). choose (t and isnt (eqb (getD a i 0) 32)) (suc (inCommon (drop (i + 1) a) (drop (i + 1) b))) 0) (eq-eqb _ _ e)
 
-      pub common-blank : getD a i 0 ≡ 32 → i ≡ together a b
+      pub common-blank : getD a i 0 ≡ 32 → i ≡ inCommon a b
       unfolding isnt choose
-      common-blank z = let q = equal-here ∙ ap (λ (t : Bool). choose (isnt t) (suc (together (drop (i + 1) a) (drop (i + 1) b))) 0) (eq-eqb _ _ z) in omega arith
+      common-blank z = let q = equal-here ∙ ap (λ (t : Bool). choose (isnt t) (suc (inCommon (drop (i + 1) a) (drop (i + 1) b))) 0) (eq-eqb _ _ z) in omega arith
 
-      pub common-on : (getD a i 0 ≡ 32 → ⊥) → together a b ≡ i + 1 + together (drop (i + 1) a) (drop (i + 1) b)
+      pub common-on : (getD a i 0 ≡ 32 → ⊥) → inCommon a b ≡ i + 1 + inCommon (drop (i + 1) a) (drop (i + 1) b)
       unfolding isnt choose
-      common-on z = let q = equal-here ∙ ap (λ (t : Bool). choose (isnt t) (suc (together (drop (i + 1) a) (drop (i + 1) b))) 0) (ne-eqb _ _ z) in omega arith
+      common-on z = let q = equal-here ∙ ap (λ (t : Bool). choose (isnt t) (suc (inCommon (drop (i + 1) a) (drop (i + 1) b))) 0) (ne-eqb _ _ z) in omega arith
 
-  pub common-end : length a ≤ i → i ≡ together a b
-  unfolding together
-  common-end h = let q : together (drop i a) (drop i b) ≡ 0 = ap (λ (s : Bytes). together s (drop i b)) (drop-end a i h) in omega arith
+  pub common-end : length a ≤ i → i ≡ inCommon a b
+  unfolding inCommon
+  common-end h = let q : inCommon (drop i a) (drop i b) ≡ 0 = ap (λ (s : Bytes). inCommon s (drop i b)) (drop-end a i h) in omega arith
 
-  pub common-short : i < length a → length b ≤ i → i ≡ together a b
-  unfolding together
-  common-short h k = let q : together (drop i a) (drop i b) ≡ 0 = ap₂ together (drop-at a i 0 h) (drop-end b i k) in omega arith
+  pub common-short : i < length a → length b ≤ i → i ≡ inCommon a b
+  unfolding inCommon
+  common-short h k = let q : inCommon (drop i a) (drop i b) ≡ 0 = ap₂ inCommon (drop-at a i 0 h) (drop-end b i k) in omega arith
 
 -- ---- `both_past`
 
 module _ (a b : Bytes) (i j : ℕ) where
-  pub past-left : length a ≤ i → leb (length b) j ≡ (leb (length a) i and leb (length b) j)
+  pub both-left : length a ≤ i → leb (length b) j ≡ (leb (length a) i and leb (length b) j)
   unfolding _and_
-  past-left h = sym (ap (λ (t : Bool). t and leb (length b) j) (le-leb (length a) i h))
+  both-left h = sym (ap (λ (t : Bool). t and leb (length b) j) (le-leb (length a) i h))
 
-  pub past-not : i < length a → false ≡ (leb (length a) i and leb (length b) j)
+  pub both-not : i < length a → false ≡ (leb (length a) i and leb (length b) j)
   unfolding _and_
-  past-not h = sym (ap (λ (t : Bool). t and leb (length b) j) (lt-leb (length a) i h))
+  both-not h = sym (ap (λ (t : Bool). t and leb (length b) j) (lt-leb (length a) i h))
 
 -- ---- `same_squeezed`
 
 -- Behind bytes that are the same and no blanks, what is left is compared.
-behind-together : (s t : Bytes) → same (behind s) (behind t) ≡ same (behind (drop (together s t) s)) (behind (drop (together s t) t))
-unfolding together same blankFirst choose _and_
-behind-together [] t = refl
-behind-together (x ∷ s) [] = refl
-behind-together (x ∷ s) (y ∷ t) = go (passes? (eqb x y and isnt (eqb x 32))) (behind-together s t)
+behind-common : (s t : Bytes) → same (behind s) (behind t) ≡ same (behind (drop (inCommon s t) s)) (behind (drop (inCommon s t) t))
+unfolding inCommon same blankFirst choose _and_
+behind-common [] t = refl
+behind-common (x ∷ s) [] = refl
+behind-common (x ∷ s) (y ∷ t) = go (passes? (eqb x y and isnt (eqb x 32))) (behind-common s t)
   where
     go : ((eqb x y and isnt (eqb x 32)) ≡ true) ⊎ ((eqb x y and isnt (eqb x 32)) ≡ false)
-        → same (behind s) (behind t) ≡ same (behind (drop (together s t) s)) (behind (drop (together s t) t))
+        → same (behind s) (behind t) ≡ same (behind (drop (inCommon s t) s)) (behind (drop (inCommon s t) t))
         → same (behind (x ∷ s)) (behind (y ∷ t))
-        ≡ same (behind (drop (choose (eqb x y and isnt (eqb x 32)) (suc (together s t)) 0) (x ∷ s))) (behind (drop (choose (eqb x y and isnt (eqb x 32)) (suc (together s t)) 0) (y ∷ t)))
+        ≡ same (behind (drop (choose (eqb x y and isnt (eqb x 32)) (suc (inCommon s t)) 0) (x ∷ s))) (behind (drop (choose (eqb x y and isnt (eqb x 32)) (suc (inCommon s t)) 0) (y ∷ t)))
     go (inl e) h =
         let q : eqb x y ≡ true = and-left (eqb x y) (isnt (eqb x 32)) e in
         let n : eqb x 32 ≡ false = isnt-true (eqb x 32) (and-right (eqb x y) (isnt (eqb x 32)) e) in
@@ -189,20 +179,20 @@ behind-together (x ∷ s) (y ∷ t) = go (passes? (eqb x y and isnt (eqb x 32)))
     go (inr e) h = rw e refl
 
 -- They are all: none is the same and no blank behind them.
-together-ends : (s t : Bytes) → together (drop (together s t) s) (drop (together s t) t) ≡ 0
-unfolding together choose
-together-ends [] t = refl
-together-ends (x ∷ s) [] = refl
-together-ends (x ∷ s) (y ∷ t) = go (passes? (eqb x y and isnt (eqb x 32))) (together-ends s t)
+common-ends : (s t : Bytes) → inCommon (drop (inCommon s t) s) (drop (inCommon s t) t) ≡ 0
+unfolding inCommon choose
+common-ends [] t = refl
+common-ends (x ∷ s) [] = refl
+common-ends (x ∷ s) (y ∷ t) = go (passes? (eqb x y and isnt (eqb x 32))) (common-ends s t)
   where
-    go : ((eqb x y and isnt (eqb x 32)) ≡ true) ⊎ ((eqb x y and isnt (eqb x 32)) ≡ false) → together (drop (together s t) s) (drop (together s t) t) ≡ 0
-        → together (drop (choose (eqb x y and isnt (eqb x 32)) (suc (together s t)) 0) (x ∷ s)) (drop (choose (eqb x y and isnt (eqb x 32)) (suc (together s t)) 0) (y ∷ t)) ≡ 0
+    go : ((eqb x y and isnt (eqb x 32)) ≡ true) ⊎ ((eqb x y and isnt (eqb x 32)) ≡ false) → inCommon (drop (inCommon s t) s) (drop (inCommon s t) t) ≡ 0
+        → inCommon (drop (choose (eqb x y and isnt (eqb x 32)) (suc (inCommon s t)) 0) (x ∷ s)) (drop (choose (eqb x y and isnt (eqb x 32)) (suc (inCommon s t)) 0) (y ∷ t)) ≡ 0
     go (inl e) h = rw e h
-    go (inr e) h = rw e (ap (λ (u : Bool). choose u (suc (together s t)) 0) e)
+    go (inr e) h = rw e (ap (λ (u : Bool). choose u (suc (inCommon s t)) 0) e)
 
--- There, where no blank stands in one of them or in both, nothing may be left.
-parted : (s t : Bytes) → together s t ≡ 0 → blankFirst s ≡ false → blankFirst t ≡ false → same (behind s) (behind t) ≡ (empty (squeezed s) and empty (squeezed t))
-unfolding together same empty _and_ blankFirst choose
+-- Where these bytes end and one of the two goes on with no blank, nothing may be left of either.
+parted : (s t : Bytes) → inCommon s t ≡ 0 → blankFirst s ≡ false → blankFirst t ≡ false → same (behind s) (behind t) ≡ (empty (squeezed s) and empty (squeezed t))
+unfolding inCommon same empty _and_ blankFirst choose
 parted [] [] e h k = rw (behind-bare [] refl, squeezed-none) refl
 parted [] (y ∷ t) e h k = rw (behind-bare [] refl, squeezed-none, behind-bare (y ∷ t) k, squeezed-byte y t k) refl
 parted (x ∷ s) [] e h k = rw (behind-bare [] refl, squeezed-none, behind-bare (x ∷ s) h, squeezed-byte x s h) refl
@@ -211,9 +201,9 @@ parted (x ∷ s) (y ∷ t) e h k =
     (ap (λ (c : Bool). c and same (behind s) (behind t)) (fails (eqb x y) (λ q. differ (and-both q (true-isnt h)))))
   where
     differ : (eqb x y and isnt (eqb x 32)) ≡ true → ⊥
-    differ q = let z : suc (together s t) ≡ 0 = sym (ap (λ (u : Bool). choose u (suc (together s t)) 0) q) ∙ e in omega arith
+    differ q = let z : suc (inCommon s t) ≡ 0 = sym (ap (λ (u : Bool). choose u (suc (inCommon s t)) 0) q) ∙ e in omega arith
 
-one-blank : (s t : Bytes) → together s t ≡ 0 → (blankFirst s ≡ false) ⊎ (blankFirst t ≡ false) → same (behind s) (behind t) ≡ (empty (squeezed s) and empty (squeezed t))
+one-blank : (s t : Bytes) → inCommon s t ≡ 0 → (blankFirst s ≡ false) ⊎ (blankFirst t ≡ false) → same (behind s) (behind t) ≡ (empty (squeezed s) and empty (squeezed t))
 one-blank s t e (inl h) = ⊎-elim (λ k. behind-right s t h k) (λ k. parted s t e h k) (passes? (blankFirst t))
 one-blank s t e (inr k) = ⊎-elim (λ h. behind-left s t h k) (λ h. parted s t e h k) (passes? (blankFirst s))
 
@@ -232,15 +222,15 @@ match-start a b i j h k =
     }
 
 -- From there n bytes are the same and no blanks, and k and l are the next places without a blank.
-module _ (a b s t : Bytes) (i j n : ℕ) (m : Matching a b i j) (es : s ≡ drop i a) (et : t ≡ drop j b) (en : n ≡ together s t) where
-  so-many : together (drop i a) (drop j b) ≡ n
-  so-many = sym (en ∙ ap₂ together es et)
+module _ (a b s t : Bytes) (i j n : ℕ) (m : Matching a b i j) (es : s ≡ drop i a) (et : t ≡ drop j b) (en : n ≡ inCommon s t) where
+  so-many : inCommon (drop i a) (drop j b) ≡ n
+  so-many = sym (en ∙ ap₂ inCommon es et)
 
   pub common-left : i + n ≤ length a
-  common-left = let l = m .left-in in let h = together-most (drop i a) (drop j b) .0 in omega (arith, so-many, length-drop i a)
+  common-left = let l = m .left-in in let h = common-most (drop i a) (drop j b) .0 in omega (arith, so-many, length-drop i a)
 
   pub common-right : j + n ≤ length b
-  common-right = let l = m .right-in in let h = together-most (drop i a) (drop j b) .1 in omega (arith, so-many, length-drop j b)
+  common-right = let l = m .right-in in let h = common-most (drop i a) (drop j b) .1 in omega (arith, so-many, length-drop j b)
 
   pub left-fits : length a < 2 ^ 64 → i + n < 2 ^ 64
   left-fits h = omega (arith, common-left)
@@ -248,14 +238,14 @@ module _ (a b s t : Bytes) (i j n : ℕ) (m : Matching a b i j) (es : s ≡ drop
   pub right-fits : length b < 2 ^ 64 → j + n < 2 ^ 64
   right-fits h = omega (arith, common-right)
 
-  left-there : drop (together (drop i a) (drop j b)) (drop i a) ≡ drop (i + n) a
+  left-there : drop (inCommon (drop i a) (drop j b)) (drop i a) ≡ drop (i + n) a
   left-there = drop-drop _ i a ∙ ap (λ (x : ℕ). drop (i + x) a) so-many
 
-  right-there : drop (together (drop i a) (drop j b)) (drop j b) ≡ drop (j + n) b
+  right-there : drop (inCommon (drop i a) (drop j b)) (drop j b) ≡ drop (j + n) b
   right-there = drop-drop _ j b ∙ ap (λ (x : ℕ). drop (j + x) b) so-many
 
   there : sameLabel a b ≡ same (behind (drop (i + n) a)) (behind (drop (j + n) b))
-  there = m .rest ∙ behind-together (drop i a) (drop j b) ∙ ap₂ (λ (s t : Bytes). same (behind s) (behind t)) left-there right-there
+  there = m .rest ∙ behind-common (drop i a) (drop j b) ∙ ap₂ (λ (s t : Bytes). same (behind s) (behind t)) left-there right-there
 
   module _ (k l : ℕ) (ek : k ≡ i + n + blanks (drop (i + n) a)) (el : l ≡ j + n + blanks (drop (j + n) b)) where
     pub match-less : i + n < k → length a - k < length a - i
@@ -275,7 +265,7 @@ module _ (a b s t : Bytes) (i j n : ℕ) (m : Matching a b i j) (es : s ≡ drop
     nothing-more : (blankFirst (drop (i + n) a) ≡ false) ⊎ (blankFirst (drop (j + n) b) ≡ false) → (leb (length a) k and leb (length b) l) ≡ sameLabel a b
     nothing-more u =
         sym (there
-        ∙ one-blank _ _ (sym (ap₂ together left-there right-there) ∙ together-ends (drop i a) (drop j b)) u
+        ∙ one-blank _ _ (sym (ap₂ inCommon left-there right-there) ∙ common-ends (drop i a) (drop j b)) u
         ∙ ap₂ (λ (s t : Bytes). empty s and empty t) (sym (past-rest a (i + n) k ek)) (sym (past-rest b (j + n) l el))
         ∙ ap₂ (λ (s t : Bool). s and t) (nothing-left a k (past-byte a (i + n) k ek)) (nothing-left b l (past-byte b (j + n) l el)))
 
@@ -285,7 +275,7 @@ module _ (a b s t : Bytes) (i j n : ℕ) (m : Matching a b i j) (es : s ≡ drop
     pub match-right : (r : Bool) → l ≤ j + n → r ≡ (leb (length a) k and leb (length b) l) → r ≡ sameLabel a b
     match-right r h e = e ∙ nothing-more (inr (first-blank (drop (j + n) b) (j + n) l el ∙ le-ltb (j + n) l h))
 
--- ---- `ends_differ`
+-- ---- `last_byte`, `ends_differ`
 
 pub last-none : (s : Bytes) → length s < 1 → 32 ≡ lastByte s
 unfolding lastByte
@@ -371,4 +361,4 @@ label-differs a b r d y =
 pub label-bytes : (a b : Bytes) (r : Bool) → r ≡ same a b → r ≡ true → true ≡ sameLabel a b
 label-bytes a b r e y = sym (sameLabel-of a b (ap squeezed (same-true a b (sym e ∙ y))))
 
-pub ruleset labels = (blanks-stop, blanks-on, blanks-end, common-differ, common-blank, common-on, common-end, common-short, past-left, past-not, match-start, common-left, common-right, left-fits, right-fits, match-less, match-on, match-left, match-right, last-none, last-is, ends-left, ends-right, ends-same, ends-other, label-differs, label-bytes)
+pub ruleset labels = (blanks-stop, blanks-on, blanks-end, common-differ, common-blank, common-on, common-end, common-short, both-left, both-not, match-start, common-left, common-right, left-fits, right-fits, match-less, match-on, match-left, match-right, last-none, last-is, ends-left, ends-right, ends-same, ends-other, label-differs, label-bytes)

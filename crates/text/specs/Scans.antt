@@ -1,4 +1,4 @@
--- What the scans of a text find: a byte's place, a byte's class, and bytes of one class.
+-- What the scans of a text find: a byte's place, blanks at the front, bytes that two texts have in common, last bytes, a byte's class, and bytes of one class.
 use mathlib.Core.Bool.{Bool}
 use mathlib.Core.List.{[], _∷_}
 use Prim.Native.Nat.{ℕ, suc}
@@ -19,10 +19,10 @@ blanks [] = 0
 blanks (x ∷ s) = choose (eqb x 32) (suc (blanks s)) 0
 
 -- How many bytes at the front of both are the same and no blanks.
-unfoldable pub together : Bytes → Bytes → ℕ
-together [] t = 0
-together (x ∷ s) [] = 0
-together (x ∷ s) (y ∷ t) = choose (eqb x y and isnt (eqb x 32)) (suc (together s t)) 0
+unfoldable pub inCommon : Bytes → Bytes → ℕ
+inCommon [] t = 0
+inCommon (x ∷ s) [] = 0
+inCommon (x ∷ s) (y ∷ t) = choose (eqb x y and isnt (eqb x 32)) (suc (inCommon s t)) 0
 
 -- The last byte: a blank, where there is none. The last bytes of two are no blanks and differ.
 unfoldable pub lastByte : Bytes → ℕ

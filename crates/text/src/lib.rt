@@ -35,7 +35,7 @@ ghost use Rattle.text.specs.Scans.{
   plainByte,
   sized as isSized,
   span,
-  together,
+  inCommon,
 };
 
 // The bytes of a sheet's first line.
@@ -168,7 +168,7 @@ fn past_blanks(s: &[u8], n: usize) -> usize
 
 // How many bytes at the front of both are the same and no blanks.
 fn common(a: &[u8], b: &[u8]) -> usize
-    ensures { λ r. ⌜ r ≡ together (now (a .entry)) (now (b .entry)) ⌝ }
+    ensures { λ r. ⌜ r ≡ inCommon (now (a .entry)) (now (b .entry)) ⌝ }
 {
     let mut i = 0;
     while i < a.len() {
@@ -186,7 +186,7 @@ fn common(a: &[u8], b: &[u8]) -> usize
     i
 }
 
-// Whether both places are past the end.
+// Whether both places are at the end or past it.
 fn both_past(a: &[u8], i: usize, b: &[u8], j: usize) -> bool
     ensures { λ r. ⌜ r ≡ (leb (length (now (a .entry))) i and leb (length (now (b .entry))) j) ⌝ }
 {
@@ -248,8 +248,8 @@ fn ends_differ(a: &[u8], b: &[u8]) -> bool
     true
 }
 
-// Whether two labels match: blanks at both ends, and how many stand in a row, are left aside. Equal bytes are told at once, and so mostly are
-// labels without spare blanks that do not match.
+// Whether two labels match: blanks at both ends, and how many stand in a row, are left aside. Equal bytes are told first, then last bytes that
+// differ: nearly all labels end there.
 pub fn same_label(a: &[u8], b: &[u8]) -> bool
     ensures { λ r. ⌜ r ≡ sameLabel (now (a .entry)) (now (b .entry)) ⌝ }
 {

@@ -242,7 +242,7 @@ fn with_byte(key: usize, b: u8) -> usize
     256 * key + b as usize
 }
 
-// A hash of the last 4 bytes of a label that are no blanks: which number is left open. By this prime labels that end in numbers mostly differ.
+// A hash of the last 4 bytes of a label that are no blanks (a key from 256 ^ 3 on has so many): which number is left open.
 fn ending(label: &[u8]) -> usize
     ensures { λ r. ⌜ r < 512 ⌝ }
 {
@@ -250,12 +250,12 @@ fn ending(label: &[u8]) -> usize
     let mut i = label.len();
     while 0 < i {
         if 16777216 <= key {
-            return key % 479;
+            return key * 40503 / 262144 % 512;
         }
         i -= 1;
         key = with_byte(key, label[i]);
     }
-    key % 479
+    key * 40503 / 262144 % 512
 }
 
 // Where the table of groups keeps, behind the 512 nodes, 1 + the latest node that began a group and whose label ends as that of the node x.

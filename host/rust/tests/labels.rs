@@ -2,8 +2,9 @@
 //! due by request 2 of the change requests: labels are alike if they match
 //! after dropping blanks (byte 32) at both ends and taking each inner run as
 //! one; files and shown labels keep the bytes given; a stored sheet that passed
-//! still passes, though a new one may differ or be refused with 15. The library,
-//! where it is linked, must do as the independent implementation.
+//! still passes, though a new one may differ or be refused with 15. The pairs of
+//! labels are those of outside cases, and more. The library, where it is linked,
+//! must do as the independent implementation.
 
 mod driving;
 
@@ -91,7 +92,7 @@ impl Job {
 
 // ---- two labels
 
-/// 58 and 59 letters.
+/// 58 and 59 letters, 59 blanks.
 const L58: &str = "llllllllllllllllllllllllllllllllllllllllllllllllllllllllll";
 const L59: &str = "lllllllllllllllllllllllllllllllllllllllllllllllllllllllllll";
 const B59: &str = "                                                           ";
@@ -286,7 +287,7 @@ fn all_short_labels() {
             }
         }
     }
-    assert!(matching > 200, "{matching}");
+    assert_eq!(matching, 408);
 }
 
 /// A blank at each place of long labels: doubled it matches, moved by one byte
@@ -364,7 +365,7 @@ fn malformed() {
 }
 
 /// It is the bytes given that are counted: 61 are malformed, though without
-/// spare blanks there would be one, or none.
+/// spare blanks there would be three at most.
 #[test]
 fn sixty_bytes() {
     for (label, other) in [

@@ -561,8 +561,12 @@ fn plain_rules() {
                 // still passes.
                 let before = check(&p, &q, &suite, &job.sheet, |one, other| one == other);
                 if before == Answer::new(0, 0) {
-                    stored += 1;
                     assert_eq!(judged, before, "{number}");
+                    let mut nodes = p.nodes.iter();
+                    stored += usize::from(nodes.any(|&one| {
+                        let mut others = q.nodes.iter();
+                        others.any(|&other| alike(one, other) && one != other)
+                    }));
                 }
                 let expected = written(write_sheet(&p, &q, &suite), blank.clone());
                 let answer = independent::sheet(old, new, tests, &mut out);
@@ -585,5 +589,6 @@ fn plain_rules() {
         }
     }
     assert!(accepted > 2_000);
-    assert!(stored > 500);
+    // Of these, jobs with labels that match with other bytes.
+    assert!(stored > 500, "{stored}");
 }

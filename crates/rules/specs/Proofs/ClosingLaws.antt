@@ -51,8 +51,7 @@ module _ (old new : Program) (n n′ : ℕ) where
 
   -- Alike nodes have equal kinds, and labels that match.
   pub alike-kind : alike old new n n′ ≡ true → kindAt new n′ ≡ kindAt old n
-  unfolding alike
-  alike-kind h = sym (sameKind-true _ _ (and-left _ _ h))
+  alike-kind h = sym (alike-is .0 h .0)
 
   pub alike-label : alike old new n n′ ≡ true → sameLabel (labelAt old n) (labelAt new n′) ≡ true
   unfolding alike
@@ -60,8 +59,7 @@ module _ (old new : Program) (n n′ : ℕ) where
 
   -- Two nodes of one kind with no label and no callee are alike.
   pub alike-bare : kindAt old n ≡ kindAt new n′ → labelAt old n ≡ [] → labelAt new n′ ≡ [] → calleeAt old n ≡ [] → calleeAt new n′ ≡ [] → alike old new n n′ ≡ true
-  unfolding alike sameCallee
-  alike-bare k l l′ c c′ = and-both (sameKind-of k) (and-both (sameLabel-of _ _ (ap squeezed (l ∙ sym l′))) (same-of (c ∙ sym c′)))
+  alike-bare k l l′ c c′ = alike-is .1 (k, ap squeezed (l ∙ sym l′), c ∙ sym c′)
 
 -- Alike nodes, of any programs: a node and itself, either way round, and through a third.
 pub alike-self : (p : Program) (n : ℕ) → alike p p n n ≡ true

@@ -9,6 +9,7 @@ use lib.ListN.{drop, getD}
 use borrow.Author.Tests.{eqb-false, eqb-true, ne-eqb}
 use Rattle.laws.specs.Tests.{_and_, choose}
 use Rattle.laws.specs.TestLaws.{eqb-self, passes?}
+use Rattle.laws.specs.Lists.{choose-no, choose-yes}
 use Rattle.rules.specs.Text.{Bytes, empty, joinBy, nonEmpty, onto, same, split, squeezed}
 use Rattle.rules.specs.Promises.{NoSpareBlanks, SqueezedExact}
 use Rattle.rules.specs.Proofs.TextLaws.{split-cons}
@@ -66,6 +67,14 @@ spaced (x ∷ s) = 32 ∷ x ∷ s
 -- What is left of the bytes behind one that is no blank.
 unfoldable pub behind : Bytes → Bytes
 behind s = choose (blankFirst s) (spaced (squeezed s)) (squeezed s)
+
+pub behind-spaced : (s : Bytes) → blankFirst s ≡ true → behind s ≡ spaced (squeezed s)
+unfolding behind
+behind-spaced s e = choose-yes _ _ e
+
+pub behind-bare : (s : Bytes) → blankFirst s ≡ false → behind s ≡ squeezed s
+unfolding behind
+behind-bare s e = choose-no _ _ e
 
 -- A piece before others that are not empty.
 join-first : (x : ℕ) (p : Bytes) (ps : List Bytes) → joinBy 32 ((x ∷ p) ∷ ps) ≡ x ∷ joinBy 32 (p ∷ ps)
@@ -165,18 +174,14 @@ NoBack s = (t : Bytes) → s ≡ t ++ (32 ∷ []) → ⊥
 abbrev NoRun : Bytes → Type 0
 NoRun s = (t u : Bytes) → s ≡ t ++ (32 ∷ 32 ∷ u) → ⊥
 
-behind-plain : (x : ℕ) (s : Bytes) → eqb x 32 ≡ false → behind (x ∷ s) ≡ squeezed (x ∷ s)
-unfolding behind blankFirst choose
-behind-plain x s e = rw e refl
-
 plain-blank : (s : Bytes) → NoBack (32 ∷ s) → NoRun (32 ∷ s) → behind s ≡ s → spaced (squeezed s) ≡ 32 ∷ s
-unfolding spaced
+unfolding spaced blankFirst
 plain-blank [] b r k = absurd (b [] refl)
 plain-blank (y ∷ t) b r k = go (passes? (eqb y 32))
   where
     go : (eqb y 32 ≡ true) ⊎ (eqb y 32 ≡ false) → spaced (squeezed (y ∷ t)) ≡ 32 ∷ y ∷ t
     go (inl e) = absurd (r [] t (ap (λ (z : ℕ). 32 ∷ z ∷ t) (eqb-true y 32 e)))
-    go (inr e) = ap spaced (sym (behind-plain y t e) ∙ k)
+    go (inr e) = ap spaced (sym (behind-bare (y ∷ t) e) ∙ k)
 
 plain-behind : (s : Bytes) → NoBack s → NoRun s → behind s ≡ s
 unfolding behind blankFirst choose
@@ -190,12 +195,13 @@ plain-behind (x ∷ s) b r = go (passes? (eqb x 32)) (plain-behind s (λ t e. b 
     go (inr e) k = rw e (squeezed-byte x s e ∙ ap (λ (l : Bytes). x ∷ l) k)
 
 plain-stays : (s : Bytes) → NoSpareBlanks s → squeezed s ≡ s
+unfolding blankFirst
 plain-stays [] h = squeezed-none
 plain-stays (x ∷ s) h = go (passes? (eqb x 32))
   where
     go : (eqb x 32 ≡ true) ⊎ (eqb x 32 ≡ false) → squeezed (x ∷ s) ≡ x ∷ s
     go (inl e) = absurd (h .front s (ap (λ (z : ℕ). z ∷ s) (eqb-true x 32 e)))
-    go (inr e) = sym (behind-plain x s e) ∙ plain-behind (x ∷ s) (h .back) (h .run)
+    go (inr e) = sym (behind-bare (x ∷ s) e) ∙ plain-behind (x ∷ s) (h .back) (h .run)
 
 pub squeezed-exact : (s t : Bytes) → SqueezedExact s t
 unfolding squeezed

@@ -10,7 +10,7 @@ use native.Mathlib.Decide.{decLt}
 use lib.ListN.{length, getD, length-append, List·getD-eq-default}
 use borrow.Author.Tests.{eq-eqb, lt-ltb, le-ltb, lt-leb}
 use Rattle.laws.specs.Tests.{_and_, isnt, has, listed, choose, none?}
-use Rattle.laws.specs.TestLaws.{false-isnt, none-has, one-has, and-left, and-right, and-both, or-left, or-right, eqb-self, first-only, has-append, those-at, listed-here, listed-append, listed-one, allPairs-of, Before, Ascending, asc-more}
+use Rattle.laws.specs.TestLaws.{false-isnt, none-has, one-has, and-both, or-left, or-right, eqb-self, first-only, has-append, those-at, listed-here, listed-append, listed-one, allPairs-of, Before, Ascending, asc-more}
 use Rattle.laws.specs.Lists.{choose-yes, choose-no, Rising, has-first, has-rest, listed-rest, none-listed, rise-more, those-few, those-rise}
 use Rattle.rules.specs.Text.{Bytes, same, empty, bytes, maxBytes, maxEdges, maxTests, maxPairs, allBytes, onto, split, linesOf, fieldsOf, joinBy, textOf, isName, value, decimal, accepted, readLines, readText}
 use Rattle.rules.specs.Graph.{Program, nodeCount, edgeCount}

@@ -15,10 +15,10 @@ use Rattle.rules.specs.Sheet.{Sheet}
 use Rattle.rules.specs.Check.{broken, rule1, rule2, rule3, rule4, rule5}
 use Rattle.rules.specs.Job.{outcome, passed}
 use Rattle.rules.specs.Former.{formerAlike, formerBroken, formerCheckAnswer, formerRule2}
-use Rattle.rules.specs.Promises.{PassedFormerly, Passes}
+use Rattle.rules.specs.Promises.{PassedFormerly}
 use Rattle.rules.specs.Proofs.ClosingLaws.{alike-parts, sameLabel-of}
 use Rattle.rules.specs.Proofs.JobLaws.{Passed, outcome-wrote, wrote-choose}
-use Rattle.rules.specs.Proofs.SheetLayout.{passes-from, passing-read}
+use Rattle.rules.specs.Proofs.SheetLayout.{passes-from, passing-read, unbroken-of}
 use Rattle.rules.specs.Proofs.TextLaws.{same-of, same-true}
 
 module _ (old new : Program) where
@@ -39,7 +39,7 @@ module _ (old new : Program) where
   -- No rule was broken: none is, and the labels of listed pairs have equal bytes; and the other way.
   former-broken : (suite : List Coverage) (s : Sheet) → formerBroken old new suite s ≡ 0
       → (broken old new suite s ≡ 0) × ((n n′ : ℕ) → listed (s .M) n n′ ≡ true → labelAt old n ≡ labelAt new n′)
-  unfolding formerBroken broken formerRule2 rule2
+  unfolding formerBroken formerRule2 rule2
   former-broken suite s e =
       let a = failed-none _ _ _ e in
       let b = failed-none _ _ _ (a .1) in
@@ -49,7 +49,7 @@ module _ (old new : Program) where
       let was : (n n′ : ℕ) → listed (s .M) n n′ ≡ true → (alike old new n n′ ≡ true) × (labelAt old n ≡ labelAt new n′)
       = λ n n′ l. former-alike n n′ (allPairs-at (formerAlike old new) (s .M) (b .0) n n′ l) in
       let two : rule2 old new s ≡ true = allPairs-of (alike old new) (s .M) (λ n n′ l. was n n′ l .0) in (
-        none-failed 1 _ (a .0) (none-failed 2 _ two (none-failed 3 _ (c .0) (none-failed 4 _ (d .0) (none-failed 5 _ (f .0) (none-left 6))))),
+        unbroken-of old new suite s (a .0) two (c .0) (d .0) (f .0),
         λ n n′ l. was n n′ l .1,
       )
 

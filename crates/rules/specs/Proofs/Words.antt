@@ -44,7 +44,7 @@ lookups p wf =
 
 -- ---- meanings
 
--- The meaning that does this by what is left of a label.
+-- The meaning of these actions, each taken of what is left of the label.
 abbrev pub meaningBy {ℓ κ} : {St : Type ℓ} {Out : Type κ} → (Bytes → St → St) → (Bytes → St → Out) → (Bytes → St → Bytes) → Meaning St Out
 meaningBy next out word =
     record {

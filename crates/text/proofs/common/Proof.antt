@@ -3,12 +3,12 @@ use Rattle.text.proofs.Labels.{labels}
 use Prim.Native.Nat.{_+_, _≤_, _-_}
 use mathlib.Core.Path.{_≡_}
 use lib.ListN.{length, drop}
-use Rattle.text.specs.Scans.{together}
+use Rattle.text.specs.Scans.{inCommon}
 use Rattle.text.proofs.common.Statement.{statement}
 use Rattle.text.proofs.common.Tie as tie
 
 abbrev Inv-loop : tie.InvT-loop
-Inv-loop a b i₀ i = (i ≤ length a) × (together a b ≡ i + together (drop i a) (drop i b))
+Inv-loop a b i₀ i = (i ≤ length a) × (inCommon a b ≡ i + inCommon (drop i a) (drop i b))
 
 abbrev μ-loop : tie.MeasureT-loop
 μ-loop a b i₀ i = length a - i

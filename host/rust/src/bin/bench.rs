@@ -4,8 +4,9 @@
 
 use rivetyellow_host::calls::{Calls, INDEPENDENT, LINKED};
 use rivetyellow_host::generate::labels::format_some;
-use rivetyellow_host::generate::limits::{deep, groups, many_tests, ring, wide};
-use rivetyellow_host::generate::limits::{formatted_ring, put_blanks};
+use rivetyellow_host::generate::limits::{
+    deep, formatted_ring, groups, many_tests, put_blanks, ring, wide,
+};
 use rivetyellow_host::generate::model::{joined, Program, Sheet};
 use rivetyellow_host::generate::random::Random;
 use rivetyellow_host::generate::sheets::all_alike;

@@ -1,7 +1,7 @@
 //! `differential SEED COUNT`: compares the linked library with the independent
 //! implementation on COUNT generated jobs, every call of each, answers and
 //! lent bytes. Exits 1 on a difference; the first one's job is left in
-//! `differential-job`. So it does if COUNT is 20,000 or more and labels that
+//! `differential-job`. It exits 1 too if COUNT is 20,000 or more and labels that
 //! match with other bytes, or that nearly match, were met too seldom. Without
 //! the library it exits 2 after the statistics.
 
@@ -44,11 +44,11 @@ const OTHER_BYTES: &str = "pairs alike by labels of other bytes";
 const OTHER_JOBS: &str = "accepted jobs with pairs alike by labels of other bytes";
 const OTHER_CALLS: &str = "pairs of calls alike by labels of other bytes";
 const BLANKS_ONLY: &str = "pairs alike by labels of blanks only, of other lengths";
-const BLANK_MORE: &str = "ends not alike by labels equal without all blanks";
+const BLANK_MORE: &str = "ends not alike by labels equal once all blanks are dropped";
 const BLANK_FOR_BYTE: &str = "ends not alike by labels with a blank for another byte";
 const LONGER: &str = "ends not alike by labels of which one begins the other";
 
-/// In so many jobs each of these is met so often.
+/// In so many jobs each of these must be met at least so often.
 const ENOUGH: u64 = 20_000;
 const MET: [(&str, u64); 7] = [
     (OTHER_BYTES, 10_000),

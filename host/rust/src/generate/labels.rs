@@ -15,7 +15,7 @@ pub fn parts(label: &[u8]) -> Vec<Bytes> {
 }
 
 /// A label with its blanks moved: at both ends and in each inner run there
-/// are others, as many as a label may have.
+/// are others, up to what a label may have.
 pub fn formatted(random: &mut Random, label: &[u8]) -> Bytes {
     laid_out(random, &parts(label))
 }
@@ -56,12 +56,12 @@ fn laid_out(random: &mut Random, parts: &[Bytes]) -> Bytes {
     label
 }
 
-/// Bytes beside the blank, and some that look like one.
+/// The byte next to the blank, and some that look like one.
 const OTHERS: &[u8] = b"!!_-.~";
 
 /// A label that nearly matches: a blank less or more between two bytes, or
-/// another byte for one, a byte or part less or more at an end. Its other
-/// blanks may be moved too.
+/// another byte for one, a byte or part less or more at an end, two parts
+/// changed about, another byte. Its other blanks may be moved too.
 pub fn near(random: &mut Random, label: &[u8]) -> Bytes {
     let mut parts = parts(label);
     let count = parts.len();
