@@ -250,12 +250,12 @@ fn ending(label: &[u8]) -> usize
     let mut i = label.len();
     while 0 < i {
         if 16777216 <= key {
-            return key * 40503 / 262144 % 512;
+            return key % 503;
         }
         i -= 1;
         key = with_byte(key, label[i]);
     }
-    key * 40503 / 262144 % 512
+    key % 503
 }
 
 // Where the table of groups keeps, behind the 512 nodes, 1 + the latest node that began a group and whose label ends as that of the node x.

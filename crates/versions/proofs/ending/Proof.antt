@@ -14,9 +14,6 @@ abbrev μ-loop : tie.MeasureT-loop
 loop-holds : tie.Need-loop-holds Inv-loop μ-loop
 loop-holds c = search (all, needs)
 
-mul-result : tie.Need-mul-result Inv-loop μ-loop
-mul-result c = search (all, needs)
-
 returns : tie.Need-returns Inv-loop μ-loop
 returns c = search (all, needs)
 
@@ -35,9 +32,6 @@ loop-less c = search (all, needs)
 loop-again : tie.Need-loop-again Inv-loop μ-loop
 loop-again c = search (all, needs)
 
-mul-result-2 : tie.Need-mul-result-2 Inv-loop μ-loop
-mul-result-2 c = search (all, needs)
-
 returns-2 : tie.Need-returns-2 Inv-loop μ-loop
 returns-2 c = search (all, needs)
 
@@ -48,12 +42,10 @@ ending-spec =
     Inv-loop
     μ-loop
     loop-holds
-    mul-result
     returns
     sub-i
     shared-slice-read-with-byte
     with-byte-requires
     loop-less
     loop-again
-    mul-result-2
     returns-2)
