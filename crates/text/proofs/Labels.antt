@@ -16,7 +16,7 @@ use Rattle.rules.specs.Text.{Bytes, empty, same, sameLabel, squeezed}
 use Rattle.rules.specs.Proofs.ClosingLaws.{sameLabel-is, sameLabel-of, sameLabel-true}
 use Rattle.rules.specs.Proofs.LabelLaws.{behind, behind-bare, behind-left, behind-right, behind-same, behind-spaced, blankFirst, spaced, squeezed-blank, squeezed-byte, squeezed-none}
 use Rattle.rules.specs.Proofs.TextLaws.{same-true}
-use Rattle.text.specs.Scans.{blanks, endsDiffer, lastByte, inCommon}
+use Rattle.text.specs.Scans.{blanks, endsDiffer, inCommon, lastByte}
 
 -- ---- `past_blanks`
 
@@ -190,7 +190,7 @@ common-ends (x ∷ s) (y ∷ t) = go (passes? (eqb x y and isnt (eqb x 32))) (co
     go (inl e) h = rw e h
     go (inr e) h = rw e (ap (λ (u : Bool). choose u (suc (inCommon s t)) 0) e)
 
--- Where these bytes end and one of the two goes on with no blank, nothing may be left of either.
+-- Where these bytes end and blanks do not follow in both, nothing may be left of either.
 parted : (s t : Bytes) → inCommon s t ≡ 0 → blankFirst s ≡ false → blankFirst t ≡ false → same (behind s) (behind t) ≡ (empty (squeezed s) and empty (squeezed t))
 unfolding inCommon same empty _and_ blankFirst choose
 parted [] [] e h k = rw (behind-bare [] refl, squeezed-none) refl

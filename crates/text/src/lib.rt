@@ -31,11 +31,11 @@ ghost use Rattle.text.specs.Scans.{
   blanks,
   classByte,
   endsDiffer,
+  inCommon,
   lastByte,
   plainByte,
   sized as isSized,
   span,
-  inCommon,
 };
 
 // The bytes of a sheet's first line.
