@@ -2,14 +2,15 @@
 use mathlib.Core.Path.{_≡_, refl, sym, ap, ap₂, _∙_, subst, subst₂}
 use mathlib.Core.Bool.{Bool, true, false, false≢true}
 use mathlib.Core.List.{List, []}
-use Prim.Native.Nat.{ℕ, _+_, _-_, _≤_, _<_}
+use Prim.Native.Nat.{ℕ, _+_, _-_, _*_, _≤_, _<_}
 use native.Mathlib.Omega.{arith}
 use lib.Dec.{eqb}
 use lib.ListN.{getD, length, length-set, set}
 use lib.Seq.{getD-set-other, getD-set-same, set-out}
 use borrow.Author.Tests.{eqb-true, eq-eqb, ne-eqb}
-use Rattle.laws.specs.Tests.{_and_, _⇒_, found, listed}
+use Rattle.laws.specs.Tests.{_and_, _⇒_, choose, found, listed}
 use Rattle.laws.specs.TestLaws.{and-both, and-left, and-right, both-ways, fails}
+use Rattle.laws.specs.Lists.{choose-no, choose-yes}
 use Rattle.laws.specs.Slices.{below-or, same-or}
 use Rattle.laws.specs.Chain.{Walk, walk-start}
 use Rattle.rules.specs.Text.{Bytes, same, sameLabel}
@@ -283,6 +284,17 @@ module _ (text nodes links : List ℕ) where
 
 pub ruleset groups = (twin-none, twin-alike, group-start, group-on, group-twin, group-own)
 
+-- ---- `with_byte`
+
+module _ (key b : ℕ) where
+  pub byte-left : b ≡ 32 → key ≡ choose (eqb b 32) key (256 * key + b)
+  byte-left e = sym (choose-yes _ _ (eq-eqb _ _ e))
+
+  pub byte-put : (b ≡ 32 → ⊥) → 256 * key + b ≡ choose (eqb b 32) key (256 * key + b)
+  byte-put e = sym (choose-no _ _ (ne-eqb _ _ e))
+
+pub ruleset keys = (byte-left, byte-put)
+
 -- ---- `known_alike`
 
 module _ (w g : List ℕ) (a b : ℕ) where
@@ -304,4 +316,4 @@ module _ (w g : List ℕ) (a b : ℕ) where
 
 pub ruleset knowns = (known-not, known-same)
 
-pub ruleset all = (reads, sames, alikes, taken-is, calls, goes, groups, knowns)
+pub ruleset all = (reads, sames, alikes, taken-is, calls, goes, groups, keys, knowns)

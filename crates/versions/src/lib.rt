@@ -1,8 +1,10 @@
 // Two versions of a program in memory: the old text, nodes and links, and the new ones. Every function takes any slice and any number: what
 // stands past the end of a table is 0.
 ghost use mathlib.Core.Path.{_≡_};
-ghost use Prim.Native.Nat.{_+_, _^_, _<_, _≤_};
+ghost use Prim.Native.Nat.{_+_, _*_, _^_, _<_, _≤_};
+ghost use lib.Dec.{eqb};
 ghost use lib.ListN.{getD};
+ghost use Rattle.laws.specs.Tests.{choose};
 ghost use Rattle.graph.specs.Table.{edgeBase, headBase, nodeBase, procBase};
 ghost use Rattle.graph.specs.Reads.{partAt, upTo};
 ghost use Rattle.rules.specs.Text.{sameLabel};
@@ -234,7 +236,7 @@ fn twin(text: &[u8], nodes: &[usize], links: &[usize], r: usize, x: usize) -> bo
 // The byte b put behind the bytes of the key; a blank is left out.
 fn with_byte(key: usize, b: u8) -> usize
     requires { ⌜ key < 2 ^ 24 ⌝ }
-    ensures { λ r. ⌜ r < 2 ^ 32 ⌝ }
+    ensures { λ r. ⌜ (r ≡ choose (eqb b 32) key (256 * key + b)) × (r < 2 ^ 32) ⌝ }
 {
     if b == 32 {
         return key;
