@@ -5,8 +5,8 @@ use Prim.Native.Nat.{ℕ}
 use lib.Dec.{eqb}
 use lib.ListN.{length, getD}
 use Rattle.laws.specs.Tests.{_and_, _or_, _⇒_, every, any, has, listed, allPairs, firstFailed}
-use Rattle.rules.specs.Graph.{Program, edgeCount, sourceAt, targetAt, entry, called}
-use Rattle.rules.specs.Closing.{alike, bothCall, goesOn, Coverage, meets, sameWord}
+use Rattle.rules.specs.Graph.{Program, edgeCount, sourceAt, targetAt, entry, calleeCount, called}
+use Rattle.rules.specs.Closing.{alike, bothCall, exitsMet, goesOn, Coverage, meets, sameWord}
 use Rattle.rules.specs.Sheet.{Sheet}
 
 module _ (old new : Program) (s : Sheet) where
@@ -18,9 +18,10 @@ module _ (old new : Program) (s : Sheet) where
   unfoldable pub rule2 : Bool
   rule2 = allPairs (alike old new) (s .M)
 
-  -- 3: for a listed pair of C nodes, the entries of the procedures that they call are listed.
+  -- 3: for a listed pair of C nodes, the first callee's entries are listed, and each later one's, if the exits of every callee before it are.
   unfoldable pub entered : ℕ → ℕ → Bool
-  entered n n′ = bothCall old new n n′ ⇒ listed (s .M) (entry old (called old n)) (entry new (called new n′))
+  entered n n′ =
+      bothCall old new n n′ ⇒ every (calleeCount old n) (λ i. exitsMet old new (s .M) n n′ i ⇒ listed (s .M) (entry old (called old n i)) (entry new (called new n′ i)))
 
   unfoldable pub rule3 : Bool
   rule3 = allPairs entered (s .M)

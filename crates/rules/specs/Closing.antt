@@ -7,7 +7,7 @@ use lib.Dec.{eqb}
 use lib.ListN.{length, getD}
 use Rattle.laws.specs.Tests.{_and_, _or_, _⇒_, choose, isnt, every, any, those, anyOf, listed, anyPair, pick, grid}
 use Rattle.rules.specs.Text.{same, sameLabel, Bytes}
-use Rattle.rules.specs.Graph.{C, Program, nodeCount, edgeCount, kindAt, labelAt, calleeAt, sourceAt, wordAt, targetAt, entry, exit, called, sameKind}
+use Rattle.rules.specs.Graph.{C, Program, nodeCount, edgeCount, kindAt, labelAt, calleeAt, sourceAt, wordAt, targetAt, entry, exit, calleeCount, called, sameKind}
 
 -- Two callee fields that count as equal: those of equal bytes.
 unfoldable pub sameCallee : Bytes → Bytes → Bool
@@ -26,18 +26,26 @@ module _ (old new : Program) where
   unfoldable pub fits : ℕ → ℕ → Bool
   fits e e′ = sameWord e e′ and alike (targetAt old e) (targetAt new e′)
 
-  -- The pairs, as the smallest relation with rules 1, 2 and 3. A C pair may go on only if the exits of its callee are a pair.
+  -- The exits of the first i callees of the C nodes n and n′ are, callee by callee, in the relation R.
+  abbrev pub ExitsMet : (ℕ → ℕ → Type 0) → ℕ → ℕ → ℕ → Type 0
+  ExitsMet R n n′ i = (j : ℕ) → j < i → R (exit old (called old n j)) (exit new (called new n′ j))
+
+  -- The pairs, as the smallest relation with rules 1, 2 and 3. Of a C pair the first callee's entries are a pair, each later one's only if the exits of every callee before it are; and
+  -- it may go on only if the exits of all its callees are pairs.
   pub data Pair : ℕ → ℕ → Type 0 where
     first-entries : Pair (entry old 0) (entry new 0)
-    callee-entries : {n n′ : ℕ} → Pair n n′ → kindAt old n ≡ C → kindAt new n′ ≡ C → Pair (entry old (called old n)) (entry new (called new n′))
+    callee-entries : {n n′ : ℕ} → Pair n n′ → kindAt old n ≡ C → kindAt new n′ ≡ C → (i : ℕ) → i < calleeCount old n
+        → ((j : ℕ) → j < i → Pair (exit old (called old n j)) (exit new (called new n′ j)))
+        → Pair (entry old (called old n i)) (entry new (called new n′ i))
     edge-ends : {e e′ : ℕ} → Pair (sourceAt old e) (sourceAt new e′)
-        → (kindAt old (sourceAt old e) ≡ C → Pair (exit old (called old (sourceAt old e))) (exit new (called new (sourceAt new e′))))
+        → (kindAt old (sourceAt old e) ≡ C → (j : ℕ) → j < calleeCount old (sourceAt old e)
+        → Pair (exit old (called old (sourceAt old e) j)) (exit new (called new (sourceAt new e′) j)))
         → e < edgeCount old → e′ < edgeCount new → fits e e′ ≡ true
         → Pair (targetAt old e) (targetAt new e′)
 
   -- A pair may go on.
   abbrev pub MayGoOn : ℕ → ℕ → Type 0
-  MayGoOn n n′ = kindAt old n ≡ C → Pair (exit old (called old n)) (exit new (called new n′))
+  MayGoOn n n′ = kindAt old n ≡ C → ExitsMet Pair n n′ (calleeCount old n)
 
   -- Rule 3 joins an old edge and a new one for some pair: they are counterparts.
   pub record Counterparts (e e′ : ℕ) : Type 0 where
@@ -63,24 +71,29 @@ module _ (old new : Program) where
   unfoldable pub fitted : ℕ → ℕ → Bool
   fitted e n′ = any (edgeCount new) (λ e′. eqb (sourceAt new e′) n′ and fits e e′)
 
-  -- The pair (a, b) is given by rule 1; by rule 2 for the pair (n, n′).
+  -- The pair (a, b) is given by rule 1.
   unfoldable pub byStart : ℕ → ℕ → Bool
   byStart a b = eqb (entry old 0) a and eqb (entry new 0) b
 
-  unfoldable pub byCall : ℕ → ℕ → ℕ → ℕ → Bool
-  byCall a b n n′ = bothCall n n′ and eqb (entry old (called old n)) a and eqb (entry new (called new n′)) b
-
   -- The same by computation, from a list of pairs.
   module _ (M : List (ℕ × ℕ)) where
+    -- The exits of the first i callees of the C nodes n and n′ are listed.
+    unfoldable pub exitsMet : ℕ → ℕ → ℕ → Bool
+    exitsMet n n′ i = every i (λ j. listed M (exit old (called old n j)) (exit new (called new n′ j)))
+
     -- The listed pair (n, n′) may go on by the list.
     unfoldable pub goesOn : ℕ → ℕ → Bool
-    goesOn n n′ = sameKind (kindAt old n) C ⇒ listed M (exit old (called old n)) (exit new (called new n′))
+    goesOn n n′ = sameKind (kindAt old n) C ⇒ exitsMet n n′ (calleeCount old n)
 
     -- Rule 3 joins an old edge and a new one by the list.
     unfoldable pub joined : ℕ → ℕ → Bool
     joined e e′ = listed M (sourceAt old e) (sourceAt new e′) and goesOn (sourceAt old e) (sourceAt new e′) and fits e e′
 
-    -- By rule 3 for the edges e and e′; by a rule, from the list.
+    -- The pair (a, b) is given by rule 2 for the pair (n, n′), from the list; by rule 3 for the edges e and e′; by a rule.
+    unfoldable pub byCall : ℕ → ℕ → ℕ → ℕ → Bool
+    byCall a b n n′ =
+        bothCall n n′ and any (calleeCount old n) (λ i. exitsMet n n′ i and eqb (entry old (called old n i)) a and eqb (entry new (called new n′ i)) b)
+
     unfoldable pub byEdge : ℕ → ℕ → ℕ → ℕ → Bool
     byEdge a b e e′ = eqb (targetAt old e) a and eqb (targetAt new e′) b and joined e e′
 

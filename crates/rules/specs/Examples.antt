@@ -7,12 +7,12 @@ use mathlib.Core.List.{List, [], _∷_, _++_}
 use Prim.Native.Nat.{ℕ, zero, suc}
 use Prim.Native.String.{String}
 use Rattle.laws.specs.Tests.{_and_, _or_, _⇒_, isnt, every, any, orElse, ifTrue, first, plus, count, those, has, anyOf, listed, allPairs, anyPair, pick, gridRow, grid, firstFailed, choose, none?, after}
-use Rattle.rules.specs.Text.{Bytes, same, empty, bytes, maxBytes, then, unless, onto, split, joinBy, textOf, between, allBytes, nameByte, labelByte, wordByte, digitByte, isName, isLabel, isWord, isNumber, nonEmpty, squeezed, sameLabel, valueFrom, digits, decimal, readLines, readText, Reading, accepted, refused}
+use Rattle.rules.specs.Text.{Bytes, same, empty, bytes, maxBytes, then, unless, onto, split, joinBy, textOf, between, allBytes, nameByte, labelByte, wordByte, digitByte, isName, nameCount, nameIn, isCallees, isLabel, isWord, isNumber, nonEmpty, squeezed, sameLabel, valueFrom, digits, decimal, readLines, readText, Reading, accepted, refused}
 use Rattle.rules.specs.Graph.{sameKind, orZero, isOf, entry, exit, procOf, leaves, edgeTaken, degree, worded, Program, called}
 use Rattle.rules.specs.ProgramFile.{Listing, kindOf, isNode, isEdge, formOf, hasEdge, named, isNodeOf, hasWord, degreeFine, complete, lost, takeLine, stepProgram, finishProgram, readListing, readProgram}
 use Rattle.rules.specs.SuiteFile.{testForm, hexByte, hexValue, bitsOf, noneSet, rowFine, tested, takeTest, stepSuite, readTests, readSuite}
-use Rattle.rules.specs.Run.{Meaning, crossing, edgeAhead, ended, endedAt, listOf, run, start, step, stepAt, trail}
-use Rattle.rules.specs.Closing.{alike, fits, bothCall, fitted, goesOn, joined, byStart, byCall, byEdge, follows, grown, dangerousAt, dangerous, closed, pairs, dangers, meets, repeated, carries, carriesOnly, mark, sameCallee, sameWord}
+use Rattle.rules.specs.Run.{Meaning, another, crossing, edgeAhead, ended, endedAt, listOf, run, start, step, stepAt, trail}
+use Rattle.rules.specs.Closing.{alike, fits, bothCall, fitted, exitsMet, goesOn, joined, byStart, byCall, byEdge, follows, grown, dangerousAt, dangerous, closed, pairs, dangers, meets, repeated, carries, carriesOnly, mark, sameCallee, sameWord}
 use Rattle.rules.specs.Sheet.{selected, mLine, dLine, rLine, endLine, sheetLines, sheetText, markByte, marksOf, crossed, vLine, recordText, sheetForm, before, allBelow, testOf, takeSheetLine, stepSheet, finishSheet, readSheet}
 use Rattle.rules.specs.Check.{entered, keeps, edgeKept, edgesKept, rule1, rule2, rule3, rule4, rule5, broken}
 use Rattle.rules.specs.Job.{Outcome, wrote, refusal, passed, outcome, readJob, written, writing, sheetBytes, recordBytes, sheetAnswer, recordAnswer, judged, checkAnswer, labelPart, bySide, writingBack, programAnswer, serving, answering}
@@ -92,6 +92,19 @@ one-blank = "P,up\nN,E,,\nN,S, ,\nN,X,,\nB,0,-,1\nB,1,T,1\nB,1,F,2\n"
 three-blanks : String
 three-blanks = "P,up\nN,E,,\nN,S,   ,\nN,X,,\nB,0,-,1\nB,1,T,1\nB,1,F,2\n"
 
+-- A call of several, of which the second may change, and one of which the first may.
+several : String
+several = "P,main\nN,E,,\nN,C,wind,a+b+a+a\nN,X,,\nB,0,-,1\nB,1,-,2\nP,a\nN,E,,\nN,X,,\nB,3,-,4\nP,b\nN,E,,\nN,S,hold,\nN,X,,\nB,5,-,6\nB,6,ok,7\n"
+
+several-stay : String
+several-stay = "P,main\nN,E,,\nN,C,wind,a+b+a+a\nN,X,,\nB,0,-,1\nB,1,-,2\nP,a\nN,E,,\nN,X,,\nB,3,-,4\nP,b\nN,E,,\nN,S,stay,\nN,X,,\nB,5,-,6\nB,6,ok,7\n"
+
+late : String
+late = "P,main\nN,E,,\nN,C,wind,b+a\nN,X,,\nB,0,-,1\nB,1,-,2\nP,a\nN,E,,\nN,X,,\nB,3,-,4\nP,b\nN,E,,\nN,S,hold,\nN,X,,\nB,5,-,6\nB,6,ok,7\n"
+
+late-stay : String
+late-stay = "P,main\nN,E,,\nN,C,wind,b+a\nN,X,,\nB,0,-,1\nB,1,-,2\nP,a\nN,E,,\nN,X,,\nB,3,-,4\nP,b\nN,E,,\nN,S,stay,\nN,X,,\nB,5,-,6\nB,6,ok,7\n"
+
 two-tests : String
 two-tests = "T,t1,a8\nT,t2,f8\n"
 
@@ -165,6 +178,23 @@ blanks =
     ∷ shows blanks-moved 1 "  read   layer"
     ∷ []
 
+-- ---- several callees (document 02, job 3)
+
+-- All callees met, one of them called three times; the second one's exits not met, so that the call does not go on and nothing is behind it; the first one's not met, so that no later one
+-- is entered; the callees in another order. A check asks for the second one's entries only after the first one's exits, and then it does; a file that has the callees is given back.
+pub severals : List Example
+unfolding writes checks records back job several several-stay late late-stay
+severals =
+    writes (job several several "T,t,f8\n") "sheet,1\nM,0,0\nM,1,1\nM,2,2\nM,3,3\nM,4,4\nM,5,5\nM,6,6\nM,7,7\nend,8,0,0\n"
+    ∷ records (job several several "T,t,f8\n") 0 "V,t,5,11111\n"
+    ∷ writes (job several several-stay "T,t,c0\nT,s,f8\n") "sheet,1\nM,0,0\nM,1,1\nM,3,3\nM,4,4\nM,5,5\nD,3\nR,s\nend,5,1,1\n"
+    ∷ writes (job late late-stay "") "sheet,1\nM,0,0\nM,1,1\nM,5,5\nD,3\nend,3,1,0\n"
+    ∷ writes (job several late "") "sheet,1\nM,0,0\nD,0\nend,1,1,0\n"
+    ∷ checks (job several several "") "sheet,1\nM,0,0\nM,1,1\nM,3,3\nD,2\nend,3,1,0\n" passed
+    ∷ checks (job several several "") "sheet,1\nM,0,0\nM,1,1\nM,3,3\nM,4,4\nend,4,0,0\n" (refusal 12 3)
+    ∷ back (job several late "") 0 maxBytes (wrote (bytes several))
+    ∷ []
+
 -- Labels one by one: only byte 32 is a blank, one between two other bytes counts, and the longer label is compared to its end.
 labels-compared : (sameLabel (bytes " set   speed") (bytes "set speed  ") ≡ true)
     × (sameLabel (bytes "set speed") (bytes "setspeed") ≡ false)
@@ -217,6 +247,9 @@ refusals =
     ∷ (ofProgram (bytes "P,a\nP,a\n"), refusal 8 1)
     ∷ (ofProgram (bytes "P,a\nN,E,,\nN,X,,\nB,0,x,1\n"), refusal 8 1)
     ∷ (ofProgram (bytes "P,up\nN,E,,\nN,C,wind,down\nN,X,,\nB,0,-,1\nB,1,-,2\n"), refusal 9 3)
+    ∷ (ofProgram (bytes "P,up\nN,E,,\nN,C,wind,up+down\nN,X,,\nB,0,-,1\nB,1,-,2\n"), refusal 9 3)
+    ∷ (ofProgram (bytes "P,a\nN,C,x,a+b+a+b+a\n"), refusal 2 2)
+    ∷ (ofProgram (bytes "P,a\nN,C,x,a+\n"), refusal 2 2)
     ∷ (ofTests "T,t1\n", refusal 2 1)
     ∷ (ofTests "T,t1,a8\nT,t1,f8\n", refusal 5 2)
     ∷ (ofTests "T,t1,a\n", refusal 10 1)
@@ -241,14 +274,14 @@ refusals =
 -- ---- the statement
 
 -- The definitions answer P1 to P8, and the refusals, as document 01 says, and the change requests as document 02 does: one statement over their list, by computation.
-pub examples-answered : answered (examples ++ (backs ++ (blanks ++ refusals))) ≡ true
-unfolding answered sameOutcome examples backs blanks refusals
+pub examples-answered : answered (examples ++ (backs ++ (blanks ++ (severals ++ refusals)))) ≡ true
+unfolding answered sameOutcome examples backs blanks severals refusals
     _and_ _or_ _⇒_ isnt choose every any orElse ifTrue first plus count those has anyOf listed allPairs anyPair pick gridRow grid firstFailed none?
-    same empty onto split joinBy textOf between allBytes nameByte labelByte wordByte digitByte isName isLabel isWord isNumber valueFrom digits decimal then unless readLines readText
+    same empty onto split joinBy textOf between allBytes nameByte labelByte wordByte digitByte isName nameCount nameIn isCallees isLabel isWord isNumber valueFrom digits decimal then unless readLines readText
     sameKind orZero isOf entry exit procOf called leaves edgeTaken degree worded
     kindOf isNode isEdge formOf hasEdge named isNodeOf hasWord degreeFine complete lost takeLine stepProgram finishProgram readListing readProgram
     testForm hexByte hexValue bitsOf noneSet rowFine tested takeTest stepSuite readTests readSuite nonEmpty squeezed
-    sameLabel sameCallee sameWord alike fits bothCall fitted goesOn joined byStart byCall byEdge follows grown dangerousAt dangerous closed pairs dangers meets repeated carries carriesOnly mark
+    sameLabel sameCallee sameWord alike fits bothCall fitted exitsMet goesOn joined byStart byCall byEdge follows grown dangerousAt dangerous closed pairs dangers meets repeated carries carriesOnly mark
     selected mLine dLine rLine endLine sheetLines sheetText markByte marksOf crossed vLine recordText sheetForm before allBelow testOf takeSheetLine stepSheet finishSheet readSheet
     entered keeps edgeKept edgesKept rule1 rule2 rule3 rule4 rule5 broken formerAlike formerRule2 formerBroken formerCheckAnswer
     outcome readJob written writing sheetBytes recordBytes judged serving answering
@@ -282,19 +315,20 @@ stopping : String
 stopping = "P,up\nN,E,,\nN,S,hold,\nN,X,,\nB,0,-,1\nB,1,go,2\n"
 
 -- P2's programs, the call that returns, the call in a call and the step that stops run as document 01 says: an exit closes the newest open call, and a run that has stopped takes no more
--- steps and has not ended.
+-- steps and has not ended. The call of several runs as document 02 says: its action is done once, and each callee is entered as often as it is named.
 runs-computed : (ran 5 layers ≡ some (true, 2, bytes "read layer" ∷ bytes "hold" ∷ [], 0 ∷ 2 ∷ 4 ∷ []))
     × (ran 5 by-layer ≡ some (true, 2, bytes "read layer" ∷ bytes "hold" ∷ [], 0 ∷ 2 ∷ 4 ∷ []))
     × (ran 5 returning ≡ some (true, 1, bytes "wind" ∷ [], 0 ∷ 2 ∷ 1 ∷ []))
     × (ran 9 nested ≡ some (true, 2, bytes "wind" ∷ bytes "hold" ∷ [], 0 ∷ 2 ∷ 4 ∷ 3 ∷ 1 ∷ []))
+    × (ran 13 several ≡ some (true, 2, bytes "wind" ∷ bytes "hold" ∷ [], 0 ∷ 2 ∷ 3 ∷ 4 ∷ 2 ∷ 2 ∷ 1 ∷ []))
     × (ran 2 stopping ≡ some (false, 1, bytes "hold" ∷ [], 0 ∷ []))
     × (ran 3 stopping ≡ none)
-unfolding ran layers by-layer returning nested stopping run step stepAt start trail crossing edgeAhead listOf ended endedAt
+unfolding ran layers by-layer returning nested several stopping run step stepAt another start trail crossing edgeAhead listOf ended endedAt
     _and_ _or_ _⇒_ isnt choose every any orElse ifTrue first plus count
-    same empty onto split joinBy nonEmpty squeezed between allBytes nameByte labelByte wordByte digitByte isName isLabel isWord isNumber valueFrom then unless readLines readText
+    same empty onto split joinBy nonEmpty squeezed between allBytes nameByte labelByte wordByte digitByte isName nameCount nameIn isCallees isLabel isWord isNumber valueFrom then unless readLines readText
     sameKind orZero isOf entry exit procOf called leaves edgeTaken degree worded
     kindOf isNode isEdge formOf hasEdge named isNodeOf hasWord degreeFine complete lost takeLine stepProgram finishProgram readListing readProgram
-runs-computed = (refl, refl, refl, refl, refl, refl)
+runs-computed = (refl, refl, refl, refl, refl, refl, refl)
 
 -- ---- other bytes than names, callees, labels and words (document 02, job 1)
 
@@ -316,7 +350,7 @@ alone-computed : (alone "xxupxxxxxxxxxxxwindxupxxxxxxxxxxx-xxxxxxx-xxx" calls-it
     × (alone "xxupxxxxxxxxxxxwindxupxxxxxxxxxxx-xxxxxxx-xx" calls-itself ≡ false)
 unfolding alone calls-itself otherAlone ofParts inPart
     _and_ _or_ _⇒_ isnt choose every any orElse ifTrue first plus count
-    same empty onto split between allBytes nameByte labelByte wordByte digitByte isName isLabel isWord isNumber valueFrom then unless readLines readText
+    same empty onto split between allBytes nameByte labelByte wordByte digitByte isName nameCount nameIn isCallees isLabel isWord isNumber valueFrom then unless readLines readText
     sameKind orZero isOf entry exit procOf called leaves edgeTaken degree worded
     kindOf isNode isEdge formOf hasEdge named isNodeOf hasWord degreeFine complete lost takeLine stepProgram finishProgram readListing
 alone-computed = (refl, refl, refl, refl, refl, refl, refl)

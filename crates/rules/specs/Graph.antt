@@ -7,13 +7,13 @@ use Prim.Native.Nat.{ℕ, _≤_, _<_}
 use lib.Dec.{eqb}
 use lib.ListN.{length, getD}
 use Rattle.laws.specs.Tests.{_and_, isnt, first, count}
-use Rattle.rules.specs.Text.{Bytes, empty, same}
+use Rattle.rules.specs.Text.{Bytes, empty, nameCount, nameIn, same}
 
 -- The kinds of node: entry, step, call, exit.
 pub data Kind : Type 0 where
   E S C X : Kind
 
--- A node: the number of the procedure whose lines it stands in, its kind, its label, and the name of the procedure that it calls.
+-- A node: the number of the procedure whose lines it stands in, its kind, its label, and its callee field: the names of the procedures that it calls, joined by `+`.
 pub record Node : Type 0 where
   pub owner : ℕ
   pub kind : Kind
@@ -112,12 +112,19 @@ entry p q = orZero (first (nodeCount p) (isOf p q E))
 unfoldable pub exit : Program → ℕ → ℕ
 exit p q = orZero (first (nodeCount p) (isOf p q X))
 
--- The procedure of a name; the procedure that the C node n calls, its callee.
+-- How many callees the C node n has, numbered from 0 in the order in which they are called; the name of its callee i.
+abbrev pub calleeCount : Program → ℕ → ℕ
+calleeCount p n = nameCount (calleeAt p n)
+
+abbrev pub calleeName : Program → ℕ → ℕ → Bytes
+calleeName p n i = nameIn (calleeAt p n) i
+
+-- The procedure of a name; the callee i of the C node n, as a procedure.
 unfoldable pub procOf : Program → Bytes → ℕ
 procOf p name = orZero (first (procCount p) (λ q. same (nameAt p q) name))
 
-unfoldable pub called : Program → ℕ → ℕ
-called p n = procOf p (calleeAt p n)
+unfoldable pub called : Program → ℕ → ℕ → ℕ
+called p n i = procOf p (calleeName p n i)
 
 -- The edge e leaves the node n with the word w; the edge that the node n takes for the word w.
 unfoldable pub leaves : Program → ℕ → Bytes → ℕ → Bool
@@ -161,7 +168,7 @@ worded C w = same w dash
 worded X w = true
 
 -- A program of the kind that a program file gives: it has a procedure; each procedure has one E, one X and a name of its own; each node has a procedure, its fields filled, as many
--- edges as the table says and, if it is a C, a callee that exists; each edge leads from a node to one of the same procedure, with a word that suits the node and that no other edge of
+-- edges as the table says and, if it is a C, callees that exist; each edge leads from a node to one of the same procedure, with a word that suits the node and that no other edge of
 -- the node has.
 pub record WellFormed (p : Program) : Type 0 where
   pub begins : 0 < procCount p
@@ -172,7 +179,7 @@ pub record WellFormed (p : Program) : Type 0 where
   pub fields : (n : ℕ) → n < nodeCount p → filled (kindAt p n) (labelAt p n) (calleeAt p n) ≡ true
   pub fewestLeave : (n : ℕ) → n < nodeCount p → fewest (kindAt p n) ≤ degree p n
   pub mostLeave : (n : ℕ) → n < nodeCount p → degree p n ≤ most (kindAt p n)
-  pub callees : (n : ℕ) → n < nodeCount p → kindAt p n ≡ C → (q : ℕ) × (q < procCount p) × (nameAt p q ≡ calleeAt p n)
+  pub callees : (n : ℕ) → n < nodeCount p → kindAt p n ≡ C → (i : ℕ) → i < calleeCount p n → (q : ℕ) × (q < procCount p) × (nameAt p q ≡ calleeName p n i)
   pub sources : (e : ℕ) → e < edgeCount p → sourceAt p e < nodeCount p
   pub targets : (e : ℕ) → e < edgeCount p → targetAt p e < nodeCount p
   pub stays : (e : ℕ) → e < edgeCount p → ownerAt p (sourceAt p e) ≡ ownerAt p (targetAt p e)

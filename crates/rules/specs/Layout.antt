@@ -53,7 +53,7 @@ programLines p (suc q) = programLines p q ++ procLines p q
 unfoldable pub writeProgram : Program → Bytes
 writeProgram p = textOf (programLines p (procCount p))
 
--- A program that follows the rules: its structure (one E and one X, the table, `-`, callees, words); names, labels, callees and words of their bytes and lengths; the nodes and the
+-- A program that follows the rules: its structure (one E and one X, the table, `-`, known callees, words); names, labels, callees and words of their bytes and lengths; the nodes and the
 -- edges numbered procedure by procedure; the limits.
 pub record Follows (p : Program) : Type 0 where
   pub structure : WellFormed p

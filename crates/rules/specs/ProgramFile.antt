@@ -6,8 +6,8 @@ use Prim.Native.Nat.{ℕ, _+_, _-_}
 use lib.Dec.{eqb, leb, ltb}
 use lib.ListN.{length, getD}
 use Rattle.laws.specs.Tests.{_and_, _or_, _⇒_, isnt, every, any, first, count, after, choose}
-use Rattle.rules.specs.Text.{Bytes, same, empty, bytes, maxProcs, maxNodes, maxEdges, fieldsOf, isName, isLabel, isWord, isNumber, value, Reading, refused, accepted, then, unless, readText}
-use Rattle.rules.specs.Graph.{Kind, E, S, C, X, Node, Edge, Program, nameAt, ownerAt, kindAt, calleeAt, sourceAt, wordAt, procCount, nodeCount, edgeCount, sameKind, isOf, leaves, degree, fewest, most, worded}
+use Rattle.rules.specs.Text.{Bytes, same, empty, bytes, maxProcs, maxNodes, maxEdges, fieldsOf, isName, isCallees, isLabel, isWord, isNumber, value, Reading, refused, accepted, then, unless, readText}
+use Rattle.rules.specs.Graph.{Kind, E, S, C, X, Node, Edge, Program, nameAt, ownerAt, kindAt, calleeCount, calleeName, sourceAt, wordAt, procCount, nodeCount, edgeCount, sameKind, isOf, leaves, degree, fewest, most, worded}
 
 -- What a line says. Of numbers the bytes are kept.
 pub data Line : Type 0 where
@@ -24,11 +24,11 @@ kindOf f =
     (choose (same f (bytes "C")) (some C)
     (choose (same f (bytes "X")) (some X) none)))
 
--- Label and callee of a node: E and X leave both empty, S leaves the callee empty, C fills both.
+-- Label and callee of a node: E and X leave both empty, S leaves the callee empty, C fills both, the callee with 1 to 4 names.
 unfoldable pub isNode : Kind → Bytes → Bytes → Bool
 isNode E label callee = empty label and empty callee
 isNode S label callee = isLabel label and empty callee
-isNode C label callee = isLabel label and isName callee
+isNode C label callee = isLabel label and isCallees callee
 isNode X label callee = empty label and empty callee
 
 -- The fields of `B,from,word,to`.
@@ -110,9 +110,9 @@ complete p q =
     and every (nodeCount p) (λ n. eqb (ownerAt p n) q ⇒ degreeFine p n)
     and every (edgeCount p) (λ e. eqb (ownerAt p (sourceAt p e)) q ⇒ worded (kindAt p (sourceAt p e)) (wordAt p e))
 
--- 9: the node n is a C whose callee no procedure is named.
+-- 9: the node n is a C, and some name in its callee field no procedure has.
 unfoldable pub lost : Program → ℕ → Bool
-lost p n = sameKind (kindAt p n) C and isnt (named p (calleeAt p n))
+lost p n = sameKind (kindAt p n) C and any (calleeCount p n) (λ i. isnt (named p (calleeName p n i)))
 
 -- The refusal 8 of the procedure that was being read, at its P line, else what follows.
 abbrev pub closing : {A : Type 0} → Listing → Reading A → Reading A
@@ -183,7 +183,7 @@ takeLine n at s malformed = refused 2 n
 unfoldable pub stepProgram : ℕ → ℕ → Listing → Bytes → Reading Listing
 stepProgram n at s line = takeLine n at s (formOf (fieldsOf line))
 
--- The end of the text: an empty program is malformed in line 1; then 8 of the last procedure; then 9, at the first N line whose callee is unknown.
+-- The end of the text: an empty program is malformed in line 1; then 8 of the last procedure; then 9, at the first N line with an unknown callee.
 unfoldable pub finishProgram : ℕ → Listing → Reading Listing
 finishProgram n s =
     unless (isnt (begun (s .program))) 2 1

@@ -9,12 +9,12 @@ use lib.ListN.{length, getD, take, drop}
 use Rattle.laws.specs.Tests.{has, listed, count, plus}
 use Rattle.laws.specs.TestLaws.{Ascending}
 use Rattle.laws.specs.Lists.{Rising}
-use Rattle.rules.specs.Text.{Bytes, accepted, fieldsOf, linesOf, maxBytes, maxPairs, refused, sameLabel, squeezed, textOf, tooMany}
-use Rattle.rules.specs.Graph.{C, E, Program, WellFormed, X, called, calleeAt, edgeCount, edgeTaken, entry, exit, itsEdge, kindAt, labelAt, nameAt, nodeCount, ownerAt, procCount, sourceAt, targetAt, wordAt}
+use Rattle.rules.specs.Text.{Bytes, accepted, fieldsOf, isName, joinBy, linesOf, maxBytes, maxPairs, refused, sameLabel, squeezed, textOf, tooMany}
+use Rattle.rules.specs.Graph.{C, E, Program, WellFormed, X, called, calleeAt, calleeCount, calleeName, edgeCount, edgeTaken, entry, exit, itsEdge, kindAt, labelAt, nameAt, nodeCount, ownerAt, procCount, sourceAt, targetAt, wordAt}
 use Rattle.rules.specs.ProgramFile.{Listing, readListing, readProgram}
 use Rattle.rules.specs.SuiteFile.{Suite, TestListing, coverageAt, readSuite, readTests, testCount, testName}
 use Rattle.rules.specs.Run.{Config, Meaning, ended, run, start, trail}
-use Rattle.rules.specs.Closing.{Counterparts, Coverage, Dangerous, Pair, alike, dangers, fits, holds, joined, pairs, repeated}
+use Rattle.rules.specs.Closing.{Counterparts, Coverage, Dangerous, ExitsMet, Pair, alike, dangers, fits, holds, joined, pairs, repeated}
 use Rattle.rules.specs.Sheet.{Sheet, SheetLine, crossed, d-line, end-line, head-line, leftOff, m-line, no-form, r-line, rLine, sheetForm, sheetLines, sheetText, vLine}
 use Rattle.rules.specs.Check.{rule1, rule2, rule3, rule4, rule5}
 use Rattle.rules.specs.Job.{Given, Outcome, Request, Version, answering, check-sheet, checkAnswer, givenOf, labelPart, labelShown, labelSpan, lastNumber, no-request, numberOf, outputAfter, packed, packedSpan, passed, placeOf, programAnswer, readJob, readNewAnswer, readOldAnswer, readTestsAnswer, recordAnswer, recordBytes, refusal, requestBy, serving, sheetAnswer, sheetBytes, show-label, spanShown, success, write-program, write-record, write-sheet, written, wrote}
@@ -230,18 +230,25 @@ LabelShown = (v : Version) → readListing (v .text) ≡ accepted (v .listing) �
 
 -- ---- what runs and rules look up in a program
 
--- The entry and the exit of a procedure are its E and its X, the callee of a C is the procedure of that name, the edge that a node takes for a word is its edge of that word, and that of
+-- The entry and the exit of a procedure are its E and its X, the callee i of a C is the procedure of the name i in its callee field, the edge that a node takes for a word is its edge of that word, and that of
 -- an E or C is the one that it has.
 pub record Lookups (p : Program) : Type 0 where
   pub entry-is : (q : ℕ) → q < procCount p → (entry p q < nodeCount p) × (ownerAt p (entry p q) ≡ q) × (kindAt p (entry p q) ≡ E)
   pub exit-is : (q : ℕ) → q < procCount p → (exit p q < nodeCount p) × (ownerAt p (exit p q) ≡ q) × (kindAt p (exit p q) ≡ X)
-  pub called-is : (n : ℕ) → n < nodeCount p → kindAt p n ≡ C → (called p n < procCount p) × (nameAt p (called p n) ≡ calleeAt p n)
+  pub called-is : (n : ℕ) → n < nodeCount p → kindAt p n ≡ C → (i : ℕ) → i < calleeCount p n → (called p n i < procCount p) × (nameAt p (called p n i) ≡ calleeName p n i)
   pub taken-is : (n : ℕ) (w : Bytes) (e : ℕ) → (edgeTaken p n w ≡ some e) ↔ ((e < edgeCount p) × (sourceAt p e ≡ n) × (wordAt p e ≡ w))
   pub its-edge-there : (n : ℕ) → n < nodeCount p → (kindAt p n ≡ E) ⊎ (kindAt p n ≡ C) → (e : ℕ) × (itsEdge p n ≡ some e)
   pub its-edge-is : (n : ℕ) → n < nodeCount p → (kindAt p n ≡ E) ⊎ (kindAt p n ≡ C) → (e : ℕ) → (itsEdge p n ≡ some e) ↔ ((e < edgeCount p) × (sourceAt p e ≡ n))
 
 abbrev pub LookupsExact : Type 0
 LookupsExact = (text : Bytes) (p : Program) → readProgram text ≡ accepted p → Lookups p
+
+-- The callee field of a C (document 02, job 3): from 1 to 4 names, joined by `+`, are the names of its callees in their order.
+abbrev pub CalleesExact : Type 0
+CalleesExact =
+    (text : Bytes) (p : Program) → readProgram text ≡ accepted p → (n : ℕ) → n < nodeCount p → kindAt p n ≡ C
+    → (names : List Bytes) × (calleeAt p n ≡ joinBy 43 names) × (length names ≡ calleeCount p n) × (1 ≤ length names) × (length names ≤ 4)
+    × ((i : ℕ) → i < length names → (isName (getD names i []) ≡ true) × (getD names i [] ≡ calleeName p n i))
 
 -- ---- blanks in labels (document 02, job 2)
 
@@ -275,9 +282,10 @@ pub record Exact (old new : Program) : Type 1 where
   pub pairs-ascend : Ascending (pairs old new)
   -- The pairs are the smallest set: what has the three rules has every pair.
   pub smallest : (P : ℕ → ℕ → Type 0) → P (entry old 0) (entry new 0)
-      → ((n n′ : ℕ) → P n n′ → kindAt old n ≡ C → kindAt new n′ ≡ C → P (entry old (called old n)) (entry new (called new n′)))
+      → ((n n′ : ℕ) → P n n′ → kindAt old n ≡ C → kindAt new n′ ≡ C → (i : ℕ) → i < calleeCount old n → ExitsMet old new P n n′ i
+      → P (entry old (called old n i)) (entry new (called new n′ i)))
       → ((e e′ : ℕ) → P (sourceAt old e) (sourceAt new e′)
-      → (kindAt old (sourceAt old e) ≡ C → P (exit old (called old (sourceAt old e))) (exit new (called new (sourceAt new e′))))
+      → (kindAt old (sourceAt old e) ≡ C → ExitsMet old new P (sourceAt old e) (sourceAt new e′) (calleeCount old (sourceAt old e)))
       → e < edgeCount old → e′ < edgeCount new → fits old new e e′ ≡ true → P (targetAt old e) (targetAt new e′))
       → {n n′ : ℕ} → Pair old new n n′ → P n n′
   pub dangers-are : (e : ℕ) → (has (dangers old new) e ≡ true) ↔ Dangerous old new e
@@ -379,13 +387,17 @@ abbrev pub StoredSheetsPass : Type 0
 StoredSheetsPass = (old new tests sheet : Bytes) → formerCheckAnswer old new tests sheet ≡ passed → checkAnswer old new tests sheet ≡ passed
 
 -- The five rules, in words.
+abbrev pub Listed : Sheet → ℕ → ℕ → Type 0
+Listed c n n′ = listed (c .M) n n′ ≡ true
+
 pub record RulesExact (old new : Program) (suite : List Coverage) (c : Sheet) : Type 0 where
   pub first-listed : (rule1 old new c ≡ true) ↔ (listed (c .M) (entry old 0) (entry new 0) ≡ true)
   pub pairs-alike : (rule2 old new c ≡ true) ↔ ((n n′ : ℕ) → listed (c .M) n n′ ≡ true → alike old new n n′ ≡ true)
   pub callees-listed : (rule3 old new c ≡ true)
-      ↔ ((n n′ : ℕ) → listed (c .M) n n′ ≡ true → kindAt old n ≡ C → kindAt new n′ ≡ C → listed (c .M) (entry old (called old n)) (entry new (called new n′)) ≡ true)
+      ↔ ((n n′ : ℕ) → listed (c .M) n n′ ≡ true → kindAt old n ≡ C → kindAt new n′ ≡ C → (i : ℕ) → i < calleeCount old n → ExitsMet old new (Listed c) n n′ i
+      → Listed c (entry old (called old n i)) (entry new (called new n′ i)))
   pub edges-kept : (rule4 old new c ≡ true)
-      ↔ ((n n′ : ℕ) → listed (c .M) n n′ ≡ true → (kindAt old n ≡ C → listed (c .M) (exit old (called old n)) (exit new (called new n′)) ≡ true)
+      ↔ ((n n′ : ℕ) → listed (c .M) n n′ ≡ true → (kindAt old n ≡ C → ExitsMet old new (Listed c) n n′ (calleeCount old n))
       → (e : ℕ) → e < edgeCount old → sourceAt old e ≡ n
       → (has (c .D) e ≡ true)
       ⊎ ((e′ : ℕ) × (e′ < edgeCount new) × (sourceAt new e′ ≡ n′) × (wordAt old e ≡ wordAt new e′) × (listed (c .M) (targetAt old e) (targetAt new e′) ≡ true)))

@@ -4,9 +4,10 @@ use mathlib.Core.Bool.{Bool, true, false}
 use mathlib.Core.Option.{Option, none, some}
 use mathlib.Core.List.{List, [], _∷_, _++_}
 use Prim.Native.Nat.{ℕ, zero, suc}
-use Rattle.laws.specs.Tests.{after}
+use lib.Dec.{ltb}
+use Rattle.laws.specs.Tests.{after, choose}
 use Rattle.rules.specs.Text.{Bytes, sameLabel}
-use Rattle.rules.specs.Graph.{Kind, E, S, C, X, Program, kindAt, labelAt, targetAt, entry, called, edgeTaken, itsEdge}
+use Rattle.rules.specs.Graph.{Kind, E, S, C, X, Program, kindAt, labelAt, targetAt, entry, calleeCount, called, edgeTaken, itsEdge}
 
 -- A meaning gives, for each label and state, the next state, an output and a word. Labels that match (Text.sameLabel) have equal actions.
 pub record Meaning {ℓ κ} (St : Type ℓ) (Out : Type κ) : Type (ℓ ⊔ κ) where
@@ -15,11 +16,15 @@ pub record Meaning {ℓ κ} (St : Type ℓ) (Out : Type κ) : Type (ℓ ⊔ κ) 
   pub word : Bytes → St → Bytes
   pub matching : (l l′ : Bytes) → sameLabel l l′ ≡ true → (s : St) → (next l s ≡ next l′ s) × (out l s ≡ out l′ s) × (word l s ≡ word l′ s)
 
+-- An open call: its C node, and which of its callees is running.
+abbrev pub OpenCall : Type 0
+OpenCall = ℕ × ℕ
+
 -- What a run keeps: the node it stands on, the word chosen there, the open calls, newest first, the state, and the outputs in order.
 pub record Config {ℓ κ} (St : Type ℓ) (Out : Type κ) : Type (ℓ ⊔ κ) where
   pub node : ℕ
   pub word : Option Bytes
-  pub calls : List ℕ
+  pub calls : List OpenCall
   pub state : St
   pub outs : List Out
 
@@ -28,17 +33,21 @@ unfoldable pub listOf : Option ℕ → List ℕ
 listOf none = []
 listOf (some e) = e ∷ []
 
+-- The call k has a callee after the one that is running.
+unfoldable pub another : Program → OpenCall → Bool
+another p k = ltb (suc (k .1)) (calleeCount p (k .0))
+
 -- The edge that the step crosses, if it crosses one.
-unfoldable pub edgeAhead : Program → Kind → Option Bytes → List ℕ → ℕ → Option ℕ
+unfoldable pub edgeAhead : Program → Kind → Option Bytes → List OpenCall → ℕ → Option ℕ
 edgeAhead p E w calls n = itsEdge p n
 edgeAhead p S none calls n = none
 edgeAhead p S (some w) calls n = edgeTaken p n w
 edgeAhead p C w calls n = none
 edgeAhead p X w [] n = none
-edgeAhead p X w (k ∷ calls) n = itsEdge p k
+edgeAhead p X w (k ∷ calls) n = choose (another p k) none (itsEdge p (k .0))
 
 -- The run has ended: it stands on an X with no call open.
-unfoldable pub endedAt : Kind → List ℕ → Bool
+unfoldable pub endedAt : Kind → List OpenCall → Bool
 endedAt E calls = false
 endedAt S calls = false
 endedAt C calls = false
@@ -47,7 +56,7 @@ endedAt X (k ∷ calls) = false
 
 module _ {ℓ κ} {St : Type ℓ} {Out : Type κ} where
   -- On the node n with no word and these calls open.
-  abbrev pub standing : ℕ → List ℕ → Config St Out → Config St Out
+  abbrev pub standing : ℕ → List OpenCall → Config St Out → Config St Out
   standing n calls c = record { node = n; word = none; calls = calls; state = c .state; outs = c .outs }
 
   -- After the action of the label l.
@@ -62,7 +71,7 @@ module _ {ℓ κ} {St : Type ℓ} {Out : Type κ} where
       }
 
   -- Across the edge, if there is one, with these calls open.
-  abbrev pub across : Program → List ℕ → Config St Out → Option ℕ → Option (Config St Out)
+  abbrev pub across : Program → List OpenCall → Config St Out → Option ℕ → Option (Config St Out)
   across p calls c none = none
   across p calls c (some e) = some (standing (targetAt p e) calls c)
 
@@ -70,15 +79,19 @@ module _ {ℓ κ} {St : Type ℓ} {Out : Type κ} where
   unfoldable pub start : Program → St → Config St Out
   start p s = record { node = entry p 0; word = none; calls = []; state = s; outs = [] }
 
-  -- The five rules, by the node's kind, the word and the open calls.
-  unfoldable pub stepAt : Program → Meaning St Out → Kind → Option Bytes → List ℕ → Config St Out → Option (Config St Out)
+  -- On the entry of the callee i of the C node n, that call open before these.
+  abbrev pub calling : Program → ℕ → ℕ → List OpenCall → Config St Out → Config St Out
+  calling p n i calls c = standing (entry p (called p n i)) ((n, i) ∷ calls) c
+
+  -- The five rules, by the node's kind, the word and the open calls. An exit leads to the next callee's entry, that call staying open; after the last it closes the call.
+  unfoldable pub stepAt : Program → Meaning St Out → Kind → Option Bytes → List OpenCall → Config St Out → Option (Config St Out)
   stepAt p m E w calls c = across p calls c (itsEdge p (c .node))
   stepAt p m S none calls c = some (acted m (labelAt p (c .node)) c)
   stepAt p m S (some w) calls c = across p calls c (edgeTaken p (c .node) w)
   stepAt p m C none calls c = some (acted m (labelAt p (c .node)) c)
-  stepAt p m C (some w) calls c = some (standing (entry p (called p (c .node))) (c .node ∷ calls) c)
+  stepAt p m C (some w) calls c = some (calling p (c .node) 0 calls c)
   stepAt p m X w [] c = none
-  stepAt p m X w (k ∷ calls) c = across p calls c (itsEdge p k)
+  stepAt p m X w (k ∷ calls) c = choose (another p k) (some (calling p (k .0) (suc (k .1)) calls c)) (across p calls c (itsEdge p (k .0)))
 
   -- One step; none where the run has ended or stopped.
   unfoldable pub step : Program → Meaning St Out → Config St Out → Option (Config St Out)

@@ -6,8 +6,8 @@ use Prim.Native.Char.{code}
 use Prim.Native.String.{String}
 use Prim.Native.String as Quoted
 use lib.Dec.{eqb, leb, ltb}
-use lib.ListN.{length}
-use Rattle.laws.specs.Tests.{_and_, _or_, isnt, choose}
+use lib.ListN.{length, getD}
+use Rattle.laws.specs.Tests.{_and_, _or_, isnt, choose, every}
 
 -- Bytes: a text, or a part of one. The definitions ask nothing of a byte; in a call each is below 256.
 abbrev pub Bytes : Type 0
@@ -119,6 +119,20 @@ digitByte x = between 48 57 x
 -- A name: 1 to 12 bytes.
 unfoldable pub isName : Bytes → Bool
 isName s = between 1 12 (length s) and allBytes nameByte s
+
+-- The names that a callee field joins by `+`; how many they are; the name i.
+abbrev pub namesIn : Bytes → List Bytes
+namesIn field = split 43 field
+
+unfoldable pub nameCount : Bytes → ℕ
+nameCount field = length (namesIn field)
+
+unfoldable pub nameIn : Bytes → ℕ → Bytes
+nameIn field i = getD (namesIn field) i []
+
+-- A callee field: 1 to 4 names joined by `+`.
+unfoldable pub isCallees : Bytes → Bool
+isCallees field = between 1 4 (nameCount field) and every (nameCount field) (λ i. isName (nameIn field i))
 
 -- A label: 1 to 60 bytes.
 unfoldable pub isLabel : Bytes → Bool

@@ -11,6 +11,7 @@ use Rattle.rules.specs.Promises.{
   AlikeExact,
   AnswersPlain,
   BackExactly,
+  CalleesExact,
   ClaimsFalse,
   ClosingRulesExact,
   Demand2,
@@ -136,6 +137,9 @@ label-shown = label-part
 
 pub lookups-exact : LookupsExact
 lookups-exact text p e = Words.lookups p (read-well-formed text p e)
+
+pub callees-exact : CalleesExact
+callees-exact = Words.callees-exact
 
 pub squeezed-exact : (s t : Bytes) → SqueezedExact s t
 squeezed-exact = LabelLaws.squeezed-exact

@@ -5,14 +5,16 @@ use mathlib.Core.Bool.{Bool, true}
 use mathlib.Core.List.{[]}
 use Prim.Native.Nat.{ℕ}
 use lib.Dec.{eqb}
-use Rattle.laws.specs.Tests.{_and_, first}
-use Rattle.laws.specs.TestLaws.{and-both, and-left, and-right, same-test}
+use lib.Seq.{ext-getD}
+use borrow.Author.Tests.{eqb-true}
+use Rattle.laws.specs.Tests.{_and_, every, first}
+use Rattle.laws.specs.TestLaws.{and-both, and-left, and-right, eqb-self, every-at, every-of, same-test}
 use Rattle.laws.specs.Counting.{first-agree}
-use Rattle.rules.specs.Text.{Bytes, same, sameLabel, squeezed}
+use Rattle.rules.specs.Text.{Bytes, joinBy, nameCount, nameIn, same, sameLabel, split, squeezed}
 use Rattle.rules.specs.Graph.{Program, calleeAt, edgeCount, edgeTaken, kindAt, labelAt, leaves, sameKind, sourceAt, targetAt, wordAt}
 use Rattle.rules.specs.Closing.{alike, fits, sameCallee, sameWord}
 use Rattle.rules.specs.Proofs.GraphLaws.{sameKind-of, sameKind-true}
-use Rattle.rules.specs.Proofs.TextLaws.{same-of, same-true}
+use Rattle.rules.specs.Proofs.TextLaws.{join-split, same-of, same-self, same-true}
 
 -- Labels match by what is left of them.
 pub sameLabel-is : (l l′ : Bytes) → sameLabel l l′ ≡ same (squeezed l) (squeezed l′)
@@ -27,7 +29,17 @@ pub sameLabel-of : (l l′ : Bytes) → squeezed l ≡ squeezed l′ → sameLab
 unfolding sameLabel
 sameLabel-of l l′ e = same-of e
 
--- Callee fields count as equal by their bytes.
+-- Callee fields count as equal by their bytes; that is, if they have as many names and these have equal bytes, one by one.
+pub sameCallee-names : (c c′ : Bytes) → sameCallee c c′ ≡ (eqb (nameCount c) (nameCount c′) and every (nameCount c) (λ i. same (nameIn c i) (nameIn c′ i)))
+unfolding sameCallee nameCount nameIn
+sameCallee-names c c′ =
+    same-test _ _
+    (λ t. let e = same-true c c′ t in rw e (and-both (eqb-self (nameCount c′)) (every-of _ (nameCount c′) (λ i h. same-self (nameIn c′ i)))))
+    (λ t.
+    let e : split 43 c ≡ split 43 c′
+    = ext-getD [] (split 43 c) (split 43 c′) (eqb-true _ _ (and-left _ _ t)) (λ i h. same-true _ _ (every-at _ (nameCount c) (and-right _ _ t) i h)) in
+    same-of (sym (join-split 43 c) ∙ ap (joinBy 43) e ∙ join-split 43 c′))
+
 pub sameCallee-is : (c c′ : Bytes) → sameCallee c c′ ≡ same c c′
 unfolding sameCallee
 sameCallee-is c c′ = refl
@@ -49,13 +61,17 @@ module _ (old new : Program) (n n′ : ℕ) where
   unfolding sameCallee
   bare-callees c c′ = same-of (c ∙ sym c′)
 
-  -- Alike nodes have equal kinds, and labels that match.
+  -- Alike nodes have equal kinds and callee fields, and labels that match.
   pub alike-kind : alike old new n n′ ≡ true → kindAt new n′ ≡ kindAt old n
   alike-kind h = sym (alike-is .0 h .0)
 
   pub alike-label : alike old new n n′ ≡ true → sameLabel (labelAt old n) (labelAt new n′) ≡ true
   unfolding alike
   alike-label h = and-left _ _ (and-right _ _ h)
+
+  pub alike-callee : alike old new n n′ ≡ true → calleeAt new n′ ≡ calleeAt old n
+  unfolding alike sameCallee
+  alike-callee h = sym (same-true _ _ (and-right _ _ (and-right _ _ h)))
 
   -- Two nodes of one kind with no label and no callee are alike.
   pub alike-bare : kindAt old n ≡ kindAt new n′ → labelAt old n ≡ [] → labelAt new n′ ≡ [] → calleeAt old n ≡ [] → calleeAt new n′ ≡ [] → alike old new n n′ ≡ true

@@ -9,15 +9,15 @@ use lib.Dec.{eqb}
 use lib.ListN.{length, getD}
 use borrow.Author.Tests.{eqb-true, eqb-false, eq-eqb}
 use Rattle.laws.specs.Tests.{_and_, _or_, any, has, listed, anyPair, pick, grid}
-use Rattle.laws.specs.TestLaws.{and-left, and-right, and-both, implied, implies, or-cases, or-left, or-right, both-ways, fails, passes?, true-isnt, isnt-true, eqb-self, every-of, any-at, any-of, those-of, anyPair-at, anyPair-of, allPairs-of, pick-of, pick-at, pick-more, pick-same, pick-all, grid-of, grid-at, Ascending, grid-ascends, pick-ascends, none-left, none-failed, those-at, anyOf-at, anyOf-of}
+use Rattle.laws.specs.TestLaws.{and-left, and-right, and-both, implied, implies, or-cases, or-left, or-right, both-ways, fails, passes?, true-isnt, isnt-true, eqb-self, every-at, every-of, any-at, any-of, those-of, anyPair-at, anyPair-of, allPairs-of, pick-of, pick-at, pick-more, pick-same, pick-all, grid-of, grid-at, Ascending, grid-ascends, pick-ascends, none-left, none-failed, those-at, anyOf-at, anyOf-of}
 use Rattle.laws.specs.Lists.{Rising, those-rise}
-use Rattle.rules.specs.Graph.{E, C, Program, WellFormed, procCount, nodeCount, edgeCount, kindAt, labelAt, calleeAt, sourceAt, targetAt, entry, exit, called, filled}
-use Rattle.rules.specs.Closing.{alike, fits, Pair, first-entries, callee-entries, edge-ends, Counterparts, Dangerous, bothCall, fitted, goesOn, joined, byStart, byCall, byEdge, follows, grown, dangerousAt, dangerous, closed, pairs, dangers, Coverage, meets, repeated, holds}
+use Rattle.rules.specs.Graph.{E, C, Program, WellFormed, procCount, nodeCount, edgeCount, kindAt, labelAt, calleeAt, sourceAt, targetAt, entry, calleeCount, called, filled}
+use Rattle.rules.specs.Closing.{ExitsMet, alike, fits, Pair, first-entries, callee-entries, edge-ends, Counterparts, Dangerous, bothCall, fitted, exitsMet, goesOn, joined, byStart, byCall, byEdge, follows, grown, dangerousAt, dangerous, closed, pairs, dangers, Coverage, meets, repeated, holds}
 use Rattle.rules.specs.Sheet.{selected}
 use Rattle.rules.specs.Check.{entered, keeps, edgeKept, edgesKept, rule1, rule2, rule3, rule4, rule5, broken}
 use Rattle.rules.specs.Promises.{Exact}
 use Rattle.rules.specs.Proofs.ClosingLaws.{alike-bare, fits-ends, fits-word}
-use Rattle.rules.specs.Proofs.GraphLaws.{sameKind-true, sameKind-of, entry-is, called-is}
+use Rattle.rules.specs.Proofs.GraphLaws.{sameKind-true, sameKind-of, entry-is, called-below}
 use Rattle.rules.specs.Proofs.TextLaws.{empty-true}
 
 pick-none : (l : List (ℕ × ℕ)) → pick (λ n k. false) l ≡ []
@@ -107,13 +107,21 @@ module _ (old new : Program) where
   Sound M = (a b : ℕ) → listed M a b ≡ true → Pair old new a b
 
   module _ (M : List (ℕ × ℕ)) where
-    pub goesOn-at : (n n′ : ℕ) → goesOn old new M n n′ ≡ true → kindAt old n ≡ C → listed M (exit old (called old n)) (exit new (called new n′)) ≡ true
-    unfolding goesOn
-    goesOn-at n n′ g k = implied _ _ g (sameKind-of k)
+    pub exitsMet-at : (n n′ i : ℕ) → exitsMet old new M n n′ i ≡ true → ExitsMet old new (λ a b. listed M a b ≡ true) n n′ i
+    unfolding exitsMet
+    exitsMet-at n n′ i h = every-at _ i h
 
-    pub goesOn-of : (n n′ : ℕ) → (kindAt old n ≡ C → listed M (exit old (called old n)) (exit new (called new n′)) ≡ true) → goesOn old new M n n′ ≡ true
+    pub exitsMet-of : (n n′ i : ℕ) → ExitsMet old new (λ a b. listed M a b ≡ true) n n′ i → exitsMet old new M n n′ i ≡ true
+    unfolding exitsMet
+    exitsMet-of n n′ i h = every-of _ i h
+
+    pub goesOn-at : (n n′ : ℕ) → goesOn old new M n n′ ≡ true → kindAt old n ≡ C → ExitsMet old new (λ a b. listed M a b ≡ true) n n′ (calleeCount old n)
     unfolding goesOn
-    goesOn-of n n′ h = implies _ _ (λ k. h (sameKind-true _ _ k))
+    goesOn-at n n′ g k = exitsMet-at n n′ (calleeCount old n) (implied _ _ g (sameKind-of k))
+
+    pub goesOn-of : (n n′ : ℕ) → (kindAt old n ≡ C → ExitsMet old new (λ a b. listed M a b ≡ true) n n′ (calleeCount old n)) → goesOn old new M n n′ ≡ true
+    unfolding goesOn
+    goesOn-of n n′ h = implies _ _ (λ k. exitsMet-of n n′ (calleeCount old n) (h (sameKind-true _ _ k)))
 
     pub joined-of : (e e′ : ℕ) → listed M (sourceAt old e) (sourceAt new e′) ≡ true → goesOn old new M (sourceAt old e) (sourceAt new e′) ≡ true → fits old new e e′ ≡ true
         → joined old new M e e′ ≡ true
@@ -128,18 +136,20 @@ module _ (old new : Program) where
           isOld = h;
           isNew = h′;
           pair = s _ _ (and-left _ _ j);
-          mayGoOn = λ k. s _ _ (goesOn-at _ _ (and-left _ _ (and-right _ _ j)) k);
+          mayGoOn = λ k i l. s _ _ (goesOn-at _ _ (and-left _ _ (and-right _ _ j)) k i l);
           fit = and-right _ _ (and-right _ _ j);
         }
 
-    byCall-sound : Sound M → (a b : ℕ) → anyPair (byCall old new a b) M ≡ true → Pair old new a b
+    byCall-sound : Sound M → (a b : ℕ) → anyPair (byCall old new M a b) M ≡ true → Pair old new a b
     unfolding Sound byCall bothCall
     byCall-sound s a b t =
-        let r = anyPair-at (byCall old new a b) M t in
+        let r = anyPair-at (byCall old new M a b) M t in
         let k = and-left _ _ (r .3) in
-        let v = and-right _ _ (r .3) in
+        let i = any-at _ (calleeCount old (r .0)) (and-right _ _ (r .3)) in
+        let v = and-right _ _ (i .2) in
         subst₂ (Pair old new) (eqb-true _ _ (and-left _ _ v)) (eqb-true _ _ (and-right _ _ v))
-        (callee-entries (s _ _ (r .2)) (sameKind-true _ _ (and-left _ _ k)) (sameKind-true _ _ (and-right _ _ k)))
+        (callee-entries (s _ _ (r .2)) (sameKind-true _ _ (and-left _ _ k)) (sameKind-true _ _ (and-right _ _ k)) (i .0) (i .1)
+        (λ j l. s _ _ (exitsMet-at (r .0) (r .1) (i .0) (and-left _ _ (i .2)) j l)))
 
     byEdge-sound : Sound M → (a b : ℕ) → any (edgeCount old) (λ e. any (edgeCount new) (byEdge old new M a b e)) ≡ true → Pair old new a b
     unfolding byEdge
@@ -179,11 +189,16 @@ module _ (old new : Program) where
     unfolding follows byStart
     follows-start = or-left _ (and-both (eqb-self (entry old 0)) (eqb-self (entry new 0)))
 
-    follows-call : (n n′ : ℕ) → listed M n n′ ≡ true → kindAt old n ≡ C → kindAt new n′ ≡ C → follows old new M (entry old (called old n)) (entry new (called new n′)) ≡ true
+    follows-call : (n n′ : ℕ) → listed M n n′ ≡ true → kindAt old n ≡ C → kindAt new n′ ≡ C → (i : ℕ) → i < calleeCount old n → exitsMet old new M n n′ i ≡ true
+        → follows old new M (entry old (called old n i)) (entry new (called new n′ i)) ≡ true
     unfolding follows byCall bothCall
-    follows-call n n′ l k k′ =
-        or-right _ (or-left _ (anyPair-of (byCall old new (entry old (called old n)) (entry new (called new n′))) M n n′ l
-        (and-both (and-both (sameKind-of k) (sameKind-of k′)) (and-both (eqb-self (entry old (called old n))) (eqb-self (entry new (called new n′)))))))
+    follows-call n n′ l k k′ i h x =
+        let a = entry old (called old n i) in
+        let b = entry new (called new n′ i) in
+        or-right _ (or-left _ (anyPair-of (byCall old new M a b) M n n′ l
+        (and-both (and-both (sameKind-of k) (sameKind-of k′))
+        (any-of (λ i. exitsMet old new M n n′ i and eqb (entry old (called old n i)) a and eqb (entry new (called new n′ i)) b) (calleeCount old n) i h
+        (and-both x (and-both (eqb-self a) (eqb-self b)))))))
 
     follows-edge : (e e′ : ℕ) → e < edgeCount old → e′ < edgeCount new → joined old new M e e′ ≡ true → follows old new M (targetAt old e) (targetAt new e′) ≡ true
     unfolding follows byEdge
@@ -195,14 +210,15 @@ module _ (old new : Program) where
 
 -- The smallest: any relation with the three rules holds of every pair.
 pub least : (old new : Program) (P : ℕ → ℕ → Type 0) → P (entry old 0) (entry new 0)
-    → ((n n′ : ℕ) → P n n′ → kindAt old n ≡ C → kindAt new n′ ≡ C → P (entry old (called old n)) (entry new (called new n′)))
+    → ((n n′ : ℕ) → P n n′ → kindAt old n ≡ C → kindAt new n′ ≡ C → (i : ℕ) → i < calleeCount old n → ExitsMet old new P n n′ i
+    → P (entry old (called old n i)) (entry new (called new n′ i)))
     → ((e e′ : ℕ) → P (sourceAt old e) (sourceAt new e′)
-    → (kindAt old (sourceAt old e) ≡ C → P (exit old (called old (sourceAt old e))) (exit new (called new (sourceAt new e′))))
+    → (kindAt old (sourceAt old e) ≡ C → ExitsMet old new P (sourceAt old e) (sourceAt new e′) (calleeCount old (sourceAt old e)))
     → e < edgeCount old → e′ < edgeCount new → fits old new e e′ ≡ true → P (targetAt old e) (targetAt new e′))
     → {a b : ℕ} → Pair old new a b → P a b
 least old new P r1 r2 r3 first-entries = r1
-least old new P r1 r2 r3 (callee-entries p k k′) = r2 _ _ (least old new P r1 r2 r3 p) k k′
-least old new P r1 r2 r3 (edge-ends p x h h′ f) = r3 _ _ (least old new P r1 r2 r3 p) (λ k. least old new P r1 r2 r3 (x k)) h h′ f
+least old new P r1 r2 r3 (callee-entries p k k′ i h x) = r2 _ _ (least old new P r1 r2 r3 p) k k′ i h (λ j l. least old new P r1 r2 r3 (x j l))
+least old new P r1 r2 r3 (edge-ends p x h h′ f) = r3 _ _ (least old new P r1 r2 r3 p) (λ k j l. least old new P r1 r2 r3 (x k j l)) h h′ f
 
 module _ (old new : Program) (wo : WellFormed old) (wn : WellFormed new) where
   -- The pairs are listed.
@@ -210,16 +226,15 @@ module _ (old new : Program) (wo : WellFormed old) (wn : WellFormed new) where
   unfolding Stable
   pairs-complete first-entries =
       pairs-stable old new _ _ (grid-of _ _ _ _ (entry-is old wo 0 (wo .begins) .0) (entry-is new wn 0 (wn .begins) .0)) (follows-start old new (pairs old new))
-  pairs-complete (callee-entries {n = n} {n′ = n′} p k k′) =
-      let l = pairs-complete p in
-      let i = pairs-inside old new n n′ l in
-      let e = entry-is old wo (called old n) (called-is old wo n (i .0) k) in
-      let e′ = entry-is new wn (called new n′) (called-is new wn n′ (i .1) k′) in
-      pairs-stable old new _ _ (grid-of _ _ _ _ (e .0) (e′ .0)) (follows-call old new (pairs old new) n n′ l k k′)
+  pairs-complete (callee-entries {n = n} {n′ = n′} p k k′ i h x) =
+      let e = entry-is old wo (called old n i) (called-below old wo n i) in
+      let e′ = entry-is new wn (called new n′ i) (called-below new wn n′ i) in
+      pairs-stable old new _ _ (grid-of _ _ _ _ (e .0) (e′ .0))
+      (follows-call old new (pairs old new) n n′ (pairs-complete p) k k′ i h (exitsMet-of old new (pairs old new) n n′ i (λ j l. pairs-complete (x j l))))
   pairs-complete (edge-ends {e = e} {e′ = e′} p x h h′ f) =
       pairs-stable old new _ _ (grid-of _ _ _ _ (wo .targets e h) (wn .targets e′ h′))
       (follows-edge old new (pairs old new) e e′ h h′
-      (joined-of old new (pairs old new) e e′ (pairs-complete p) (goesOn-of old new (pairs old new) _ _ (λ k. pairs-complete (x k))) f))
+      (joined-of old new (pairs old new) e e′ (pairs-complete p) (goesOn-of old new (pairs old new) _ _ (λ k j l. pairs-complete (x k j l))) f))
 
   -- The computed list holds just the pairs.
   pub smallest : (a b : ℕ) → (listed (pairs old new) a b ≡ true) ↔ Pair old new a b
@@ -230,7 +245,7 @@ module _ (old new : Program) (wo : WellFormed old) (wn : WellFormed new) where
   unfolding Sound
   joined-iff e e′ h h′ = (
     joined-sound old new (pairs old new) (pairs-sound old new) e e′ h h′,
-    λ c. joined-of old new (pairs old new) e e′ (pairs-complete (c .pair)) (goesOn-of old new (pairs old new) _ _ (λ k. pairs-complete (c .mayGoOn k))) (c .fit),
+    λ c. joined-of old new (pairs old new) e e′ (pairs-complete (c .pair)) (goesOn-of old new (pairs old new) _ _ (λ k j l. pairs-complete (c .mayGoOn k j l))) (c .fit),
   )
 
   -- Joined edges end on a pair.
@@ -248,7 +263,7 @@ module _ (old new : Program) (wo : WellFormed old) (wn : WellFormed new) where
             isOld = h;
             partner = n′;
             pair = pairs-sound old new _ _ (rw s l);
-            mayGoOn = λ k. pairs-sound old new _ _ (goesOn-at old new (pairs old new) _ _ (rw s g) k);
+            mayGoOn = λ k j i. pairs-sound old new _ _ (goesOn-at old new (pairs old new) _ _ (rw s g) k j i);
             unfit = λ e′ h a f. both-ways (any-of (λ e′. eqb (sourceAt new e′) n′ and fits old new e e′) (edgeCount new) e′ h (and-both (eq-eqb _ _ a) f)) u;
           }
 
@@ -265,7 +280,7 @@ module _ (old new : Program) (wo : WellFormed old) (wn : WellFormed new) where
       back d =
           anyPair-of (dangerousAt old new (pairs old new) e) (pairs old new) (sourceAt old e) (d .partner) (pairs-complete (d .pair))
           (and-both (eqb-self (sourceAt old e))
-          (and-both (goesOn-of old new (pairs old new) _ _ (λ k. pairs-complete (d .mayGoOn k))) (true-isnt (fails _ (unfits d)))))
+          (and-both (goesOn-of old new (pairs old new) _ _ (λ k j l. pairs-complete (d .mayGoOn k j l))) (true-isnt (fails _ (unfits d)))))
 
   -- The listed dangers are just the dangerous edges.
   pub dangers-iff : (e : ℕ) → (has (dangers old new) e ≡ true) ↔ Dangerous old new e
@@ -298,9 +313,7 @@ module _ (old new : Program) (wo : WellFormed old) (wn : WellFormed new) where
 
   pub pair-alike : {a b : ℕ} → Pair old new a b → alike old new a b ≡ true
   pair-alike first-entries = entries-alike 0 0 (wo .begins) (wn .begins)
-  pair-alike (callee-entries {n = n} {n′ = n′} p k k′) =
-      let i = pairs-inside old new n n′ (pairs-complete p) in
-      entries-alike _ _ (called-is old wo n (i .0) k) (called-is new wn n′ (i .1) k′)
+  pair-alike (callee-entries {n = n} {n′ = n′} p k k′ i h x) = entries-alike _ _ (called-below old wo n i) (called-below new wn n′ i)
   pair-alike (edge-ends p x h h′ f) = fits-ends old new _ _ f
 
   -- For an old edge that is not dangerous, the new node of a pair that may go on has an edge that fits.
@@ -325,7 +338,9 @@ module _ (old new : Program) (wo : WellFormed old) (wn : WellFormed new) where
     unfolding rule3 entered bothCall selected
     passes3 =
         allPairs-of (entered old new (selected old new suite)) (pairs old new) (λ n n′ l. implies _ _ (λ k.
-        pairs-complete (callee-entries (pairs-sound old new n n′ l) (sameKind-true _ _ (and-left _ _ k)) (sameKind-true _ _ (and-right _ _ k)))))
+        every-of _ (calleeCount old n) (λ i h. implies _ _ (λ x.
+        pairs-complete (callee-entries (pairs-sound old new n n′ l) (sameKind-true _ _ (and-left _ _ k)) (sameKind-true _ _ (and-right _ _ k)) i h
+        (λ j g. pairs-sound old new _ _ (exitsMet-at old new (pairs old new) n n′ i x j g)))))))
 
     -- A fitting edge is one that rule 4 asks for.
     kept : (n n′ : ℕ) → listed (pairs old new) n n′ ≡ true → goesOn old new (pairs old new) n n′ ≡ true → (e : ℕ) → e < edgeCount old → sourceAt old e ≡ n

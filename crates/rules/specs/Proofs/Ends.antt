@@ -8,7 +8,7 @@ use Prim.Native.Nat.{ℕ, zero, suc}
 use Rattle.laws.specs.Tests.{has, after}
 use Rattle.laws.specs.TestLaws.{has-append, has-append-left, has-append-right}
 use Rattle.rules.specs.Graph.{Kind, E, S, C, X, Program, kindAt}
-use Rattle.rules.specs.Run.{Meaning, Config, listOf, stepAt, step, crossing, run, trail, endedAt, ended}
+use Rattle.rules.specs.Run.{Meaning, Config, OpenCall, listOf, stepAt, step, crossing, run, trail, endedAt, ended}
 
 module _ {ℓ κ} {St : Type ℓ} {Out : Type κ} (p : Program) (m : Meaning St Out) where
   -- A run that has ended takes no step.
@@ -16,7 +16,7 @@ module _ {ℓ κ} {St : Type ℓ} {Out : Type κ} (p : Program) (m : Meaning St 
   unfolding ended endedAt step stepAt
   ended-stops c e = go (kindAt p (c .node)) (c .calls) e
     where
-      go : (k : Kind) (calls : List ℕ) → endedAt k calls ≡ true → stepAt p m k (c .word) calls c ≡ none
+      go : (k : Kind) (calls : List OpenCall) → endedAt k calls ≡ true → stepAt p m k (c .word) calls c ≡ none
       go E calls e = absurd (false≢true e)
       go S calls e = absurd (false≢true e)
       go C calls e = absurd (false≢true e)

@@ -1,17 +1,19 @@
 -- What the definitions of Graph give, above all of well-formed programs.
-use mathlib.Core.Path.{_≡_, refl, sym, ap, _∙_}
+use mathlib.Core.Path.{_≡_, refl, sym, ap, _∙_, subst}
 use mathlib.Core.Logic.{_⊎_, inl, inr}
-use mathlib.Core.Bool.{Bool, true}
+use mathlib.Core.Bool.{Bool, true, true≢false}
 use mathlib.Core.Option.{Option, none, some}
+use mathlib.Core.List.{[]}
 use Prim.Native.Nat.{ℕ, zero, suc, _≤_, _<_}
 use native.Mathlib.Omega.{arith}
 use lib.Dec.{eqb}
+use lib.ListN.{List·getD-eq-default}
 use borrow.Author.Tests.{eqb-true, eq-eqb}
-use Rattle.laws.specs.Tests.{first, count}
-use Rattle.laws.specs.TestLaws.{and-left, and-right, and-both, eqb-self, first-at, first-none, first-only, count-one}
-use Rattle.rules.specs.Text.{Bytes, same}
-use Rattle.rules.specs.Graph.{Kind, E, S, C, X, Program, WellFormed, nameAt, ownerAt, kindAt, calleeAt, sourceAt, wordAt, procCount, nodeCount, edgeCount, dash, kindNumber, sameKind, orZero, isOf, entry, exit, procOf, called, leaves, edgeTaken, degree, worded}
-use Rattle.rules.specs.Proofs.TextLaws.{same-of, same-true}
+use Rattle.laws.specs.Tests.{_and_, first, count}
+use Rattle.laws.specs.TestLaws.{and-left, and-right, and-both, eqb-self, first-at, first-only, count-one}
+use Rattle.rules.specs.Text.{Bytes, between, isName, nameCount, nameIn, namesIn, same}
+use Rattle.rules.specs.Graph.{Kind, E, S, C, X, Program, WellFormed, nameAt, ownerAt, kindAt, calleeAt, calleeCount, calleeName, sourceAt, wordAt, procCount, nodeCount, edgeCount, dash, kindNumber, sameKind, orZero, isOf, entry, exit, procOf, called, leaves, edgeTaken, degree, worded}
+use Rattle.rules.specs.Proofs.TextLaws.{same-of, same-true, split-cons}
 
 kindOf : ℕ → Kind
 kindOf zero = E
@@ -61,6 +63,25 @@ taken-at p n w e h =
     let s = leaves-true p n w e (r .1) in
     (r .0, s .0, s .1)
 
+-- Where names are names, no procedure is looked up for a number that names no callee, and 0 is taken.
+pub called-none : (p : Program) → ((q : ℕ) → q < procCount p → isName (nameAt p q) ≡ true) → (n i : ℕ) → calleeCount p n ≤ i → called p n i ≡ 0
+unfolding called procOf orZero nameCount nameIn isName between _and_
+called-none p names n i h = rw (List·getD-eq-default (namesIn (calleeAt p n)) [] h) (go (first (procCount p) (λ q. same (nameAt p q) [])) refl)
+  where
+    nameless : isName [] ≡ true → ⊥
+    nameless e = true≢false (sym e)
+
+    go : (o : Option ℕ) → first (procCount p) (λ q. same (nameAt p q) []) ≡ o → orZero o ≡ 0
+    go none e = refl
+    go (some q) e =
+        let r = first-at (λ q. same (nameAt p q) []) (procCount p) q e in
+        absurd (nameless (subst (λ (s : Bytes). isName s ≡ true) (same-true _ [] (r .1)) (names q (r .0))))
+
+-- A callee field has a name.
+pub some-name : (field : Bytes) → 0 < nameCount field
+unfolding nameCount
+some-name field = let c = split-cons 43 field in rw (c .2) (omega arith)
+
 -- The first number that passes, where one passes and no other.
 pub first-found : (n : ℕ) (f : ℕ → Bool) → count n f ≡ 1 → (i : ℕ) × (i < n) × (f i ≡ true) × ((j : ℕ) → j < n → f j ≡ true → j ≡ i) × (first n f ≡ some i)
 first-found n f e =
@@ -82,34 +103,26 @@ module _ (p : Program) (wf : WellFormed p) where
       let r = first-found (nodeCount p) (isOf p q X) (wf .exits q h) in
       rw (r .4) (r .3 n l (isOf-of p q X n a b))
 
-  -- The procedure that is looked up for a node exists, also where the node calls none; that of a call has the name that the node gives.
-  pub called-below : (n : ℕ) → called p n < procCount p
-  unfolding called procOf orZero
-  called-below n = go (first (procCount p) (λ q. same (nameAt p q) (calleeAt p n))) refl
+  -- The procedure that is looked up for a name exists, also where no procedure has it; that of a call's name has that name.
+  procOf-below : (name : Bytes) → procOf p name < procCount p
+  unfolding procOf orZero
+  procOf-below name = go (first (procCount p) (λ q. same (nameAt p q) name)) refl
     where
-      go : (o : Option ℕ) → first (procCount p) (λ q. same (nameAt p q) (calleeAt p n)) ≡ o → orZero o < procCount p
+      go : (o : Option ℕ) → first (procCount p) (λ q. same (nameAt p q) name) ≡ o → orZero o < procCount p
       go none e = wf .begins
-      go (some q) e = first-at (λ q. same (nameAt p q) (calleeAt p n)) (procCount p) q e .0
+      go (some q) e = first-at (λ q. same (nameAt p q) name) (procCount p) q e .0
 
-  pub called-name : (n : ℕ) → n < nodeCount p → kindAt p n ≡ C → nameAt p (called p n) ≡ calleeAt p n
-  unfolding called procOf orZero
-  called-name n h k =
-      let r = wf .callees n h k in
-      go (first (procCount p) (λ q. same (nameAt p q) (calleeAt p n))) refl (r .0) (r .1) (same-of (r .2))
-    where
-      go : (o : Option ℕ) → first (procCount p) (λ q. same (nameAt p q) (calleeAt p n)) ≡ o → (q : ℕ) → q < procCount p → same (nameAt p q) (calleeAt p n) ≡ true
-          → nameAt p (orZero o) ≡ calleeAt p n
-      go none e q l t = absurd (first-none (λ q. same (nameAt p q) (calleeAt p n)) (procCount p) e q l t)
-      go (some j) e q l t = same-true _ _ (first-at (λ q. same (nameAt p q) (calleeAt p n)) (procCount p) j e .1)
+  pub called-below : (n i : ℕ) → called p n i < procCount p
+  unfolding called
+  called-below n i = procOf-below (calleeName p n i)
 
-  -- A call's procedure exists.
-  pub called-is : (n : ℕ) → n < nodeCount p → kindAt p n ≡ C → called p n < procCount p
+  pub called-name : (n i : ℕ) → n < nodeCount p → kindAt p n ≡ C → i < calleeCount p n → nameAt p (called p n i) ≡ calleeName p n i
   unfolding called procOf orZero
-  called-is n h k =
-      let r = wf .callees n h k in
-      let only : (j : ℕ) → j < procCount p → same (nameAt p j) (calleeAt p n) ≡ true → j ≡ r .0
+  called-name n i h k l =
+      let r = wf .callees n h k i l in
+      let only : (j : ℕ) → j < procCount p → same (nameAt p j) (calleeName p n i) ≡ true → j ≡ r .0
       = λ j l s. wf .names (r .0) j (r .1) l (same-true _ _ s ∙ sym (r .2)) in
-      rw (first-only (λ q. same (nameAt p q) (calleeAt p n)) (procCount p) (r .0) (r .1) (same-of (r .2)) only) (r .1)
+      rw (first-only (λ q. same (nameAt p q) (calleeName p n i)) (procCount p) (r .0) (r .1) (same-of (r .2)) only) (r .2)
 
   -- An edge is the one of its node and word.
   pub edge-is : (e n : ℕ) (w : Bytes) → e < edgeCount p → sourceAt p e ≡ n → wordAt p e ≡ w → edgeTaken p n w ≡ some e

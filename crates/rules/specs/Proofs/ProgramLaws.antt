@@ -10,11 +10,11 @@ use native.Mathlib.Decide.{decLt}
 use lib.Dec.{eqb, leb}
 use lib.ListN.{length, getD}
 use borrow.Author.Tests.{eqb-true, eq-eqb, ne-eqb, ltb-true, ltb-false, leb-true, leb-false}
-use Rattle.laws.specs.Tests.{_and_, _or_, any, first, plus, count, after, choose}
-use Rattle.laws.specs.TestLaws.{and-left, and-right, and-both, implied, isnt-false, true-isnt, both-ways, passes?, fails, every-at, any-at, any-none, first-none, none-below}
+use Rattle.laws.specs.Tests.{_and_, _or_, isnt, any, first, plus, count, after, choose}
+use Rattle.laws.specs.TestLaws.{and-left, and-right, and-both, implied, isnt-false, true-isnt, both-ways, passes?, fails, every-at, any-at, any-of, any-none, first-none, none-below}
 use Rattle.laws.specs.Lists.{snoc-length, snoc-cases, snoc-old, snoc-new, snoc-all, count-agree}
-use Rattle.rules.specs.Text.{Bytes, same, empty, bytes, maxProcs, maxNodes, maxEdges, between, isName, isLabel, isWord, value, fieldsOf, Reading, refused, accepted}
-use Rattle.rules.specs.Graph.{Kind, E, S, C, X, Node, Edge, Program, WellFormed, noNode, noEdge, nodeAt, edgeAt, nameAt, ownerAt, kindAt, labelAt, calleeAt, sourceAt, wordAt, targetAt, procCount, nodeCount, edgeCount, sameKind, isOf, leaves, degree, fewest, most, filled, worded}
+use Rattle.rules.specs.Text.{Bytes, same, empty, bytes, maxProcs, maxNodes, maxEdges, between, isName, isCallees, nameCount, nameIn, split, isLabel, isWord, value, fieldsOf, Reading, refused, accepted}
+use Rattle.rules.specs.Graph.{Kind, E, S, C, X, Node, Edge, Program, WellFormed, noNode, noEdge, nodeAt, edgeAt, nameAt, ownerAt, kindAt, labelAt, calleeAt, calleeCount, calleeName, sourceAt, wordAt, targetAt, procCount, nodeCount, edgeCount, sameKind, isOf, leaves, degree, fewest, most, filled, worded}
 use Rattle.rules.specs.ProgramFile.{Line, proc-line, node-line, edge-line, malformed, kindOf, isNode, isEdge, formOf, Listing, nothingRead, addProc, addNode, addEdge, current, begun, hasEdge, named, isNodeOf, hasWord, degreeFine, complete, lost, closing, takeProc, takeLine, stepProgram, finishProgram, readListing, readProgram}
 use Rattle.rules.specs.Layout.{kindField}
 use Rattle.rules.specs.Proofs.GraphLaws.{sameKind-of, leaves-of}
@@ -502,11 +502,17 @@ unfolding between empty
 not-empty k [] e = absurd (let z : ⊥ = omega (arith, leb-true 1 0 (and-left _ _ e)) in z)
 not-empty k (x ∷ s) e = refl
 
+-- A callee field is not empty: its first name is not.
+callees-some : (c : Bytes) → isCallees c ≡ true → empty c ≡ false
+unfolding isCallees nameCount nameIn isName split empty
+callees-some [] e = absurd (true≢false (not-empty 12 [] (and-left _ _ (every-at (λ i. isName (nameIn [] i)) 1 (and-right _ _ e) 0 (omega arith)))))
+callees-some (x ∷ c) e = refl
+
 node-filled : (k : Kind) (l c : Bytes) → isNode k l c ≡ true → filled k l c ≡ true
-unfolding isNode filled isLabel isName
+unfolding isNode filled isLabel
 node-filled E l c e = e
 node-filled S l c e = and-both (true-isnt (not-empty 60 l (and-left _ _ (and-left _ _ e)))) (and-right _ _ e)
-node-filled C l c e = and-both (true-isnt (not-empty 60 l (and-left _ _ (and-left _ _ e)))) (true-isnt (not-empty 12 c (and-left _ _ (and-right _ _ e))))
+node-filled C l c e = and-both (true-isnt (not-empty 60 l (and-left _ _ (and-left _ _ e)))) (true-isnt (callees-some c (and-right _ _ e)))
 node-filled X l c e = e
 
 -- The facts together are a well-formed program.
@@ -520,12 +526,12 @@ module _ (p : Program) (s : Sound p) (f : Ended p) where
           let e : current p ≡ q = omega arith in
           subst (λ (q : ℕ). Complete p q) e (f .whole)
 
-  callees-known : (n : ℕ) → n < nodeCount p → kindAt p n ≡ C → (q : ℕ) × (q < procCount p) × (nameAt p q ≡ calleeAt p n)
+  callees-known : (n : ℕ) → n < nodeCount p → kindAt p n ≡ C → (i : ℕ) → i < calleeCount p n → (q : ℕ) × (q < procCount p) × (nameAt p q ≡ calleeName p n i)
   unfolding lost named
-  callees-known n h k =
-      let t : any (procCount p) (λ q. same (nameAt p q) (calleeAt p n)) ≡ true
-      = ⊎-elim (λ y. y) (λ z. absurd (both-ways (and-both (sameKind-of k) (true-isnt z)) (f .known n h))) (passes? (any (procCount p) (λ q. same (nameAt p q) (calleeAt p n)))) in
-      let r = any-at (λ q. same (nameAt p q) (calleeAt p n)) (procCount p) t in
+  callees-known n h k i l =
+      let t : any (procCount p) (λ q. same (nameAt p q) (calleeName p n i)) ≡ true
+      = ⊎-elim (λ y. y) (λ z. absurd (both-ways (and-both (sameKind-of k) (any-of (λ i. isnt (named p (calleeName p n i))) (calleeCount p n) i l (true-isnt z))) (f .known n h))) (passes? (any (procCount p) (λ q. same (nameAt p q) (calleeName p n i)))) in
+      let r = any-at (λ q. same (nameAt p q) (calleeName p n i)) (procCount p) t in
       (r .0, r .1, same-true _ _ (r .2))
 
   pub well-formed : WellFormed p

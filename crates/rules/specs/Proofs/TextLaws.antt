@@ -7,11 +7,11 @@ use Prim.Native.Nat.{ℕ, zero, suc, _+_, _-_, _*_, _/_, _%_, _^_, _≤_, _<_}
 use native.Mathlib.Omega.{arith}
 use native.Mathlib.Decide.{decLt}
 use lib.Dec.{eqb}
-use lib.ListN.{length, length-append}
+use lib.ListN.{length, getD, length-append}
 use borrow.Author.Tests.{eqb-true, ltb-false, leb-true, ne-eqb, le-leb, lt-ltb, le-ltb}
 use Rattle.laws.specs.Tests.{isnt}
-use Rattle.laws.specs.TestLaws.{and-left, and-right, and-both, or-cases, isnt-true, isnt-false, true-isnt, eqb-self}
-use Rattle.rules.specs.Text.{Bytes, maxBytes, onto, split, linesOf, joinBy, textOf, between, allBytes, nameByte, labelByte, wordByte, digitByte, isName, isLabel, isWord, isNumber, value, valueFrom, digits, decimal, Reading, refused, accepted, then, unless, readLines, readText, empty, same}
+use Rattle.laws.specs.TestLaws.{and-left, and-right, and-both, or-cases, isnt-true, isnt-false, true-isnt, eqb-self, every-at}
+use Rattle.rules.specs.Text.{Bytes, maxBytes, onto, split, linesOf, joinBy, textOf, between, allBytes, nameByte, labelByte, wordByte, digitByte, isName, nameCount, nameIn, isCallees, isLabel, isWord, isNumber, value, valueFrom, digits, decimal, Reading, refused, accepted, then, unless, readLines, readText, empty, same}
 
 -- ---- equal bytes
 
@@ -173,12 +173,16 @@ unfolding textOf split
 split-ended [] h = refl
 split-ended (l ∷ ls) h = split-next 10 l (textOf ls) (h .0) ∙ ap (λ (r : List Bytes). l ∷ r) (split-ended ls (h .1))
 
--- A line of fields with no byte 10 has none.
+-- Pieces with no b, joined by another byte, have none; so a line of fields with no byte 10.
+pub free-joined : (b c : ℕ) → other b c ≡ true → (fs : List Bytes) → AllFree b fs → Free b (joinBy c fs)
+unfolding joinBy allBytes
+free-joined b c o [] h = refl
+free-joined b c o (f ∷ []) h = h .0
+free-joined b c o (f ∷ g ∷ fs) h = allBytes-append (other b) f (c ∷ joinBy c (g ∷ fs)) (h .0) (and-both o (free-joined b c o (g ∷ fs) (h .1)))
+
 pub free-commas : (fs : List Bytes) → AllFree 10 fs → Free 10 (joinBy 44 fs)
-unfolding joinBy allBytes other isnt
-free-commas [] h = refl
-free-commas (f ∷ []) h = h .0
-free-commas (f ∷ g ∷ fs) h = allBytes-append (other 10) f (44 ∷ joinBy 44 (g ∷ fs)) (h .0) (and-both refl (free-commas (g ∷ fs) (h .1)))
+unfolding other isnt
+free-commas fs h = free-joined 10 44 refl fs h
 
 pub allFree-append : (b : ℕ) (ls ms : List Bytes) → AllFree b ls → AllFree b ms → AllFree b (ls ++ ms)
 allFree-append b [] ms g h = h
@@ -186,7 +190,7 @@ allFree-append b (l ∷ ls) ms g h = (g .0, allFree-append b ls ms (g .1) h)
 
 -- ---- the classes have no comma and no byte 10
 
-between-at : (a b x : ℕ) → between a b x ≡ true → (a ≤ x) × (x ≤ b)
+pub between-at : (a b x : ℕ) → between a b x ≡ true → (a ≤ x) × (x ≤ b)
 unfolding between
 between-at a b x h = (leb-true _ _ (and-left _ _ h), leb-true _ _ (and-right _ _ h))
 
@@ -230,6 +234,16 @@ name-free b s l h = allBytes-more nameByte (other b) (λ x k. name-other b x l k
 pub name-sized : (s : Bytes) → isName s ≡ true → (1 ≤ length s) × (length s ≤ 12)
 unfolding isName
 name-sized s h = between-at 1 12 (length s) (and-left _ _ h)
+
+-- A callee field has no byte below 48 but `+`.
+names-free : (b : ℕ) (ps : List Bytes) → b < 48 → ((i : ℕ) → i < length ps → isName (getD ps i []) ≡ true) → AllFree b ps
+names-free b [] l h = tt
+names-free b (p ∷ ps) l h = (name-free b p l (h 0 (omega arith)), names-free b ps l (λ i k. h (suc i) (omega arith)))
+
+pub callees-free : (b : ℕ) (s : Bytes) → b < 48 → other b 43 ≡ true → isCallees s ≡ true → Free b s
+unfolding isCallees nameCount nameIn
+callees-free b s l o h =
+    subst (Free b) (join-split 43 s) (free-joined b 43 o (split 43 s) (names-free b (split 43 s) l (every-at (λ i. isName (nameIn s i)) (nameCount s) (and-right _ _ h))))
 
 pub label-free-ten : (s : Bytes) → isLabel s ≡ true → Free 10 s
 unfolding isLabel

@@ -1,24 +1,27 @@
 -- Definitions by computation in the document's words: look-ups, meanings, alike, the five rules of the check, left off.
 use mathlib.Core.Path.{_≡_, refl, sym, ap, _∙_, subst}
 use mathlib.Core.Logic.{inl, inr, ⊎-elim}
-use mathlib.Core.Bool.{true, true≢false}
+use mathlib.Core.Bool.{Bool, true, true≢false}
 use mathlib.Core.Option.{some}
 use mathlib.Core.List.{List, [], _∷_, _++_}
 use Prim.Native.Nat.{ℕ, _<_}
 use lib.ListN.{length, getD}
 use borrow.Author.Tests.{eqb-true, eq-eqb}
+use Rattle.laws.specs.Tests.{_⇒_, listed}
 use Rattle.laws.specs.TestLaws.{and-left, and-right, and-both, implied, implies, or-cases, or-left, or-right, every-at, every-of, any-at, any-of, anyOf-of, anyOf-at, allPairs-at, allPairs-of, both-ways, fails, isnt-true, true-isnt}
-use Rattle.rules.specs.Text.{Bytes, linesOf, squeezed}
-use Rattle.rules.specs.Graph.{Program, WellFormed, X, edgeCount, exit, isOf, kindAt, nodeCount, orZero, ownerAt, procCount}
+use Rattle.rules.specs.Text.{Bytes, isCallees, isName, linesOf, nameCount, nameIn, namesIn, squeezed}
+use Rattle.rules.specs.Graph.{Program, WellFormed, X, calleeAt, calleeCount, called, edgeCount, entry, exit, isOf, kindAt, nodeCount, orZero, ownerAt, procCount}
+use Rattle.rules.specs.ProgramFile.{isNode}
 use Rattle.rules.specs.Run.{Meaning}
-use Rattle.rules.specs.Closing.{Coverage, bothCall, goesOn, holds, meets}
+use Rattle.rules.specs.Closing.{Coverage, bothCall, exitsMet, goesOn, holds, meets}
 use Rattle.rules.specs.Sheet.{Sheet, among, leftOff, rLine}
 use Rattle.rules.specs.Check.{entered, keeps, edgeKept, edgesKept, rule1, rule2, rule3, rule4, rule5}
-use Rattle.rules.specs.Promises.{AlikeExact, LeftOffExact, Lookups, MeaningsFree, RulesExact}
+use Rattle.rules.specs.Promises.{AlikeExact, CalleesExact, LeftOffExact, Lookups, MeaningsFree, RulesExact}
 use Rattle.rules.specs.Proofs.ClosingLaws.{alike-is, same-word, word-same, fits-word, fits-ends, fits-of, sameLabel-true}
-use Rattle.rules.specs.Proofs.GraphLaws.{called-is, called-name, edge-is, entry-is, first-found, isOf-true, its-edge, sameKind-of, sameKind-true, taken-at}
+use Rattle.rules.specs.Proofs.GraphLaws.{called-below, called-name, edge-is, entry-is, first-found, isOf-true, its-edge, sameKind-of, sameKind-true, taken-at}
 use Rattle.rules.specs.Proofs.SheetLaws.{among-here, among-later}
-use Rattle.rules.specs.Proofs.TextLaws.{same-true}
+use Rattle.rules.specs.Proofs.TextLaws.{between-at, join-split, same-true}
+use Rattle.rules.specs.Proofs.WriteProgram.{reads-layout}
 
 -- ---- look-ups
 
@@ -34,13 +37,26 @@ lookups p wf =
     record {
       entry-is = entry-is p wf;
       exit-is = exit-found p wf;
-      called-is = λ n h k. (called-is p wf n h k, called-name p wf n h k);
+      called-is = λ n h k i l. (called-below p wf n i, called-name p wf n i h k l);
       taken-is = λ n w e. (taken-at p n w e, λ h. edge-is p wf e n w (h .0) (h .1) (h .2));
       its-edge-there = λ n h k. let i = its-edge p wf n h k in (i .0, i .1);
       its-edge-is = λ n h k e.
           let i = its-edge p wf n h k in
           (λ t. let u = taken-at p n _ e t in (u .0, u .1), λ t. i .1 ∙ ap some (sym (i .2 e (t .0) (t .1))));
     }
+
+pub callees-exact : CalleesExact
+unfolding isCallees nameCount nameIn isNode
+callees-exact text p e n h k =
+    let c : isCallees (calleeAt p n) ≡ true = and-right _ _ (rw k at (reads-layout text p .0 e .0 .nodeForms n h)) in
+    let s = between-at 1 4 _ (and-left _ _ c) in (
+      namesIn (calleeAt p n),
+      sym (join-split 43 (calleeAt p n)),
+      refl,
+      s .0,
+      s .1,
+      λ i l. (every-at (λ i. isName (nameIn (calleeAt p n) i)) (nameCount (calleeAt p n)) (and-right _ _ c) i l, refl),
+    )
 
 -- ---- meanings
 
@@ -68,19 +84,27 @@ alike-exact old new =
       fits-are = λ e e′. (λ h. (same-word old new e e′ (fits-word old new e e′ h), fits-ends old new e e′ h), λ h. fits-of old new e e′ (word-same old new e e′ (h .0)) (h .1));
     }
 
+-- The exits of the callees j are listed; where those before i are, so are the entries of the callees i.
+abbrev exitsAt : Program → Program → Sheet → ℕ → ℕ → ℕ → Bool
+exitsAt old new c n n′ j = listed (c .M) (exit old (called old n j)) (exit new (called new n′ j))
+
+abbrev enteredAt : Program → Program → Sheet → ℕ → ℕ → ℕ → Bool
+enteredAt old new c n n′ i = exitsMet old new (c .M) n n′ i ⇒ listed (c .M) (entry old (called old n i)) (entry new (called new n′ i))
+
 pub rules-exact : (old new : Program) (suite : List Coverage) (c : Sheet) → RulesExact old new suite c
-unfolding rule1 rule2 rule3 rule4 rule5 entered bothCall edgesKept edgeKept keeps goesOn meets
+unfolding rule1 rule2 rule3 rule4 rule5 entered exitsMet bothCall edgesKept edgeKept keeps goesOn meets
 rules-exact old new suite c =
     record {
       first-listed = (λ h. h, λ h. h);
       pairs-alike = (λ h. allPairs-at _ (c .M) h, λ h. allPairs-of _ (c .M) h);
       callees-listed = (
-        λ h n n′ l k k′. implied _ _ (allPairs-at (entered old new c) (c .M) h n n′ l) (and-both (sameKind-of k) (sameKind-of k′)),
-        λ h. allPairs-of (entered old new c) (c .M) (λ n n′ l. implies _ _ (λ b. h n n′ l (sameKind-true _ _ (and-left _ _ b)) (sameKind-true _ _ (and-right _ _ b)))),
+        λ h n n′ l k k′ i b m. implied _ _ (every-at (enteredAt old new c n n′) (calleeCount old n) (implied _ _ (allPairs-at (entered old new c) (c .M) h n n′ l) (and-both (sameKind-of k) (sameKind-of k′))) i b) (every-of (exitsAt old new c n n′) i m),
+        λ h. allPairs-of (entered old new c) (c .M) (λ n n′ l. implies _ _ (λ b.
+            every-of (enteredAt old new c n n′) (calleeCount old n) (λ i u. implies _ _ (λ m. h n n′ l (sameKind-true _ _ (and-left _ _ b)) (sameKind-true _ _ (and-right _ _ b)) i u (every-at (exitsAt old new c n n′) i m))))),
       );
       edges-kept = (
         λ h n n′ l g e b s.
-            let t = every-at (edgeKept old new c n n′) (edgeCount old) (implied _ _ (allPairs-at (edgesKept old new c) (c .M) h n n′ l) (implies _ _ (λ k. g (sameKind-true _ _ k)))) e b in
+            let t = every-at (edgeKept old new c n n′) (edgeCount old) (implied _ _ (allPairs-at (edgesKept old new c) (c .M) h n n′ l) (implies _ _ (λ k. every-of (exitsAt old new c n n′) (calleeCount old n) (g (sameKind-true _ _ k))))) e b in
             ⊎-elim (λ d. inl d)
             (λ a.
             let r = any-at (keeps old new c n′ e) (edgeCount new) a in
@@ -91,7 +115,7 @@ rules-exact old new suite c =
             every-of (edgeKept old new c n n′) (edgeCount old) (λ e b. implies _ _ (λ s.
             ⊎-elim (λ d. or-left _ d)
             (λ r. or-right _ (any-of (keeps old new c n′ e) (edgeCount new) (r .0) (r .1) (and-both (eq-eqb _ _ (r .2)) (and-both (word-same old new e (r .0) (r .3)) (r .4)))))
-            (h n n′ l (λ k. implied _ _ g (sameKind-of k)) e b (eqb-true _ _ s)))))),
+            (h n n′ l (λ k. every-at (exitsAt old new c n n′) (calleeCount old n) (implied _ _ g (sameKind-of k))) e b (eqb-true _ _ s)))))),
       );
       tests-listed = (
         λ h i b e d p. implied _ _ (every-at _ _ h i b) (anyOf-of (holds (getD suite i [])) (c .D) e d p),

@@ -15,12 +15,12 @@ use Rattle.laws.specs.Tests.{_and_, _or_, isnt, any, first, plus, count, after,
 use Rattle.laws.specs.TestLaws.{false-isnt, and-left, and-right, and-both, implies, isnt-true, both-ways, fails, passes?, every-of, any-at, any-of, any-none, first-at, below-suc}
 use Rattle.laws.specs.Lists.{choose-yes, choose-no, snoc-length, snoc-old, snoc-new, count-agree}
 use Rattle.rules.specs.Text.{Bytes, same, empty, bytes, maxBytes, maxProcs, maxNodes, maxEdges, fieldsOf, commas, textOf, allBytes, isName, isWord, value, decimal, refused, accepted, readLines, readText}
-use Rattle.rules.specs.Graph.{Kind, E, S, C, X, Node, Edge, Program, noNode, noEdge, nodeAt, edgeAt, nameAt, ownerAt, kindAt, labelAt, calleeAt, sourceAt, wordAt, targetAt, procCount, nodeCount, edgeCount, sameKind, isOf, degree, fewest, most, worded}
+use Rattle.rules.specs.Graph.{Kind, E, S, C, X, Node, Edge, Program, noNode, noEdge, nodeAt, edgeAt, nameAt, ownerAt, kindAt, labelAt, calleeAt, calleeCount, calleeName, sourceAt, wordAt, targetAt, procCount, nodeCount, edgeCount, sameKind, isOf, degree, fewest, most, worded}
 use Rattle.rules.specs.ProgramFile.{Line, proc-line, node-line, edge-line, malformed, kindOf, isNode, isEdge, formOf, Places, Listing, nothingRead, addProc, addNode, addEdge, current, begun, hasEdge, named, isNodeOf, hasWord, degreeFine, complete, lost, withProc, withNode, withEdge, takeProc, takeLine, stepProgram, finishProgram, readListing, readProgram}
 use Rattle.rules.specs.Layout.{kindField, procLine, nodeLine, edgeLine, linesOfThose, procLines, programLines, writeProgram, Follows}
 use Rattle.rules.specs.Proofs.GraphLaws.{sameKind-true, leaves-true}
 use Rattle.rules.specs.Proofs.ProgramLaws.{Complete, Sound, Ended, Formed, formed, Taken, taken, finished, sound-none, sound-step, well-formed}
-use Rattle.rules.specs.Proofs.TextLaws.{same-true, same-of, same-self, empty-true, decimal-free, letter-free, unless-passes, accepted-same, then-accepted, then-passes, join-split, lines-ended, Free, AllFree, split-join, split-ended, free-commas, allFree-append, name-free, label-free-ten, label-free-comma, word-free-ten, word-free-comma, decimal-number, value-decimal, decimal-value, text-holds, text-short}
+use Rattle.rules.specs.Proofs.TextLaws.{same-true, same-of, same-self, empty-true, decimal-free, letter-free, unless-passes, accepted-same, then-accepted, then-passes, join-split, lines-ended, Free, AllFree, split-join, split-ended, free-commas, allFree-append, name-free, callees-free, other, label-free-ten, label-free-comma, word-free-ten, word-free-comma, decimal-number, value-decimal, decimal-value, text-holds, text-short}
 
 -- ---- the lines of those that pass
 
@@ -218,12 +218,12 @@ kind-free b C h = letter-free b 67 h (omega arith)
 kind-free b X h = letter-free b 88 h (omega arith)
 
 node-free : (k : Kind) (l c : Bytes) → isNode k l c ≡ true → (Free 10 l × Free 10 c) × (Free 44 l × Free 44 c)
-unfolding isNode
+unfolding isNode other isnt
 node-free E l c h = both-empty l c (and-left _ _ h) (and-right _ _ h)
 node-free S l c h =
     ((label-free-ten l (and-left _ _ h), none-free 10 c (and-right _ _ h)), (label-free-comma l (and-left _ _ h), none-free 44 c (and-right _ _ h)))
 node-free C l c h =
-    ((label-free-ten l (and-left _ _ h), name-free 10 c (omega arith) (and-right _ _ h)), (label-free-comma l (and-left _ _ h), name-free 44 c (omega arith) (and-right _ _ h)))
+    ((label-free-ten l (and-left _ _ h), callees-free 10 c (omega arith) refl (and-right _ _ h)), (label-free-comma l (and-left _ _ h), callees-free 44 c (omega arith) refl (and-right _ _ h)))
 node-free X l c h = both-empty l c (and-left _ _ h) (and-right _ _ h)
 
 proc-line-free : (name : Bytes) → isName name ≡ true → Free 10 (procLine name)
@@ -757,8 +757,9 @@ module _ (p : Program) (f : Follows p) where
       go none e = e
       go (some n) e =
           let r = first-at (lost p) (nodeCount p) n e in
-          let w = f .structure .callees n (r .0) (sameKind-true _ _ (and-left _ _ (r .1))) in
-          absurd (both-ways (any-of (λ q. same (nameAt p q) (calleeAt p n)) (procCount p) (w .0) (w .1) (same-of (w .2))) (isnt-true _ (and-right _ _ (r .1))))
+          let i = any-at (λ i. isnt (named p (calleeName p n i))) (calleeCount p n) (and-right _ _ (r .1)) in
+          let w = f .structure .callees n (r .0) (sameKind-true _ _ (and-left _ _ (r .1))) (i .0) (i .1) in
+          absurd (both-ways (any-of (λ q. same (nameAt p q) (calleeName p n (i .0))) (procCount p) (w .0) (w .1) (same-of (w .2))) (isnt-true _ (i .2)))
 
   goes-end : Goes p []
   unfolding Goes readLines finishProgram empty isnt
