@@ -1,4 +1,5 @@
 pub mod Table
+pub mod Callees
 pub mod Keys
 pub mod Lookups
 pub mod Reads

@@ -3,12 +3,14 @@ use mathlib.Core.Path.{_≡_}
 use mathlib.Core.List.{List, [], _∷_, _++_}
 use Prim.Native.Nat.{ℕ, _+_, _*_, _<_}
 use lib.Dec.{ltb}
-use lib.ListN.{length, getD}
+use lib.ListN.{length, getD, drop}
 use lib.Seq.{sets}
-use Rattle.laws.specs.Tests.{count}
+use Rattle.laws.specs.Digits.{number}
+use Rattle.laws.specs.Tests.{count, first, found}
 use Rattle.laws.specs.Tables.{rows}
 use Rattle.laws.specs.Chain.{latest}
-use Rattle.rules.specs.Graph.{Program, nameAt, ownerAt, kindAt, labelAt, sourceAt, wordAt, targetAt, procCount, nodeCount, edgeCount, kindNumber, entry, exit, called}
+use Rattle.rules.specs.Text.{Bytes, namesIn, same}
+use Rattle.rules.specs.Graph.{Program, nameAt, ownerAt, kindAt, labelAt, calleeAt, sourceAt, wordAt, targetAt, procCount, nodeCount, edgeCount, kindNumber, entry, exit}
 use Rattle.rules.specs.ProgramFile.{Listing}
 use Rattle.graph.specs.Keys.{wordKey}
 
@@ -36,9 +38,17 @@ firstNode p q = count (nodeCount p) (λ n. ltb (ownerAt p n) q)
 unfoldable pub firstEdge : Program → ℕ → ℕ
 firstEdge p q = count (edgeCount p) (λ e. ltb (ownerAt p (sourceAt p e)) q)
 
--- A node: its kind, where its label stands and how long it is, and the procedure that it calls.
+-- The callees of a node as one number, by their names from the name i on: a digit to the base 256 each, the first callee's the lowest. The digit is 1 + the procedure of that name, or 0
+-- where there is none, as for the callee field of a node that calls nothing.
+unfoldable pub procDigit : Program → Bytes → ℕ
+procDigit p name = found (first (procCount p) (λ q. same (nameAt p q) name))
+
+unfoldable pub calleesFrom : Program → ℕ → ℕ → ℕ
+calleesFrom p n i = number 256 (procDigit p) (drop i (namesIn (calleeAt p n)))
+
+-- A node: its kind, where its label stands and how long it is, and the procedures that it calls.
 abbrev pub nodeRow : Listing → ℕ → List ℕ
-nodeRow s n = kindNumber (kindAt (s .program) n) ∷ getD (s .places .labelStarts) n 0 ∷ length (labelAt (s .program) n) ∷ called (s .program) n ∷ []
+nodeRow s n = kindNumber (kindAt (s .program) n) ∷ getD (s .places .labelStarts) n 0 ∷ length (labelAt (s .program) n) ∷ calleesFrom (s .program) n 0 ∷ []
 
 -- A procedure: where its name stands and how long it is, its P line, its first node and its first edge; its entry and its exit.
 abbrev pub procHead : Listing → ℕ → List ℕ
