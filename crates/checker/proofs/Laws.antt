@@ -12,11 +12,11 @@ use Rattle.laws.specs.Tests.{_and_, _or_, _⇒_, allPairs, any, choose, every, 
 use Rattle.laws.specs.TestLaws.{and-both, and-left, and-right, any-at, any-of, both-ways, every-at, every-of, every-skip, fails, implied, implies, or-left, same-test}
 use Rattle.laws.specs.Chain.{Walk, walk-end, walk-start, walk-step}
 use Rattle.laws.specs.Bits.{bitIn}
-use Rattle.rules.specs.Graph.{called, edgeCount, entry, nodeCount, sourceAt, targetAt}
+use Rattle.rules.specs.Graph.{calleeCount, edgeCount, nodeCount, sourceAt, targetAt}
 use Rattle.rules.specs.ProgramFile.{Listing}
 use Rattle.rules.specs.Closing.{Coverage, bothCall, goesOn, meets, sameWord}
 use Rattle.rules.specs.Sheet.{Sheet}
-use Rattle.rules.specs.Check.{edgeKept, edgesKept, entered, keeps, rule1, rule5}
+use Rattle.rules.specs.Check.{edgeKept, edgesKept, entered, enteredAt, keeps, rule1, rule5}
 use Rattle.graph.specs.Table.{edgeBase, headBase, procBase}
 use Rattle.graph.specs.Reads.{upTo}
 use Rattle.graph.proofs.Laws.{before-less}
@@ -180,7 +180,7 @@ module _ (rule : ℕ) (ot on ol nt nn nl w sets : List ℕ) (n k : ℕ) (r : Boo
   pair-entered d e h m o p s c i j =
       rw (ne-eqb rule 2 d, eq-eqb rule 3 e)
       (h ot nt o p m (c .old-in) (c .new-in) (c .held .store) i j
-      ∙ ap (λ (l : List (ℕ × ℕ)). bothCall (o .program) (p .program) n k ⇒ listed l (entry (o .program) (called (o .program) n)) (entry (p .program) (called (p .program) k))) (c .held .pairs-are))
+      ∙ ap (λ (l : List (ℕ × ℕ)). bothCall (o .program) (p .program) n k ⇒ every (calleeCount (o .program) n) (enteredAt (o .program) (p .program) l n k)) (c .held .pairs-are))
 
   pub pair-edges : (rule ≡ 2 → ⊥) → (rule ≡ 3 → ⊥) → EdgesKept on ol nn nl w sets n k r → PairKeeps rule (memory ot on ol) (memory nt nn nl) w sets n k r
   unfolding PairKeeps pairRule EdgesKept choose

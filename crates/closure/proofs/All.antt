@@ -1,5 +1,5 @@
 -- The turns and the returns of every function, as one set.
-use Rattle.closure.proofs.Laws.{grows, enters, edges}
-use Rattle.closure.proofs.Turns.{follows, visits, passes, repeats}
+use Rattle.closure.proofs.Laws.{grows, callees, edges}
+use Rattle.closure.proofs.Turns.{follows, enters, visits, passes, repeats}
 
-pub ruleset all = (grows, enters, edges, follows, visits, passes, repeats)
+pub ruleset all = (grows, callees, edges, follows, enters, visits, passes, repeats)

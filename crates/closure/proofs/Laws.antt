@@ -1,5 +1,5 @@
 -- The returns of the functions that add a pair, as `search` finds them: the premises are what the code holds there.
-use mathlib.Core.Path.{_≡_, refl, sym, _∙_, subst}
+use mathlib.Core.Path.{_≡_, refl, sym, ap₂, _∙_, subst}
 use mathlib.Core.Bool.{Bool, true, false}
 use mathlib.Core.List.{List}
 use Prim.Native.Nat.{ℕ, _+_, _-_, _≤_, _<_}
@@ -9,22 +9,21 @@ use lib.Dec.{eqb}
 use lib.ListN.{getD}
 use Rattle.laws.specs.Tests.{_and_, listed}
 use Rattle.laws.specs.TestLaws.{and-left, and-right, and-both, both-ways}
-use Rattle.rules.specs.Graph.{C, Program, WellFormed, called, edgeCount, entry, kindAt, nodeCount, sourceAt, targetAt}
-use Rattle.rules.specs.Closing.{MayGoOn, Pair, alike, bothCall, callee-entries, edge-ends, fits, sameWord}
+use Rattle.rules.specs.Graph.{Program, WellFormed, edgeCount, entry, nodeCount, sourceAt, targetAt}
+use Rattle.rules.specs.Closing.{MayGoOn, Pair, alike, edge-ends, fits, sameWord}
 use Rattle.rules.specs.ProgramFile.{Listing}
-use Rattle.rules.specs.Proofs.GraphLaws.{called-is, sameKind-of, sameKind-true}
 use Rattle.rules.specs.Proofs.Closure.{pair-alike}
 use Rattle.rules.specs.Proofs.ClosingLaws.{fits-ends, fits-of, fits-word, same-word}
-use Rattle.graph.specs.Table.{edgeBase, nodeBase, procBase}
+use Rattle.graph.specs.Table.{edgeBase, procBase}
 use Rattle.pairset.specs.Store.{Appended, DangerMarked, Has, pairsIn}
 use Rattle.versions.specs.Memory.{InMemory, Memory, memory}
-use Rattle.versions.specs.MemoryLaws.{callee-is, entry-is, sound, target-is, well-formed}
+use Rattle.versions.specs.MemoryLaws.{entry-is, exit-is, sound, target-is, well-formed}
 use Rattle.versions.specs.Found.{found-at, found-none}
-use Rattle.versions.specs.Claims.{Alike, BothCall, Taken}
+use Rattle.versions.specs.Claims.{Alike, Taken}
 use Rattle.versions.specs.Groups.{InGroups, Known}
-use Rattle.closure.specs.State.{CallDone, EdgeDone, EntriesDone, Formed, State, Step, Unfit}
+use Rattle.closure.specs.State.{CalleeDone, EdgeDone, EntriesDone, Formed, State, Step, Unfit}
 use Rattle.closure.specs.Step.{pair-inside, step-map, step-mark, step-more, step-none, step-over, step-shows}
-use Rattle.closure.specs.Claims.{AddsEntries, Enters, Grows, Sized, TriesEdge}
+use Rattle.closure.specs.Claims.{AddsEntries, EntersCallee, Grows, Sized, TriesEdge}
 
 -- Programs in memory are well-formed, and their nodes and edges have heads and bits.
 pub formed-in : (a b : Memory) (o p : Listing) → InMemory a o → InMemory b p → Formed (o .program) (p .program)
@@ -43,18 +42,18 @@ module _ (limit : ℕ) (w : List ℕ) (c a b : ℕ) where
 
 pub ruleset grows = (grow-full, grow-more)
 
--- ---- `add_entries`, `enter`
+-- ---- `add_entries`, `enter_callee`
 
 module _ (ol nl : List ℕ) (limit : ℕ) (w : List ℕ) (c q k a b : ℕ) (d : a ≡ getD ol (procBase q + 5) 0) (e : b ≡ getD nl (procBase k + 5) 0) (t : Bool) (is : Has w a b t) where
   -- The entries are a pair, by whatever step.
   entries-listed : (v : List ℕ) (r : ℕ)
-      → ((old new : Program) → Formed old new → State old new limit w c → Pair old new a b → Step old new limit w c (λ M _. listed M a b ≡ true) v r)
+      → ((old new : Program) → Formed old new → State old new limit w c → (c ≤ limit → Pair old new a b) → Step old new limit w c (λ M _. listed M a b ≡ true) v r)
       → AddsEntries ol nl limit w c q k v r
   unfolding AddsEntries EntriesDone
   entries-listed v r x ot on nt nn o p h g s i j y =
       let m : a ≡ entry (o .program) q = d ∙ entry-is (memory ot on ol) o h q i in
       let n : b ≡ entry (p .program) k = e ∙ entry-is (memory nt nn nl) p g k j in
-      step-map (λ t. rw (← m, ← n) t) (x (o .program) (p .program) (formed-in _ _ o p h g) s (rw (m, n) y))
+      step-map (λ t. rw (← m, ← n) t) (x (o .program) (p .program) (formed-in _ _ o p h g) s (λ few. rw (m, n) (y few)))
 
   pub entries-there : t ≡ true → Sized w w (AddsEntries ol nl limit w c q k w c)
   unfolding Has
@@ -63,41 +62,20 @@ module _ (ol nl : List ℕ) (limit : ℕ) (w : List ℕ) (c q k a b : ℕ) (d : 
   pub entries-new : (v : List ℕ) (r : ℕ) → t ≡ false → Sized w v (Grows limit w c a b v r) → Sized w v (AddsEntries ol nl limit w c q k v r)
   unfolding Has Grows
   entries-new v r y x =
-      record { size = x .size; claim = entries-listed v r (λ old new f s p. x .claim old new f s (λ _. p) (λ h. sym (is c (s .kept h .store)) ∙ y)) }
+      record { size = x .size; claim = entries-listed v r (λ old new f s p. x .claim old new f s p (λ h. sym (is c (s .kept h .store)) ∙ y)) }
 
-module _ (on ol nn nl : List ℕ) (limit : ℕ) (w : List ℕ) (c n m : ℕ) (t : Bool) (is : BothCall on nn n m t) where
-  pub enter-none : t ≡ false → Sized w w (Enters on ol nn nl limit w c n m w c)
-  unfolding BothCall Enters CallDone bothCall
-  enter-none y =
-      record {
-        size = refl;
-        claim = λ ot nt o p h g s r.
-            let i = pair-inside (formed-in _ _ o p h g) r in
-            step-none s (λ l k k′. absurd (both-ways (is ot nt ol nl o p h g (i .0) (i .1) ∙ and-both (sameKind-of k) (sameKind-of k′)) y));
-      }
+pub callee-done : (ol nl : List ℕ) (limit : ℕ) (w : List ℕ) (c q k : ℕ) (v : List ℕ) (r : ℕ) (z : Bool) → Sized w v (AddsEntries ol nl limit w c q k v r)
+    → Has v (getD ol (procBase q + 6) 0) (getD nl (procBase k + 6) 0) z → Sized w v (EntersCallee ol nl limit w c q k v r z)
+unfolding AddsEntries EntersCallee EntriesDone CalleeDone Has
+callee-done ol nl limit w c q k v r z x is =
+    record {
+      size = x .size;
+      claim = λ ot on nt nn o p h g s i j y.
+          let a = x .claim ot on nt nn o p h g s i j y in
+          step-shows a (λ l. (a .done l, is r (a .state .kept l .store) ∙ ap₂ (listed (pairsIn v r)) (exit-is (memory ot on ol) o h q i) (exit-is (memory nt nn nl) p g k j)));
+    }
 
-  pub enter-call : (q k : ℕ) (v : List ℕ) (r : ℕ) → t ≡ true → q ≡ getD on (nodeBase n + 3) 0 → k ≡ getD nn (nodeBase m + 3) 0 → Sized w v (AddsEntries ol nl limit w c q k v r)
-      → Sized w v (Enters on ol nn nl limit w c n m v r)
-  unfolding BothCall Enters CallDone bothCall AddsEntries EntriesDone
-  enter-call q k v r y d e x =
-      record {
-        size = x .size;
-        claim = λ ot nt o p h g s z.
-            let f = formed-in _ _ o p h g in
-            let i = pair-inside f z in
-            let b = sym (is ot nt ol nl o p h g (i .0) (i .1)) ∙ y in
-            let kn : kindAt (o .program) n ≡ C = sameKind-true _ _ (and-left _ _ b) in
-            let km : kindAt (p .program) m ≡ C = sameKind-true _ _ (and-right _ _ b) in
-            let qn : q ≡ called (o .program) n = d ∙ callee-is (memory ot on ol) o h n (i .0) in
-            let qm : k ≡ called (p .program) m = e ∙ callee-is (memory nt nn nl) p g m (i .1) in
-            step-map (λ u _ _. rw (← qn, ← qm) u)
-            (x .claim ot on nt nn o p h g s
-            (rw qn (called-is (o .program) (f .old-formed) n (i .0) kn))
-            (rw qm (called-is (p .program) (f .new-formed) m (i .1) km))
-            (rw (qn, qm) (callee-entries z kn km)));
-      }
-
-pub ruleset enters = (entries-there, entries-new, enter-none, enter-call)
+pub ruleset callees = (entries-there, entries-new, callee-done)
 
 -- ---- `try_edge`
 

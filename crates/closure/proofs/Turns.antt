@@ -1,32 +1,36 @@
 -- The turns of the loops, and the returns of the functions over them, as `search` finds them: the premises are what the code holds there.
 use mathlib.Core.Path.{_≡_, refl, sym, ap, _∙_, subst, subst₂}
+use mathlib.Core.Logic.{⊎-elim}
 use mathlib.Core.Bool.{Bool, true, false, not, false≢true, true≢false}
 use mathlib.Core.List.{List}
-use Prim.Native.Nat.{ℕ, _+_, _-_, _*_, _≤_, _<_}
+use Prim.Native.Nat.{ℕ, suc, _+_, _-_, _*_, _/_, _%_, _≤_, _<_}
 use native.Mathlib.Numerals.{add-one}
 use native.Mathlib.Omega.{arith}
-use borrow.Author.Tests.{le-leb, lt-leb}
+use borrow.Author.Tests.{eq-eqb, le-leb, lt-leb}
 use lib.ListN.{length, getD, replicate}
-use Rattle.laws.specs.TestLaws.{both-ways}
+use Rattle.laws.specs.Tests.{listed}
+use Rattle.laws.specs.TestLaws.{below-suc, both-ways, fails}
 use Rattle.laws.specs.Lists.{choose-yes, choose-no}
 use Rattle.laws.specs.Slices.{below-or, same-or}
 use Rattle.laws.specs.Chain.{Walk, walk-start, walk-step, walk-end}
-use Rattle.rules.specs.Graph.{Program, edgeCount, sourceAt}
-use Rattle.rules.specs.Closing.{MayGoOn, Pair, first-entries, goesOn, pairs}
+use Rattle.rules.specs.Graph.{C, Program, called, edgeCount, entry, exit, kindAt, kindNumber, sameKind, sourceAt}
+use Rattle.rules.specs.Closing.{MayGoOn, Pair, callee-entries, first-entries, pairs}
 use Rattle.rules.specs.ProgramFile.{Listing}
-use Rattle.rules.specs.Proofs.Closure.{goesOn-at}
-use Rattle.graph.specs.Table.{edgeBase, headBase}
+use Rattle.rules.specs.Proofs.ClosingLaws.{alike-kind}
+use Rattle.rules.specs.Proofs.Closure.{goesOn-at, goesOn-of, pair-alike}
+use Rattle.rules.specs.Proofs.GraphLaws.{called-below, sameKind-true}
+use Rattle.graph.specs.Table.{edgeBase, headBase, nodeBase}
 use Rattle.graph.specs.Reads.{upTo}
 use Rattle.pairset.specs.Store.{Emptied, Empties, dangerIn, newAt, oldAt, pairsIn}
 use Rattle.pairset.specs.StoreLaws.{listed-at, listed-of}
 use Rattle.versions.specs.Memory.{InMemory, Memory, memory}
-use Rattle.versions.specs.MemoryLaws.{edges-chained}
-use Rattle.versions.specs.Claims.{GoesOn}
+use Rattle.versions.specs.MemoryLaws.{callees-are, edges-chained, kind-is}
+use Rattle.versions.specs.Called.{CalleesAt, at-end, at-here, at-next, callee-is}
 use Rattle.versions.specs.Groups.{Groups, InGroups, Regrouped, grouped-none}
-use Rattle.closure.specs.State.{AllDone, Claim, EachDone, EdgeDone, EdgesDone, Lasts, OnDone, PairDone, PairFollowed, State, Step, Turn}
-use Rattle.closure.specs.Step.{call-lasts, done-lasts, edge-lasts, entries-lasts, followed-lasts, pair-inside, state-none, step-lasts, step-map, step-none, step-same, step-shows, step-then}
+use Rattle.closure.specs.State.{AllDone, AllEntered, CallDone, CalleeDone, Claim, EachDone, EdgeDone, EdgesDone, Entered, Lasts, MetTo, OnDone, PairDone, PairFollowed, State, Step, Turn}
+use Rattle.closure.specs.Step.{done-lasts, edge-lasts, entered-done, entered-lasts, entries-lasts, followed-lasts, met-lasts, pair-inside, state-none, step-lasts, step-map, step-none, step-same, step-shows, step-then}
 use Rattle.closure.specs.Full.{all-counted, all-dangers, all-same}
-use Rattle.closure.specs.Claims.{AddsEntries, Closes, Enters, Finds, Follows, Passes, Sized, TriesEdge, Visits}
+use Rattle.closure.specs.Claims.{AddsEntries, Closes, Enters, EntersCallee, EntersCallees, Finds, Follows, Passes, Sized, TriesEdge, Visits}
 use Rattle.closure.proofs.Laws.{formed-in}
 
 -- ---- `follow`
@@ -94,14 +98,168 @@ module _ (ot on ol nt nn nl groups : List ℕ) (limit : ℕ) (w₀ : List ℕ) (
 
 pub ruleset follows = (follow-less, follow-start, follow-on, follow-end)
 
+-- ---- `enter_callees`, `enter`
+
+not-false : (z : Bool) → not z ≡ false → z ≡ true
+not-false true e = refl
+not-false false e = absurd (true≢false e)
+
+not-true : (z : Bool) → not z ≡ true → z ≡ false
+not-true true e = absurd (false≢true e)
+not-true false e = refl
+
+-- The first i callees of the pair (n, m) were entered and their exits are pairs; a and b have those left.
+pub record EnteredTo (o p : Listing) (limit : ℕ) (w₀ : List ℕ) (c₀ n m : ℕ) (w : List ℕ) (c a b : ℕ) : Type 0 where
+  pub first : ℕ
+  pub left : CalleesAt o p n m first a b
+  pub step : Step (o .program) (p .program) limit w₀ c₀ (MetTo (o .program) (p .program) n m first) w c
+
+unfoldable pub Entering : List ℕ → List ℕ → ℕ → List ℕ → ℕ → ℕ → ℕ → List ℕ → ℕ → ℕ → ℕ → Type 0
+Entering ol nl limit w₀ c₀ k l w c a b =
+    (ot on nt nn : List ℕ) (o p : Listing) → InMemory (memory ot on ol) o → InMemory (memory nt nn nl) p → State (o .program) (p .program) limit w₀ c₀
+    → (n m : ℕ) → Pair (o .program) (p .program) n m → CalleesAt o p n m 0 k l → EnteredTo o p limit w₀ c₀ n m w c a b
+
+-- Fewer digits are left.
+pub enter-less : (a : ℕ) → 0 < a → a / 256 < a
+enter-less a h = omega arith
+
+module _ (ol nl : List ℕ) (limit : ℕ) (w₀ : List ℕ) (c₀ k l : ℕ) where
+  pub enter-start : Sized w₀ w₀ (Entering ol nl limit w₀ c₀ k l w₀ c₀ k l)
+  unfolding Entering MetTo
+  enter-start =
+      record {
+        size = refl;
+        claim = λ ot on nt nn o p h g s n m y at. record { first = 0; left = at; step = step-none s (λ _ j i. absurd (let z : ⊥ = omega arith in z)) };
+      }
+
+  module _ (w : List ℕ) (c a b : ℕ) (inv : Sized w₀ w (Entering ol nl limit w₀ c₀ k l w c a b)) where
+    -- All callees were entered, and all exits are pairs.
+    pub enter-all : a ≤ 0 → Sized w₀ w (EntersCallees ol nl limit w₀ c₀ k l w c true)
+    unfolding Entering EntersCallees MetTo CallDone AllEntered
+    enter-all z =
+        record {
+          size = inv .size;
+          claim = λ ot on nt nn o p h g s n m y at.
+              let e = inv .claim ot on nt nn o p h g s n m y at in
+              let all = at-end h g (e .left) z in
+              step-map
+              (λ t.
+              let met = subst (λ (i : ℕ). MetTo (o .program) (p .program) n m i (pairsIn w c) (dangerIn w)) all t in
+              record {
+                call = λ _ _ i u _. met i u .0;
+                goes = goesOn-of (o .program) (p .program) (pairsIn w c) n m (λ _ j u. met j u .1);
+                all = λ _ _ i u. met i u .0;
+              })
+              (e .step);
+        }
+
+    module _ (q q′ r : ℕ) (v : List ℕ) (t : Bool) (pos : 0 < a) (eq : q ≡ a % 256 - 1) (eq′ : q′ ≡ b % 256 - 1) (one : Sized w v (EntersCallee ol nl limit w c q q′ v r t)) where
+      -- The callees at the place: their entries are a pair, as the exits of those before are.
+      entered-one : (ot on nt nn : List ℕ) (o p : Listing) → InMemory (memory ot on ol) o → InMemory (memory nt nn nl) p → (n m : ℕ) → Pair (o .program) (p .program) n m
+          → (e : EnteredTo o p limit w₀ c₀ n m w c a b)
+          → Step (o .program) (p .program) limit w c (CalleeDone (o .program) (p .program) (called (o .program) n (e .first)) (called (p .program) m (e .first)) t) v r
+      unfolding EntersCallee MetTo
+      entered-one ot on nt nn o p h g n m y e =
+          let f = formed-in _ _ o p h g in
+          let d = callee-is ot on ol o h n (e .first) a (e .left .old-from) q eq in
+          let d′ = callee-is nt nn nl p g m (e .first) b (e .left .new-from) q′ eq′ in
+          let km : kindAt (p .program) m ≡ C = alike-kind (o .program) (p .program) n m (pair-alike (o .program) (p .program) (f .old-formed) (f .new-formed) y) ∙ e .left .call in
+          subst₂ (λ (i j : ℕ). Step (o .program) (p .program) limit w c (CalleeDone (o .program) (p .program) i j t) v r) d d′
+          (one .claim ot on nt nn o p h g (e .step .state)
+          (rw d (called-below (o .program) (f .old-formed) n (e .first)))
+          (rw d′ (called-below (p .program) (f .new-formed) m (e .first)))
+          (λ few. rw (d, d′) (callee-entries y (e .left .call) km (e .first) (at-here h g (e .left) pos) (λ j u. e .step .state .kept few .sound _ _ (e .step .done few j u .1)))))
+
+      pub enter-on : not t ≡ false → Sized w₀ v (Entering ol nl limit w₀ c₀ k l v r (a / 256) (b / 256))
+      unfolding Entering MetTo CalleeDone
+      enter-on z =
+          record {
+            size = one .size ∙ inv .size;
+            claim = λ ot on nt nn o p h g s n m y at.
+                let e = inv .claim ot on nt nn o p h g s n m y at in
+                record {
+                  first = suc (e .first);
+                  left = at-next h g (e .left) pos;
+                  step = step-then (met-lasts (o .program) (p .program) n m (e .first)) (e .step) (entered-one ot on nt nn o p h g n m y e)
+                      (λ met new j u.
+                      ⊎-elim (λ (i : j < e .first). met j i)
+                      (λ (i : j ≡ e .first). subst (λ (i : ℕ). (listed (pairsIn v r) (entry (o .program) (called (o .program) n i)) (entry (p .program) (called (p .program) m i)) ≡ true) × (listed (pairsIn v r) (exit (o .program) (called (o .program) n i)) (exit (p .program) (called (p .program) m i)) ≡ true)) (sym i)
+                      (new .0, sym (new .1) ∙ not-false t z))
+                      (below-suc j (e .first) u));
+                };
+          }
+
+      -- The exits are no pair: no callee behind them comes in, and the pair does not go on.
+      pub enter-stop : not t ≡ true → Sized w₀ v (EntersCallees ol nl limit w₀ c₀ k l v r false)
+      unfolding Entering EntersCallees MetTo CalleeDone CallDone
+      enter-stop z =
+          record {
+            size = one .size ∙ inv .size;
+            claim = λ ot on nt nn o p h g s n m y at.
+                let e = inv .claim ot on nt nn o p h g s n m y at in
+                step-then (met-lasts (o .program) (p .program) n m (e .first)) (e .step) (entered-one ot on nt nn o p h g n m y e)
+                (λ met new.
+                let off : listed (pairsIn v r) (exit (o .program) (called (o .program) n (e .first))) (exit (p .program) (called (p .program) m (e .first))) ≡ false
+                = sym (new .1) ∙ not-true t z in
+                record {
+                  call = λ _ _ i u x.
+                      below-or i (e .first) (λ d. met i d .0)
+                      (λ d.
+                      below-or (e .first) i (λ f. absurd (both-ways (x (e .first) f) off))
+                      (λ f.
+                      let same : e .first ≡ i = omega arith in
+                      subst (λ (i : ℕ). listed (pairsIn v r) (entry (o .program) (called (o .program) n i)) (entry (p .program) (called (p .program) m i)) ≡ true) same (new .0)));
+                  goes = fails _ (λ f. both-ways (goesOn-at (o .program) (p .program) (pairsIn v r) n m f (e .left .call) (e .first) (at-here h g (e .left) pos)) off);
+                  all = λ f. absurd (false≢true f);
+                });
+          }
+
+module _ (on ol nn nl : List ℕ) (limit : ℕ) (w : List ℕ) (c n m t : ℕ) (et : t ≡ getD on (nodeBase n) 0) where
+  -- No call: it goes on.
+  pub enter-none : (t ≡ 2 → ⊥) → Sized w w (Enters on ol nn nl limit w c n m w c true)
+  unfolding Enters CallDone AllEntered
+  enter-none d =
+      record {
+        size = refl;
+        claim = λ ot nt o p h g s y.
+            let i = pair-inside (formed-in _ _ o p h g) y in
+            let no-call : kindAt (o .program) n ≡ C → ⊥ = λ e. d (et ∙ kind-is _ o h n (i .0) ∙ ap kindNumber e) in
+            step-none s (λ _. record {
+              call = λ e. absurd (no-call e);
+              goes = goesOn-of (o .program) (p .program) (pairsIn w c) n m (λ e. absurd (no-call e));
+              all = λ _ e. absurd (no-call e);
+            });
+      }
+
+  pub enter-call : (k l : ℕ) (v : List ℕ) (r : ℕ) (z : Bool) → t ≡ 2 → k ≡ getD on (nodeBase n + 3) 0 → l ≡ getD nn (nodeBase m + 3) 0
+      → Sized w v (EntersCallees ol nl limit w c k l v r z) → Sized w v (Enters on ol nn nl limit w c n m v r z)
+  unfolding Enters EntersCallees sameKind
+  enter-call k l v r z d ek el x =
+      record {
+        size = x .size;
+        claim = λ ot nt o p h g s y.
+            let i = pair-inside (formed-in _ _ o p h g) y in
+            x .claim ot on nt nn o p h g s n m y
+            (record {
+              old-node = i .0;
+              call = sameKind-true (kindAt (o .program) n) C (eq-eqb _ _ (sym (et ∙ kind-is _ o h n (i .0)) ∙ d));
+              within = omega arith;
+              old-from = ek ∙ callees-are _ o h n (i .0);
+              new-from = el ∙ callees-are _ p g m (i .1);
+            });
+      }
+
+pub ruleset enters = (enter-less, enter-start, enter-all, enter-on, enter-stop, enter-none, enter-call)
+
 -- ---- `visit`
 
-module _ (ot on ol nt nn nl groups : List ℕ) (limit : ℕ) (w : List ℕ) (c n m x : ℕ) (u : List ℕ) (k : ℕ) (d : n ≡ oldAt w x) (e : m ≡ newAt w x)
-    (entered : Sized w u (Enters on ol nn nl limit w c n m u k)) where
-  -- Rule 2, then a turn for rule 3.
+module _ (ot on ol nt nn nl groups : List ℕ) (limit : ℕ) (w : List ℕ) (c n m x : ℕ) (u : List ℕ) (k : ℕ) (t : Bool) (d : n ≡ oldAt w x) (e : m ≡ newAt w x)
+    (entered : Sized w u (Enters on ol nn nl limit w c n m u k t)) where
+  -- Rule 2, then what is shown from there.
   visit-turn : (v : List ℕ) (r : ℕ) (z : Bool) → length v ≡ length u
-      → ((o p : Listing) → InMemory (memory ot on ol) o → InGroups (memory nt nn nl) groups p → State (o .program) (p .program) limit u k → Pair (o .program) (p .program) n m
-      → Turn (o .program) (p .program) limit u k (EdgesDone (o .program) (p .program) n m) (OnDone (o .program) (p .program) n m) v r z)
+      → ((o p : Listing) → InMemory (memory ot on ol) o → InGroups (memory nt nn nl) groups p → Pair (o .program) (p .program) n m
+      → Step (o .program) (p .program) limit w c (Entered (o .program) (p .program) n m t) u k
+      → Turn (o .program) (p .program) limit w c (PairFollowed (o .program) (p .program) n m) (PairDone (o .program) (p .program) n m) v r z)
       → Sized w v (Visits (memory ot on ol) (memory nt nn nl) groups limit w c x v r z)
   unfolding Enters Visits
   visit-turn v r z size turn =
@@ -109,55 +267,42 @@ module _ (ot on ol nt nn nl groups : List ℕ) (limit : ℕ) (w : List ℕ) (c n
         size = size ∙ entered .size;
         claim = λ o p h g s few l.
             let pair : Pair (o .program) (p .program) n m = s .kept few .sound n m (listed-of w n m c x l (sym d) (sym e)) in
-            let i = entered .claim ot nt o p h (g .memory) s pair in
-            let j = turn o p h g (i .state) pair in
-            let lasts = call-lasts (o .program) (p .program) n m in
-            let t : Turn (o .program) (p .program) limit w c (PairFollowed (o .program) (p .program) n m) (PairDone (o .program) (p .program) n m) v r z
-            = record {
-              step = step-then lasts i (j .step) (λ a b f. record { call = a; edges = b f });
-              still = λ f b. record {
-                call = step-lasts (j .step) _ lasts b (i .done (omega (arith, j .step .more)));
-                on = j .still (omega (arith, i .more, j .step .more)) b;
-              };
-            } in
-            rw (← d, ← e) t;
+            let q = turn o p h g pair (entered .claim ot nt o p h (g .memory) s pair) in
+            rw (← d, ← e) q;
       }
 
   pub visit-over : limit < k → Sized w u (Visits (memory ot on ol) (memory nt nn nl) groups limit w c x u k true)
   visit-over l =
       visit-turn u k true refl
-      (λ o p h g s y. record { step = step-none s (λ b. absurd (let z : ⊥ = omega arith in z)); still = λ _ b. absurd (let z : ⊥ = omega arith in z) })
+      (λ o p h g y i. record { step = step-shows i (λ b. absurd (let z : ⊥ = omega arith in z)); still = λ _ b. absurd (let z : ⊥ = omega arith in z) })
 
-  module _ (t : Bool) (few : k ≤ limit) (is : GoesOn on ol nn nl u n m t) where
-    -- What the test says of the list.
-    test : (o p : Listing) → InMemory (memory ot on ol) o → InGroups (memory nt nn nl) groups p → State (o .program) (p .program) limit u k → Pair (o .program) (p .program) n m
-        → t ≡ goesOn (o .program) (p .program) (pairsIn u k) n m
-    unfolding GoesOn
-    test o p h g s y = let i = pair-inside (formed-in _ _ o p h (g .memory)) y in is ot nt o p k h (g .memory) (s .kept few .store) (i .0) (i .1)
+  pub visit-wait : t ≡ false → Sized w u (Visits (memory ot on ol) (memory nt nn nl) groups limit w c x u k t)
+  unfolding OnDone
+  visit-wait f =
+      visit-turn u k t refl
+      (λ o p h g y i. record {
+        step = step-map (λ _ z. absurd (both-ways z f)) i;
+        still = λ _ b. record { call = i .done b .call; on = λ z. absurd (both-ways z (i .done b .goes ∙ f)) };
+      })
 
-    pub visit-wait : t ≡ false → Sized w u (Visits (memory ot on ol) (memory nt nn nl) groups limit w c x u k t)
-    unfolding OnDone
-    visit-wait f =
-        visit-turn u k t refl
-        (λ o p h g s y. record { step = step-none s (λ _ z. absurd (both-ways z f)); still = λ _ _ z. absurd (both-ways (test o p h g s y ∙ z) f) })
-
-    pub visit-on : (v : List ℕ) (r : ℕ) → t ≡ true → Sized u v (Follows (memory ot on ol) (memory nt nn nl) groups limit u k n m v r)
-        → Sized w v (Visits (memory ot on ol) (memory nt nn nl) groups limit w c x v r t)
-    unfolding Follows OnDone
-    visit-on v r f q =
-        visit-turn v r t (q .size)
-        (λ o p h g s y.
-        let goes : goesOn (o .program) (p .program) (pairsIn u k) n m ≡ true = sym (test o p h g s y) ∙ f in
-        let a = q .claim o p h g s y (λ z. s .kept few .sound _ _ (goesOn-at (o .program) (p .program) (pairsIn u k) n m goes z)) in
-        record { step = step-map (λ z _. z) a; still = λ _ b _. a .done b })
+  pub visit-on : (v : List ℕ) (r : ℕ) → t ≡ true → k ≤ limit → Sized u v (Follows (memory ot on ol) (memory nt nn nl) groups limit u k n m v r)
+      → Sized w v (Visits (memory ot on ol) (memory nt nn nl) groups limit w c x v r t)
+  unfolding Follows OnDone
+  visit-on v r f few q =
+      visit-turn v r t (q .size)
+      (λ o p h g y i.
+      let met = i .done few in
+      let a = q .claim o p h g (i .state) y (λ z j b. i .state .kept few .sound _ _ (goesOn-at (o .program) (p .program) (pairsIn u k) n m (met .goes ∙ f) z j b)) in
+      let all : Step (o .program) (p .program) limit w c (PairFollowed (o .program) (p .program) n m) v r
+      = step-then (entered-lasts (o .program) (p .program) n m) (step-map (λ z. z .all f) i) a (λ b z. record { call = b; edges = z }) in
+      record {
+        step = step-map (λ z _. z) all;
+        still = λ _ b. let z = all .done b in record { call = entered-done (o .program) (p .program) n m _ _ (z .call); on = λ _. z .edges };
+      })
 
 pub ruleset visits = (visit-over, visit-wait, visit-on)
 
 -- ---- `pass`
-
-not-false : (z : Bool) → not z ≡ false → z ≡ true
-not-false true e = refl
-not-false false e = absurd (true≢false e)
 
 -- Rules 2 and 3 for each pair of the table.
 unfoldable VisitsAll : Memory → Memory → List ℕ → ℕ → List ℕ → ℕ → List ℕ → ℕ → Bool → Type 0
@@ -199,7 +344,7 @@ seen-all old new w c x l d n m t =
 
 followed-done : (old new : Program) (w : List ℕ) (c x : ℕ) → Seen (PairFollowed old new) w c x → Seen (PairDone old new) w c x
 unfolding Seen OnDone
-followed-done old new w c x d k kx kc = record { call = d k kx kc .call; on = λ _. d k kx kc .edges }
+followed-done old new w c x d k kx kc = record { call = entered-done old new _ _ _ _ (d k kx kc .call); on = λ _. d k kx kc .edges }
 
 module _ (a b : Memory) (t : List ℕ) (limit : ℕ) (w₀ : List ℕ) (c₀ : ℕ) where
   pub all-start : Sized w₀ w₀ (Visiting a b t limit w₀ c₀ w₀ c₀ true 0)
@@ -282,7 +427,7 @@ pass-done ot on ol nt nn nl groups limit w u v c k r z x y =
       size = y .size ∙ x .size;
       claim = λ o p h g s.
           let f = formed-in _ _ o p h (g .memory) in
-          let i = x .claim ot on nt nn o p h (g .memory) s (f .old-formed .begins) (f .new-formed .begins) first-entries in
+          let i = x .claim ot on nt nn o p h (g .memory) s (f .old-formed .begins) (f .new-formed .begins) (λ _. first-entries) in
           let j = y .claim o p h g (i .state) in
           let lasts = entries-lasts (o .program) (p .program) 0 0 in
           record {

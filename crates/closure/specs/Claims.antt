@@ -12,9 +12,10 @@ use Rattle.rules.specs.Closing.{MayGoOn, Pair, dangers, pairs}
 use Rattle.rules.specs.ProgramFile.{Listing}
 use Rattle.pairset.specs.Store.{dangerIn, newAt, oldAt, pairBase, pairsIn}
 use Rattle.versions.specs.Memory.{InMemory, Memory, memory}
+use Rattle.versions.specs.Called.{CalleesAt}
 use Rattle.versions.specs.PairsHeld.{PairsHeld}
 use Rattle.versions.specs.Groups.{InGroups}
-use Rattle.closure.specs.State.{AllDone, CallDone, EdgeDone, EdgesDone, EntriesDone, Formed, PairDone, PairFollowed, State, Step, Turn}
+use Rattle.closure.specs.State.{AllDone, CalleeDone, EdgeDone, EdgesDone, Entered, EntriesDone, Formed, PairDone, PairFollowed, State, Step, Turn}
 
 -- A claim, and the table as long as it was.
 pub record Sized (w v : List ℕ) (X : Type 0) : Type 0 where
@@ -31,14 +32,27 @@ Grows limit w c a b v r =
 unfoldable pub AddsEntries : List ℕ → List ℕ → ℕ → List ℕ → ℕ → ℕ → ℕ → List ℕ → ℕ → Type 0
 AddsEntries ol nl limit w c q k v r =
     (ot on nt nn : List ℕ) (o p : Listing) → InMemory (memory ot on ol) o → InMemory (memory nt nn nl) p → State (o .program) (p .program) limit w c
-    → q < procCount (o .program) → k < procCount (p .program) → Pair (o .program) (p .program) (entry (o .program) q) (entry (p .program) k)
+    → q < procCount (o .program) → k < procCount (p .program) → (c ≤ limit → Pair (o .program) (p .program) (entry (o .program) q) (entry (p .program) k))
     → Step (o .program) (p .program) limit w c (EntriesDone (o .program) (p .program) q k) v r
 
+-- `enter_callee`: the same, and whether their exits are a pair.
+unfoldable pub EntersCallee : List ℕ → List ℕ → ℕ → List ℕ → ℕ → ℕ → ℕ → List ℕ → ℕ → Bool → Type 0
+EntersCallee ol nl limit w c q k v r settled =
+    (ot on nt nn : List ℕ) (o p : Listing) → InMemory (memory ot on ol) o → InMemory (memory nt nn nl) p → State (o .program) (p .program) limit w c
+    → q < procCount (o .program) → k < procCount (p .program) → (c ≤ limit → Pair (o .program) (p .program) (entry (o .program) q) (entry (p .program) k))
+    → Step (o .program) (p .program) limit w c (CalleeDone (o .program) (p .program) q k settled) v r
+
+-- `enter_callees`: rule 2 for the pair (n, m) of calls, whose callees have the numbers k and l.
+unfoldable pub EntersCallees : List ℕ → List ℕ → ℕ → List ℕ → ℕ → ℕ → ℕ → List ℕ → ℕ → Bool → Type 0
+EntersCallees ol nl limit w c k l v r settled =
+    (ot on nt nn : List ℕ) (o p : Listing) → InMemory (memory ot on ol) o → InMemory (memory nt nn nl) p → State (o .program) (p .program) limit w c
+    → (n m : ℕ) → Pair (o .program) (p .program) n m → CalleesAt o p n m 0 k l → Step (o .program) (p .program) limit w c (Entered (o .program) (p .program) n m settled) v r
+
 -- `enter`: rule 2 for the pair (n, m).
-unfoldable pub Enters : List ℕ → List ℕ → List ℕ → List ℕ → ℕ → List ℕ → ℕ → ℕ → ℕ → List ℕ → ℕ → Type 0
-Enters on ol nn nl limit w c n m v r =
+unfoldable pub Enters : List ℕ → List ℕ → List ℕ → List ℕ → ℕ → List ℕ → ℕ → ℕ → ℕ → List ℕ → ℕ → Bool → Type 0
+Enters on ol nn nl limit w c n m v r settled =
     (ot nt : List ℕ) (o p : Listing) → InMemory (memory ot on ol) o → InMemory (memory nt nn nl) p → State (o .program) (p .program) limit w c → Pair (o .program) (p .program) n m
-    → Step (o .program) (p .program) limit w c (CallDone (o .program) (p .program) n m) v r
+    → Step (o .program) (p .program) limit w c (Entered (o .program) (p .program) n m settled) v r
 
 module _ (a b : Memory) (t : List ℕ) (limit : ℕ) (w : List ℕ) where
   -- `try_edge`: rule 3 for the old edge e and the new node m, where their pair may go on.

@@ -20,13 +20,13 @@ module _ {old new : Program} where
   unfolding EntriesDone EachDone CallDone OnDone EdgesDone
   all-listed {M} {S} d =
       least old new (λ a b. listed M a b ≡ true) (d .start)
-      (λ n m l k k′. d .each n m l .call k k′)
+      (λ n m l k k′ i b x. d .each n m l .call k k′ i b x)
       (λ e f l x h h′ t. d .each (sourceAt old e) (sourceAt new f) l .on (goesOn-of old new M _ _ x) e h refl .ends f h′ refl t)
 
   all-marked : {M : List (ℕ × ℕ)} {S : ℕ → Bool} → AllDone old new M S → {e : ℕ} → Dangerous old new e → S e ≡ true
   unfolding EachDone OnDone EdgesDone
   all-marked {M} {S} d {e} x =
-      d .each (sourceAt old e) (x .partner) (all-listed d (x .pair)) .on (goesOn-of old new M _ _ (λ k. all-listed d (x .mayGoOn k))) e (x .isOld) refl .danger (x .unfit)
+      d .each (sourceAt old e) (x .partner) (all-listed d (x .pair)) .on (goesOn-of old new M _ _ (λ k i l. all-listed d (x .mayGoOn k i l))) e (x .isOld) refl .danger (x .unfit)
 
   module _ {w : List ℕ} {c : ℕ} (fm : Formed old new) (k : Kept old new w c) (d : AllDone old new (pairsIn w c) (dangerIn w)) where
     -- As many pairs, and the same.

@@ -6,8 +6,8 @@ use mathlib.Core.List.{List}
 use Prim.Native.Nat.{ℕ, _+_, _*_, _≤_, _<_}
 use lib.ListN.{length}
 use Rattle.laws.specs.Tests.{listed}
-use Rattle.rules.specs.Graph.{C, Program, WellFormed, called, edgeCount, entry, kindAt, nodeCount, sourceAt, targetAt}
-use Rattle.rules.specs.Closing.{Dangerous, Pair, fits, goesOn, pairs}
+use Rattle.rules.specs.Graph.{C, Program, WellFormed, calleeCount, called, edgeCount, entry, exit, kindAt, nodeCount, sourceAt, targetAt}
+use Rattle.rules.specs.Closing.{Dangerous, ExitsMet, Pair, fits, goesOn, pairs}
 use Rattle.pairset.specs.Store.{Store, dangerIn, newAt, oldAt, pairBase, pairsIn}
 use Rattle.closure.specs.Once.{Once}
 
@@ -79,22 +79,42 @@ module _ (old new : Program) where
   unfoldable pub OnDone : ℕ → ℕ → Claim
   OnDone n m M S = goesOn old new M n m ≡ true → EdgesDone n m M S
 
-  -- Rule 2 for the pair (n, m).
+  -- Rule 2 for the pair (n, m): the entries of a callee are listed, if the exits of all callees before it are.
   unfoldable pub CallDone : ℕ → ℕ → Claim
-  CallDone n m M S = kindAt old n ≡ C → kindAt new m ≡ C → listed M (entry old (called old n)) (entry new (called new m)) ≡ true
+  CallDone n m M S =
+      kindAt old n ≡ C → kindAt new m ≡ C → (i : ℕ) → i < calleeCount old n → ExitsMet old new (λ a b. listed M a b ≡ true) n m i
+      → listed M (entry old (called old n i)) (entry new (called new m i)) ≡ true
 
-  -- Rules 2 and 3 for the pair (n, m), whether it goes on by the list or not; where it does.
-  pub record PairFollowed (n m : ℕ) (M : List (ℕ × ℕ)) (S : ℕ → Bool) : Type 0 where
+  -- The entries of all callees are listed. This lasts as the list grows.
+  unfoldable pub AllEntered : ℕ → ℕ → Claim
+  AllEntered n m M S = kindAt old n ≡ C → (i : ℕ) → i < calleeCount old n → listed M (entry old (called old n i)) (entry new (called new m i)) ≡ true
+
+  -- Rule 2 for the pair (n, m), of which `settled` says whether it goes on by the list.
+  pub record Entered (n m : ℕ) (settled : Bool) (M : List (ℕ × ℕ)) (S : ℕ → Bool) : Type 0 where
     pub call : CallDone n m M S
+    pub goes : goesOn old new M n m ≡ settled
+    pub all : settled ≡ true → AllEntered n m M S
+
+  -- Rules 2 and 3 for the pair (n, m), whether it goes on by the list or not; by the list.
+  pub record PairFollowed (n m : ℕ) (M : List (ℕ × ℕ)) (S : ℕ → Bool) : Type 0 where
+    pub call : AllEntered n m M S
     pub edges : EdgesDone n m M S
 
   pub record PairDone (n m : ℕ) (M : List (ℕ × ℕ)) (S : ℕ → Bool) : Type 0 where
     pub call : CallDone n m M S
     pub on : OnDone n m M S
 
-  -- The entries of the procedures q and k.
+  -- The entries of the procedures q and k; with whether their exits are listed.
   unfoldable pub EntriesDone : ℕ → ℕ → Claim
   EntriesDone q k M S = listed M (entry old q) (entry new k) ≡ true
+
+  unfoldable pub CalleeDone : ℕ → ℕ → Bool → Claim
+  CalleeDone q k settled M S = (listed M (entry old q) (entry new k) ≡ true) × (settled ≡ listed M (exit old q) (exit new k))
+
+  -- Entries and exits of the first i callees of the pair (n, m).
+  unfoldable pub MetTo : ℕ → ℕ → ℕ → Claim
+  MetTo n m i M S =
+      (j : ℕ) → j < i → (listed M (entry old (called old n j)) (entry new (called new m j)) ≡ true) × (listed M (exit old (called old n j)) (exit new (called new m j)) ≡ true)
 
   -- Rules 2 and 3 for each listed pair.
   unfoldable pub EachDone : Claim

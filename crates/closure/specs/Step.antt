@@ -19,7 +19,7 @@ use Rattle.rules.specs.Proofs.Closure.{pairs-complete, pairs-inside}
 use Rattle.pairset.specs.Store.{Appended, Appends, DangerMarked, MarksDanger, Store, dangerIn, newAt, oldAt, pairBase, pairsIn}
 use Rattle.pairset.specs.StoreLaws.{listed-at, listed-of, listed-snoc, no-pairs, pairs-agree, pairs-count}
 use Rattle.closure.specs.Once.{once-none, once-snoc, pigeonhole}
-use Rattle.closure.specs.State.{CallDone, Claim, EdgeDone, EdgesDone, EntriesDone, Formed, Kept, Lasts, OnDone, PairDone, PairFollowed, State, Step, Within}
+use Rattle.closure.specs.State.{AllEntered, CallDone, Claim, EdgeDone, EdgesDone, EntriesDone, Formed, Kept, Lasts, MetTo, OnDone, PairDone, PairFollowed, State, Step, Within}
 
 -- ---- nothing found yet
 
@@ -53,9 +53,13 @@ module _ (old new : Program) where
   unfolding Lasts EdgesDone
   edges-lasts n m M S N T h d e l s = edge-lasts e m M S N T h (d e l s)
 
-  pub call-lasts : (n m : ℕ) → Lasts (CallDone old new n m)
-  unfolding Lasts CallDone
-  call-lasts n m M S N T h d k k′ = h .list _ _ (d k k′)
+  pub entered-lasts : (n m : ℕ) → Lasts (AllEntered old new n m)
+  unfolding Lasts AllEntered
+  entered-lasts n m M S N T h d k i l = h .list _ _ (d k i l)
+
+  pub met-lasts : (n m i : ℕ) → Lasts (MetTo old new n m i)
+  unfolding Lasts MetTo
+  met-lasts n m i M S N T h d j l = let q = d j l in (h .list _ _ (q .0), h .list _ _ (q .1))
 
   pub entries-lasts : (q k : ℕ) → Lasts (EntriesDone old new q k)
   unfolding Lasts EntriesDone
@@ -63,14 +67,19 @@ module _ (old new : Program) where
 
   pub followed-lasts : (n m : ℕ) → Lasts (PairFollowed old new n m)
   unfolding Lasts
-  followed-lasts n m M S N T h d = record { call = call-lasts n m M S N T h (d .call); edges = edges-lasts n m M S N T h (d .edges) }
+  followed-lasts n m M S N T h d = record { call = entered-lasts n m M S N T h (d .call); edges = edges-lasts n m M S N T h (d .edges) }
 
-  -- What asks whether a pair goes on lasts as long as the list stays.
+  -- What asks whether exits are listed lasts as long as the list stays.
   pub done-lasts : (n m : ℕ) (M : List (ℕ × ℕ)) (S T : ℕ → Bool) → ((e : ℕ) → S e ≡ true → T e ≡ true) → PairDone old new n m M S → PairDone old new n m M T
-  unfolding Lasts OnDone
+  unfolding Lasts CallDone OnDone
   done-lasts n m M S T h d =
       let i : Within M S M T = record { list = λ a b t. t; set = h } in
-      record { call = call-lasts n m M S M T i (d .call); on = λ g. edges-lasts n m M S M T i (d .on g) }
+      record { call = d .call; on = λ g. edges-lasts n m M S M T i (d .on g) }
+
+  -- Where the entries of all callees are listed, rule 2 holds.
+  pub entered-done : (n m : ℕ) (M : List (ℕ × ℕ)) (S : ℕ → Bool) → AllEntered old new n m M S → CallDone old new n m M S
+  unfolding AllEntered CallDone
+  entered-done n m M S d k k′ i l x = d k i l
 
 -- ---- the pairs of a list by index
 

@@ -8,6 +8,8 @@ ghost use Rattle.closure.specs.Claims.{
   AddsEntries,
   Closes,
   Enters,
+  EntersCallee,
+  EntersCallees,
   Finds,
   Follows,
   Grows,
@@ -58,7 +60,65 @@ fn add_entries(
     grow(limit, w, count, a, b)
 }
 
-// Rule 2 for the pair (n, m).
+// Rule 2 for the callees q and k of a pair: adds their entries. It is settled if their exits are a pair.
+fn enter_callee(
+    ol: &[usize],
+    nl: &[usize],
+    limit: usize,
+    w: &mut [usize],
+    had: usize,
+    q: usize,
+    k: usize,
+) -> Growth
+    requires { ⌜ limit ≤ 4096 ⌝ }
+    ensures { λ r. ⌜ Sized (now (w .entry)) (now (w .exit))
+        (EntersCallee (now (ol .entry)) (now (nl .entry))
+        limit (now (w .entry)) had q k (now (w .exit)) (r .count) (r .settled)) ⌝ }
+{
+    let count = add_entries(ol, nl, limit, w, had, q, k);
+    let settled = versions::exits_paired(ol, nl, w, q, k);
+    Growth { count, settled }
+}
+
+// Rule 2 for the callees of a pair, by their numbers k and l: each in turn, until the exits of one are no pair. It is settled if there is no such one.
+fn enter_callees(
+    ol: &[usize],
+    nl: &[usize],
+    limit: usize,
+    w: &mut [usize],
+    had: usize,
+    k: usize,
+    l: usize,
+) -> Growth
+    requires { ⌜ limit ≤ 4096 ⌝ }
+    ensures { λ r. ⌜ Sized (now (w .entry)) (now (w .exit))
+        (EntersCallees (now (ol .entry)) (now (nl .entry))
+        limit (now (w .entry)) had k l (now (w .exit)) (r .count) (r .settled)) ⌝ }
+{
+    let mut count = had;
+    let mut a = k;
+    let mut b = l;
+    while 0 < a {
+        let q = versions::callee(a);
+        let p = versions::callee(b);
+        let next = enter_callee(ol, nl, limit, w, count, q, p);
+        count = next.count;
+        if !next.settled {
+            return Growth {
+                count,
+                settled: false,
+            };
+        }
+        a = a / 256;
+        b = b / 256;
+    }
+    Growth {
+        count,
+        settled: true,
+    }
+}
+
+// Rule 2 for the pair (n, m). It is settled if the pair may go on by the pairs found so far: if n is a call, so is m.
 fn enter(
     on: &[usize],
     ol: &[usize],
@@ -66,21 +126,24 @@ fn enter(
     nl: &[usize],
     limit: usize,
     w: &mut [usize],
-    count: usize,
+    had: usize,
     n: usize,
     m: usize,
-) -> usize
+) -> Growth
     requires { ⌜ limit ≤ 4096 ⌝ }
     ensures { λ r. ⌜ Sized (now (w .entry)) (now (w .exit))
         (Enters (now (on .entry)) (now (ol .entry)) (now (nn .entry)) (now (nl .entry))
-        limit (now (w .entry)) count n m (now (w .exit)) r) ⌝ }
+        limit (now (w .entry)) had n m (now (w .exit)) (r .count) (r .settled)) ⌝ }
 {
-    if versions::both_call(on, nn, n, m) {
-        let q = versions::callee(on, n);
-        let k = versions::callee(nn, m);
-        return add_entries(ol, nl, limit, w, count, q, k);
+    if versions::kind(on, n) != 2 {
+        return Growth {
+            count: had,
+            settled: true,
+        };
     }
-    count
+    let k = versions::callees(on, n);
+    let l = versions::callees(nn, m);
+    enter_callees(ol, nl, limit, w, had, k, l)
 }
 
 // Rule 3 for the old edge e and the new node m, whose pair may go on: if m has no edge with the word of e, or the ends are not alike, e is
@@ -182,14 +245,15 @@ fn visit(
 {
     let n = pairset::old_of(w, x);
     let m = pairset::new_of(w, x);
-    let count = enter(on, ol, nn, nl, limit, w, had, n, m);
+    let entered = enter(on, ol, nn, nl, limit, w, had, n, m);
+    let count = entered.count;
+    let settled = entered.settled;
     if limit < count {
         return Growth {
             count,
             settled: true,
         };
     }
-    let settled = versions::goes_on(on, ol, nn, nl, w, n, m);
     if settled {
         let total = follow(ot, on, ol, nt, nn, nl, groups, limit, w, count, n, m);
         return Growth {

@@ -9,6 +9,10 @@ use Rattle.rules.specs.Graph.{Program, edgeCount, sourceAt, targetAt, en
 use Rattle.rules.specs.Closing.{alike, bothCall, exitsMet, goesOn, Coverage, meets, sameWord}
 use Rattle.rules.specs.Sheet.{Sheet}
 
+-- The entries of the callees i of the C nodes n and n′ are listed, if the exits of every callee before them are.
+abbrev pub enteredAt : Program → Program → List (ℕ × ℕ) → ℕ → ℕ → ℕ → Bool
+enteredAt old new M n n′ i = exitsMet old new M n n′ i ⇒ listed M (entry old (called old n i)) (entry new (called new n′ i))
+
 module _ (old new : Program) (s : Sheet) where
   -- 1: the first entries are listed.
   unfoldable pub rule1 : Bool
@@ -20,8 +24,7 @@ module _ (old new : Program) (s : Sheet) where
 
   -- 3: for a listed pair of C nodes, the first callee's entries are listed, and each later one's, if the exits of every callee before it are.
   unfoldable pub entered : ℕ → ℕ → Bool
-  entered n n′ =
-      bothCall old new n n′ ⇒ every (calleeCount old n) (λ i. exitsMet old new (s .M) n n′ i ⇒ listed (s .M) (entry old (called old n i)) (entry new (called new n′ i)))
+  entered n n′ = bothCall old new n n′ ⇒ every (calleeCount old n) (enteredAt old new (s .M) n n′)
 
   unfoldable pub rule3 : Bool
   rule3 = allPairs entered (s .M)

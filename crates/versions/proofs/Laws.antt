@@ -8,17 +8,18 @@ use lib.Dec.{eqb}
 use lib.ListN.{getD, length, length-set, set}
 use lib.Seq.{getD-set-other, getD-set-same, set-out}
 use borrow.Author.Tests.{eqb-true, eq-eqb, ne-eqb}
-use Rattle.laws.specs.Tests.{_and_, _⇒_, choose, found, listed}
+use Rattle.laws.specs.Tests.{_and_, _⇒_, choose, every, found, listed}
 use Rattle.laws.specs.TestLaws.{and-both, and-left, and-right, both-ways, fails}
 use Rattle.laws.specs.Lists.{choose-no, choose-yes}
 use Rattle.laws.specs.Slices.{below-or, same-or}
 use Rattle.laws.specs.Chain.{Walk, walk-start}
 use Rattle.rules.specs.Text.{Bytes, same, sameLabel}
-use Rattle.rules.specs.Graph.{C, Kind, E, S, X, called, calleeAt, edgeCount, entry, exit, filled, kindAt, kindNumber, labelAt, nodeCount, sameKind, sourceAt, wordAt}
-use Rattle.rules.specs.Closing.{alike, bothCall, goesOn, sameCallee, sameWord}
+use Rattle.rules.specs.Graph.{C, Kind, E, S, X, calleeAt, calleeCount, edgeCount, filled, kindAt, kindNumber, labelAt, nodeCount, sameKind, sourceAt, wordAt}
+use Rattle.rules.specs.Closing.{alike, bothCall, exitsMet, goesOn, sameCallee, sameWord}
+use Rattle.rules.specs.Check.{enteredAt}
 use Rattle.rules.specs.ProgramFile.{Listing}
 use Rattle.rules.specs.Proofs.ClosingLaws.{alike-back, alike-parts, alike-self, alike-then, bare-callees, same-word, sameCallee-is, taken-same}
-use Rattle.rules.specs.Proofs.GraphLaws.{called-below, called-name, sameKind-true}
+use Rattle.rules.specs.Proofs.GraphLaws.{sameKind-true}
 use Rattle.rules.specs.Proofs.TextLaws.{empty-true}
 use Rattle.graph.specs.Table.{edgeBase, nodeBase, procBase}
 use Rattle.graph.specs.Lookups.{EdgeTaken}
@@ -26,9 +27,10 @@ use Rattle.graph.specs.Reads.{partAt, past, part-past}
 use Rattle.pairset.specs.Store.{Has, lastPair, newAt, oldAt, pairsIn}
 use Rattle.pairset.specs.StoreLaws.{listed-of, walked}
 use Rattle.versions.specs.Memory.{InMemory, memory}
-use Rattle.versions.specs.MemoryLaws.{kind-is, label-is, callee-is, name-is, entry-is, exit-is, key-is, edges-in, sound, well-formed}
+use Rattle.versions.specs.MemoryLaws.{kind-is, label-is, callees-are, key-is, edges-in, sound, well-formed}
+use Rattle.versions.specs.Called.{CalleesAt}
 use Rattle.versions.specs.Found.{found-at}
-use Rattle.versions.specs.Claims.{Alike, BothCall, Entered, GoesOn, Taken}
+use Rattle.versions.specs.Claims.{Alike, BothCall, CalleesEntered, Entered, ExitsMet, GoesOn, SameCallees, Taken}
 use Rattle.versions.specs.Groups.{Grouped, Groups, Known, OfGroup, Regrouped, Twin}
 
 -- ---- what the tables hold, past their ends
@@ -37,8 +39,8 @@ module _ (t : List ℕ) (i : ℕ) (h : length t ≤ i) where
   pub kind-past : 0 ≡ getD t (nodeBase i) 0
   kind-past = sym (past t i (nodeBase i) h (omega arith))
 
-  pub callee-past : 0 ≡ getD t (nodeBase i + 3) 0
-  callee-past = sym (past t i (nodeBase i + 3) h (omega arith))
+  pub callees-past : 0 ≡ getD t (nodeBase i + 3) 0
+  callees-past = sym (past t i (nodeBase i + 3) h (omega arith))
 
   pub entry-past : 0 ≡ getD t (procBase i + 5) 0
   entry-past = sym (past t i (procBase i + 5) h (omega arith))
@@ -59,7 +61,7 @@ module _ (t : List ℕ) (i : ℕ) (h : length t ≤ i) where
     pub name-past : r ≡ partAt text t (procBase i)
     name-past = e ∙ part-past text t i (procBase i) h (omega arith)
 
-pub ruleset reads = (kind-past, callee-past, entry-past, exit-past, source-past, target-past, label-past, name-past)
+pub ruleset reads = (kind-past, callees-past, entry-past, exit-past, source-past, target-past, label-past, name-past)
 
 -- ---- `same_label`, `same_name`
 
@@ -118,20 +120,14 @@ module _ (ot on ol nt nn nl : List ℕ) (n m k l : ℕ) (ek : k ≡ getD on (nod
         sym (alike-parts (o .program) (p .program) n m
         ∙ and-both (eq-eqb _ _ (ks .0 ∙ sym (ks .1))) (and-both (labels-are o p h g i j z) (bare-callees (o .program) (p .program) n m c c′)))
 
-    pub alike-calls : (a b : ℕ) (r : Bool) → u ≡ true → k ≡ 2 → a ≡ getD on (nodeBase n + 3) 0 → b ≡ getD nn (nodeBase m + 3) 0
-        → r ≡ sameCallee (partAt ot ol (procBase a)) (partAt nt nl (procBase b)) → Alike (memory ot on ol) (memory nt nn nl) n m r
-    unfolding Alike sameKind _and_
+    pub alike-calls : (a b : ℕ) (r : Bool) → u ≡ true → k ≡ 2 → a ≡ getD on (nodeBase n + 3) 0 → b ≡ getD nn (nodeBase m + 3) 0 → SameCallees ot ol nt nl a b r
+        → Alike (memory ot on ol) (memory nt nn nl) n m r
+    unfolding Alike SameCallees sameKind every _and_
     alike-calls a b r z d ea eb er o p h g i j =
         let ks = kinds-are o p h g i j in
-        let w = well-formed _ o h in
-        let w′ = well-formed _ p g in
-        let x : a ≡ called (o .program) n = ea ∙ callee-is _ o h n i in
-        let y : b ≡ called (p .program) m = eb ∙ callee-is _ p g m j in
-        let c : partAt ot ol (procBase a) ≡ calleeAt (o .program) n
-        = ap (λ (v : ℕ). partAt ot ol (procBase v)) x ∙ name-is _ o h _ (called-below (o .program) w n) ∙ called-name (o .program) w n i (call-is _ (ks .0 ∙ d)) in
-        let c′ : partAt nt nl (procBase b) ≡ calleeAt (p .program) m
-        = ap (λ (v : ℕ). partAt nt nl (procBase v)) y ∙ name-is _ p g _ (called-below (p .program) w′ m) ∙ called-name (p .program) w′ m j (call-is _ (ks .1 ∙ d)) in
-        er ∙ ap₂ sameCallee c c′
+        let at : CalleesAt o p n m 0 a b
+        = record { old-node = i; call = call-is _ (ks .0 ∙ d); within = omega arith; old-from = ea ∙ callees-are _ o h n i; new-from = eb ∙ callees-are _ p g m j } in
+        er on nn o p h g n m 0 at j (call-is _ (ks .1 ∙ d)) (omega arith) refl
         ∙ sym (alike-parts (o .program) (p .program) n m
         ∙ ap₂ (λ (s t : Bool). s and (t and sameCallee (calleeAt (o .program) n) (calleeAt (p .program) m))) (eq-eqb _ _ (ks .0 ∙ sym (ks .1))) (labels-are o p h g i j z))
 
@@ -178,43 +174,45 @@ module _ (on nn : List ℕ) (n m k : ℕ) (ek : k ≡ getD on (nodeBase n) 0) wh
 
 pub ruleset calls = (calls-not, calls-both)
 
+-- ---- `entries_paired`, `exits_paired`
+
+pub paired : (w : List ℕ) (a b x y : ℕ) (r : Bool) → a ≡ x → b ≡ y → Has w a b r → Has w x y r
+paired w a b x y r ea eb h = subst₂ (λ (i j : ℕ). Has w i j r) ea eb h
+
 -- ---- `goes_on`, `entered`
 
 module _ (on ol nn nl w : List ℕ) (n m : ℕ) where
   pub goes-free : (k : ℕ) → k ≡ getD on (nodeBase n) 0 → (k ≡ 2 → ⊥) → GoesOn on ol nn nl w n m true
   unfolding GoesOn goesOn sameKind _⇒_
   goes-free k ek d ot nt o p c h g st i j =
-      sym (ap (λ (t : Bool). t ⇒ listed (pairsIn w c) (exit (o .program) (called (o .program) n)) (exit (p .program) (called (p .program) m)))
-      (ne-eqb (kindNumber (kindAt (o .program) n)) 2 (λ e. d (ek ∙ kind-is _ o h n i ∙ e))))
+      sym (ap (λ (t : Bool). t ⇒ exitsMet (o .program) (p .program) (pairsIn w c) n m (calleeCount (o .program) n)) (ne-eqb (kindNumber (kindAt (o .program) n)) 2 (λ e. d (ek ∙ kind-is _ o h n i ∙ e))))
 
   pub entered-free : (u : Bool) → BothCall on nn n m u → u ≡ false → Entered on ol nn nl w n m true
   unfolding Entered BothCall _⇒_
   entered-free u b z ot nt o p c h g st i j =
-      sym (ap (λ (t : Bool). t ⇒ listed (pairsIn w c) (entry (o .program) (called (o .program) n)) (entry (p .program) (called (p .program) m))) (sym (b ot nt ol nl o p h g i j) ∙ z))
+      sym (ap (λ (t : Bool). t ⇒ every (calleeCount (o .program) n) (enteredAt (o .program) (p .program) (pairsIn w c) n m)) (sym (b ot nt ol nl o p h g i j) ∙ z))
 
-  module _ (q q′ a b : ℕ) (r : Bool) (eq : q ≡ getD on (nodeBase n + 3) 0) (eq′ : q′ ≡ getD nn (nodeBase m + 3) 0) (has : Has w a b r) where
-    pub goes-exits : (k : ℕ) → k ≡ getD on (nodeBase n) 0 → k ≡ 2 → a ≡ getD ol (procBase q + 6) 0 → b ≡ getD nl (procBase q′ + 6) 0 → GoesOn on ol nn nl w n m r
-    unfolding GoesOn goesOn sameKind Has _⇒_
-    goes-exits k ek d ea eb ot nt o p c h g st i j =
-        let x : a ≡ exit (o .program) (called (o .program) n)
-        = ea ∙ ap (λ (v : ℕ). getD ol (procBase v + 6) 0) (eq ∙ callee-is _ o h n i) ∙ exit-is _ o h _ (called-below (o .program) (well-formed _ o h) n) in
-        let y : b ≡ exit (p .program) (called (p .program) m)
-        = eb ∙ ap (λ (v : ℕ). getD nl (procBase v + 6) 0) (eq′ ∙ callee-is _ p g m j) ∙ exit-is _ p g _ (called-below (p .program) (well-formed _ p g) m) in
-        has c st ∙ ap₂ (listed (pairsIn w c)) x y
-        ∙ sym (ap (λ (t : Bool). t ⇒ listed (pairsIn w c) (exit (o .program) (called (o .program) n)) (exit (p .program) (called (p .program) m)))
-        (eq-eqb (kindNumber (kindAt (o .program) n)) 2 (sym (ek ∙ kind-is _ o h n i) ∙ d)))
+  module _ (a b : ℕ) (r : Bool) (ea : a ≡ getD on (nodeBase n + 3) 0) (eb : b ≡ getD nn (nodeBase m + 3) 0) where
+    -- The callees from the first on.
+    all-callees : {ot nt : Bytes} {o p : Listing} → InMemory (memory ot on ol) o → InMemory (memory nt nn nl) p → n < nodeCount (o .program) → m < nodeCount (p .program)
+        → kindAt (o .program) n ≡ C → CalleesAt o p n m 0 a b
+    all-callees {o = o} {p = p} h g i j c = record { old-node = i; call = c; within = omega arith; old-from = ea ∙ callees-are _ o h n i; new-from = eb ∙ callees-are _ p g m j }
 
-    pub entered-entries : (u : Bool) → BothCall on nn n m u → u ≡ true → a ≡ getD ol (procBase q + 5) 0 → b ≡ getD nl (procBase q′ + 5) 0 → Entered on ol nn nl w n m r
-    unfolding Entered BothCall Has _⇒_
-    entered-entries u bc z ea eb ot nt o p c h g st i j =
-        let x : a ≡ entry (o .program) (called (o .program) n)
-        = ea ∙ ap (λ (v : ℕ). getD ol (procBase v + 5) 0) (eq ∙ callee-is _ o h n i) ∙ entry-is _ o h _ (called-below (o .program) (well-formed _ o h) n) in
-        let y : b ≡ entry (p .program) (called (p .program) m)
-        = eb ∙ ap (λ (v : ℕ). getD nl (procBase v + 5) 0) (eq′ ∙ callee-is _ p g m j) ∙ entry-is _ p g _ (called-below (p .program) (well-formed _ p g) m) in
-        has c st ∙ ap₂ (listed (pairsIn w c)) x y
-        ∙ sym (ap (λ (t : Bool). t ⇒ listed (pairsIn w c) (entry (o .program) (called (o .program) n)) (entry (p .program) (called (p .program) m))) (sym (bc ot nt ol nl o p h g i j) ∙ z))
+    pub goes-exits : (k : ℕ) → k ≡ getD on (nodeBase n) 0 → k ≡ 2 → ExitsMet ol nl w a b r → GoesOn on ol nn nl w n m r
+    unfolding GoesOn goesOn exitsMet ExitsMet every sameKind _⇒_
+    goes-exits k ek d met ot nt o p c h g st i j =
+        let e : kindNumber (kindAt (o .program) n) ≡ 2 = sym (ek ∙ kind-is _ o h n i) ∙ d in
+        met ot on nt nn o p c h g st n m 0 (all-callees h g i j (call-is _ e)) refl
+        ∙ sym (ap (λ (t : Bool). t ⇒ exitsMet (o .program) (p .program) (pairsIn w c) n m (calleeCount (o .program) n)) (eq-eqb _ _ e))
 
-pub ruleset goes = (goes-free, goes-exits, entered-free, entered-entries)
+    pub entered-callees : (u : Bool) → BothCall on nn n m u → u ≡ true → CalleesEntered ol nl w a b r → Entered on ol nn nl w n m r
+    unfolding Entered BothCall bothCall CalleesEntered exitsMet every _⇒_
+    entered-callees u bc z came ot nt o p c h g st i j =
+        let both : bothCall (o .program) (p .program) n m ≡ true = sym (bc ot nt ol nl o p h g i j) ∙ z in
+        came ot on nt nn o p c h g st n m 0 (all-callees h g i j (sameKind-true _ _ (and-left _ _ both))) refl refl
+        ∙ sym (ap (λ (t : Bool). t ⇒ every (calleeCount (o .program) n) (enteredAt (o .program) (p .program) (pairsIn w c) n m)) both)
+
+pub ruleset goes = (paired, goes-free, goes-exits, entered-free, entered-callees)
 
 -- ---- `twin`, `group_node`, `group`
 

@@ -9,13 +9,13 @@ use borrow.Author.Tests.{le-leb}
 use Rattle.laws.specs.Lists.{choose-yes}
 use Rattle.laws.specs.Chain.{Chained, link-le}
 use Rattle.rules.specs.Text.{accepted}
-use Rattle.rules.specs.Graph.{WellFormed, called, edgeCount, entry, exit, kindAt, kindNumber, labelAt, nameAt, nodeCount, procCount, sourceAt, targetAt, wordAt}
+use Rattle.rules.specs.Graph.{WellFormed, edgeCount, entry, exit, kindAt, kindNumber, labelAt, nameAt, nodeCount, procCount, sourceAt, targetAt, wordAt}
 use Rattle.rules.specs.ProgramFile.{Listing, readListing, readProgram}
 use Rattle.rules.specs.Places.{Placed}
 use Rattle.rules.specs.Proofs.Places.{listing-placed, part-is}
 use Rattle.rules.specs.Proofs.ProgramLaws.{Sound, read-sound, read-well-formed}
 use Rattle.rules.specs.Proofs.TextLaws.{then-passes}
-use Rattle.graph.specs.Table.{edgeBase, headBase, nodeBase, procBase}
+use Rattle.graph.specs.Table.{calleesFrom, edgeBase, headBase, nodeBase, procBase}
 use Rattle.graph.specs.Keys.{wordKey}
 use Rattle.graph.specs.Lookups.{Edges, in-table}
 use Rattle.graph.specs.Reads.{partAt, upTo}
@@ -55,8 +55,8 @@ module _ (m : Memory) (s : Listing) (h : InMemory m s) where
         ap₂ (λ (a b : ℕ). take a (drop b (m .text))) (ap (λ (k : ℕ). getD (m .nodes) k 0) (add-assoc (nodeBase n) 1 1) ∙ h .nodes n l 2 (omega arith)) (h .nodes n l 1 (omega arith))
         ∙ part-is (m .text) _ _ (placed .labels .parts n l)
 
-    pub callee-is : getD (m .nodes) (nodeBase n + 3) 0 ≡ called (s .program) n
-    callee-is = h .nodes n l 3 (omega arith)
+    pub callees-are : getD (m .nodes) (nodeBase n + 3) 0 ≡ calleesFrom (s .program) n 0
+    callees-are = h .nodes n l 3 (omega arith)
 
   -- ---- a procedure
 

@@ -5,8 +5,9 @@ use mathlib.Core.List.{List}
 use Prim.Native.Nat.{ℕ}
 use lib.ListN.{length}
 use Rattle.laws.specs.Tests.{_and_, _⇒_, listed}
-use Rattle.rules.specs.Graph.{C, Program, called, exit, kindAt, sameKind, sourceAt}
-use Rattle.rules.specs.Closing.{fits, goesOn, joined, pairs}
+use Rattle.laws.specs.Counting.{every-agree}
+use Rattle.rules.specs.Graph.{C, Program, calleeCount, called, exit, kindAt, sameKind, sourceAt}
+use Rattle.rules.specs.Closing.{exitsMet, fits, goesOn, joined, pairs}
 use Rattle.pairset.specs.Store.{Store, pairsIn}
 
 pub record PairsHeld (old new : Program) (w : List ℕ) (c : ℕ) : Type 0 where
@@ -16,8 +17,9 @@ pub record PairsHeld (old new : Program) (w : List ℕ) (c : ℕ) : Type 0 where
 
 module _ (old new : Program) (M N : List (ℕ × ℕ)) (h : (a b : ℕ) → listed M a b ≡ listed N a b) where
   pub goesOn-agree : (n m : ℕ) → goesOn old new M n m ≡ goesOn old new N n m
-  unfolding goesOn
-  goesOn-agree n m = ap (λ (t : Bool). sameKind (kindAt old n) C ⇒ t) (h (exit old (called old n)) (exit new (called new m)))
+  unfolding goesOn exitsMet
+  goesOn-agree n m =
+      ap (λ (t : Bool). sameKind (kindAt old n) C ⇒ t) (every-agree _ _ (calleeCount old n) (λ i _. h (exit old (called old n i)) (exit new (called new m i))))
 
   pub joined-agree : (e f : ℕ) → joined old new M e f ≡ joined old new N e f
   unfolding joined

@@ -1,7 +1,7 @@
 // Two versions of a program in memory: the old text, nodes and links, and the new ones. Every function takes any slice and any number: what
 // stands past the end of a table is 0.
 ghost use mathlib.Core.Path.{_≡_};
-ghost use Prim.Native.Nat.{_+_, _*_, _^_, _<_, _≤_};
+ghost use Prim.Native.Nat.{_+_, _-_, _*_, _%_, _^_, _<_, _≤_};
 ghost use lib.Dec.{eqb};
 ghost use lib.ListN.{getD};
 ghost use Rattle.laws.specs.Tests.{choose};
@@ -9,8 +9,9 @@ ghost use Rattle.graph.specs.Table.{edgeBase, headBase, nodeBase, procBase};
 ghost use Rattle.graph.specs.Reads.{partAt, upTo};
 ghost use Rattle.rules.specs.Text.{sameLabel};
 ghost use Rattle.rules.specs.Closing.{sameCallee};
+ghost use Rattle.pairset.specs.Store.{Has};
 ghost use Rattle.versions.specs.Memory.{memory};
-ghost use Rattle.versions.specs.Claims.{Alike, BothCall, Entered, GoesOn, Taken};
+ghost use Rattle.versions.specs.Claims.{Alike, BothCall, CalleesEntered, Entered, ExitsMet, GoesOn, SameCallees, Taken};
 ghost use Rattle.versions.specs.Groups.{Known, Regrouped, Twin};
 
 // ---- what the tables hold
@@ -25,14 +26,25 @@ pub fn kind(nodes: &[usize], n: usize) -> usize
     text::get(nodes, 4 * n)
 }
 
-// The procedure that the node n calls.
-pub fn callee(nodes: &[usize], n: usize) -> usize
+// The procedures that the node n calls, as one number; 0 if it calls none.
+pub fn callees(nodes: &[usize], n: usize) -> usize
     ensures { λ r. ⌜ r ≡ getD (now (nodes .entry)) (nodeBase n + 3) 0 ⌝ }
 {
     if nodes.len() <= n {
         return 0;
     }
     text::get(nodes, 4 * n + 3)
+}
+
+// The first of the procedures that are called by this number.
+pub fn callee(callees: usize) -> usize
+    ensures { λ r. ⌜ r ≡ callees % 256 - 1 ⌝ }
+{
+    let digit = callees % 256;
+    if digit < 1 {
+        return 0;
+    }
+    digit - 1
 }
 
 // The label of the node n.
@@ -129,7 +141,28 @@ fn same_name(ot: &[u8], ol: &[usize], nt: &[u8], nl: &[usize], q: usize, k: usiz
     text::same(a, b)
 }
 
-// Whether the old node n and the new node m are alike. Only a call has a callee, the name of the procedure that it calls.
+// Whether the callee fields of an old and a new call count as equal, by the numbers of their callees: they have as many names, and the same.
+fn same_callees(ot: &[u8], ol: &[usize], nt: &[u8], nl: &[usize], k: usize, l: usize) -> bool
+    ensures { λ r. ⌜ SameCallees (now (ot .entry)) (now (ol .entry)) (now (nt .entry)) (now (nl .entry)) k l r ⌝ }
+{
+    let mut a = k;
+    let mut b = l;
+    while 0 < a {
+        if b < 1 {
+            return false;
+        }
+        let q = callee(a);
+        let p = callee(b);
+        if !same_name(ot, ol, nt, nl, q, p) {
+            return false;
+        }
+        a = a / 256;
+        b = b / 256;
+    }
+    b < 1
+}
+
+// Whether the old node n and the new node m are alike. Only a call has a callee field, of the names of the procedures that it calls.
 pub fn alike(
     ot: &[u8],
     on: &[usize],
@@ -149,9 +182,7 @@ pub fn alike(
     }
     if same_label(ot, on, nt, nn, n, m) {
         if k == 2 {
-            let q = callee(on, n);
-            let p = callee(nn, m);
-            return same_name(ot, ol, nt, nl, q, p);
+            return same_callees(ot, ol, nt, nl, callees(on, n), callees(nn, m));
         }
         return true;
     }
@@ -178,7 +209,43 @@ pub fn both_call(on: &[usize], nn: &[usize], n: usize, m: usize) -> bool
 
 // ---- a table of pairs
 
-// Whether the pair of the old node n and the new node m may go on by the pairs of the table: for a call, the exits of its callee are one of them.
+// Whether the entries of the old procedure q and the new procedure p are a pair of the table.
+fn entries_paired(ol: &[usize], nl: &[usize], w: &[usize], q: usize, p: usize) -> bool
+    ensures { λ r. ⌜ Has (now (w .entry)) (getD (now (ol .entry)) (procBase q + 5) 0) (getD (now (nl .entry)) (procBase p + 5) 0) r ⌝ }
+{
+    let a = entry(ol, q);
+    let b = entry(nl, p);
+    pairset::has(w, a, b)
+}
+
+// Whether their exits are.
+pub fn exits_paired(ol: &[usize], nl: &[usize], w: &[usize], q: usize, p: usize) -> bool
+    ensures { λ r. ⌜ Has (now (w .entry)) (getD (now (ol .entry)) (procBase q + 6) 0) (getD (now (nl .entry)) (procBase p + 6) 0) r ⌝ }
+{
+    let a = exit(ol, q);
+    let b = exit(nl, p);
+    pairset::has(w, a, b)
+}
+
+// Whether the exits of the old and the new procedures that are called by these numbers are, one by one, pairs of the table.
+fn exits_met(ol: &[usize], nl: &[usize], w: &[usize], k: usize, l: usize) -> bool
+    ensures { λ r. ⌜ ExitsMet (now (ol .entry)) (now (nl .entry)) (now (w .entry)) k l r ⌝ }
+{
+    let mut a = k;
+    let mut b = l;
+    while 0 < a {
+        let q = callee(a);
+        let p = callee(b);
+        if !exits_paired(ol, nl, w, q, p) {
+            return false;
+        }
+        a = a / 256;
+        b = b / 256;
+    }
+    true
+}
+
+// Whether the pair of the old node n and the new node m may go on by the pairs of the table: for a call, the exits of all its callees are among them.
 pub fn goes_on(
     on: &[usize],
     ol: &[usize],
@@ -193,12 +260,32 @@ pub fn goes_on(
     if kind(on, n) != 2 {
         return true;
     }
-    let a = exit(ol, callee(on, n));
-    let b = exit(nl, callee(nn, m));
-    pairset::has(w, a, b)
+    exits_met(ol, nl, w, callees(on, n), callees(nn, m))
 }
 
-// Whether, where the old node n and the new node m are calls, the entries of their callees are a pair of the table.
+// Whether the entries of the first procedures that are called by these numbers are a pair of the table, and those of each later one, if the exits of
+// every one before it are.
+fn callees_entered(ol: &[usize], nl: &[usize], w: &[usize], k: usize, l: usize) -> bool
+    ensures { λ r. ⌜ CalleesEntered (now (ol .entry)) (now (nl .entry)) (now (w .entry)) k l r ⌝ }
+{
+    let mut a = k;
+    let mut b = l;
+    while 0 < a {
+        let q = callee(a);
+        let p = callee(b);
+        if !entries_paired(ol, nl, w, q, p) {
+            return false;
+        }
+        if !exits_paired(ol, nl, w, q, p) {
+            return true;
+        }
+        a = a / 256;
+        b = b / 256;
+    }
+    true
+}
+
+// Whether, where the old node n and the new node m are calls, the entries of their callees are pairs of the table, up to the first whose exits are not.
 pub fn entered(
     on: &[usize],
     ol: &[usize],
@@ -211,9 +298,7 @@ pub fn entered(
     ensures { λ r. ⌜ Entered (now (on .entry)) (now (ol .entry)) (now (nn .entry)) (now (nl .entry)) (now (w .entry)) n m r ⌝ }
 {
     if both_call(on, nn, n, m) {
-        let a = entry(ol, callee(on, n));
-        let b = entry(nl, callee(nn, m));
-        return pairset::has(w, a, b);
+        return callees_entered(ol, nl, w, callees(on, n), callees(nn, m));
     }
     true
 }

@@ -18,9 +18,6 @@ same-length c = search needs
 returns : tie.Need-returns
 returns c = search (all, needs)
 
-goes-on-requires : tie.Need-goes-on-requires
-goes-on-requires c κs = search needs
-
 follow-requires : tie.Need-follow-requires
 follow-requires c κs = search needs
 
@@ -45,7 +42,6 @@ visit-spec =
     enter-requires
     same-length
     returns
-    goes-on-requires
     follow-requires
     same-length-2
     returns-2

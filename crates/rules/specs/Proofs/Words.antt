@@ -7,15 +7,15 @@ use mathlib.Core.List.{List, [], _∷_, _++_}
 use Prim.Native.Nat.{ℕ, _<_}
 use lib.ListN.{length, getD}
 use borrow.Author.Tests.{eqb-true, eq-eqb}
-use Rattle.laws.specs.Tests.{_⇒_, listed}
+use Rattle.laws.specs.Tests.{listed}
 use Rattle.laws.specs.TestLaws.{and-left, and-right, and-both, implied, implies, or-cases, or-left, or-right, every-at, every-of, any-at, any-of, anyOf-of, anyOf-at, allPairs-at, allPairs-of, both-ways, fails, isnt-true, true-isnt}
 use Rattle.rules.specs.Text.{Bytes, isCallees, isName, linesOf, nameCount, nameIn, namesIn, squeezed}
-use Rattle.rules.specs.Graph.{Program, WellFormed, X, calleeAt, calleeCount, called, edgeCount, entry, exit, isOf, kindAt, nodeCount, orZero, ownerAt, procCount}
+use Rattle.rules.specs.Graph.{Program, WellFormed, X, calleeAt, calleeCount, called, edgeCount, exit, isOf, kindAt, nodeCount, orZero, ownerAt, procCount}
 use Rattle.rules.specs.ProgramFile.{isNode}
 use Rattle.rules.specs.Run.{Meaning}
 use Rattle.rules.specs.Closing.{Coverage, bothCall, exitsMet, goesOn, holds, meets}
 use Rattle.rules.specs.Sheet.{Sheet, among, leftOff, rLine}
-use Rattle.rules.specs.Check.{entered, keeps, edgeKept, edgesKept, rule1, rule2, rule3, rule4, rule5}
+use Rattle.rules.specs.Check.{entered, enteredAt, keeps, edgeKept, edgesKept, rule1, rule2, rule3, rule4, rule5}
 use Rattle.rules.specs.Promises.{AlikeExact, CalleesExact, LeftOffExact, Lookups, MeaningsFree, RulesExact}
 use Rattle.rules.specs.Proofs.ClosingLaws.{alike-is, same-word, word-same, fits-word, fits-ends, fits-of, sameLabel-true}
 use Rattle.rules.specs.Proofs.GraphLaws.{called-below, called-name, edge-is, entry-is, first-found, isOf-true, its-edge, sameKind-of, sameKind-true, taken-at}
@@ -84,12 +84,9 @@ alike-exact old new =
       fits-are = λ e e′. (λ h. (same-word old new e e′ (fits-word old new e e′ h), fits-ends old new e e′ h), λ h. fits-of old new e e′ (word-same old new e e′ (h .0)) (h .1));
     }
 
--- The exits of the callees j are listed; where those before i are, so are the entries of the callees i.
+-- The exits of the callees j are listed.
 abbrev exitsAt : Program → Program → Sheet → ℕ → ℕ → ℕ → Bool
 exitsAt old new c n n′ j = listed (c .M) (exit old (called old n j)) (exit new (called new n′ j))
-
-abbrev enteredAt : Program → Program → Sheet → ℕ → ℕ → ℕ → Bool
-enteredAt old new c n n′ i = exitsMet old new (c .M) n n′ i ⇒ listed (c .M) (entry old (called old n i)) (entry new (called new n′ i))
 
 pub rules-exact : (old new : Program) (suite : List Coverage) (c : Sheet) → RulesExact old new suite c
 unfolding rule1 rule2 rule3 rule4 rule5 entered exitsMet bothCall edgesKept edgeKept keeps goesOn meets
@@ -98,9 +95,9 @@ rules-exact old new suite c =
       first-listed = (λ h. h, λ h. h);
       pairs-alike = (λ h. allPairs-at _ (c .M) h, λ h. allPairs-of _ (c .M) h);
       callees-listed = (
-        λ h n n′ l k k′ i b m. implied _ _ (every-at (enteredAt old new c n n′) (calleeCount old n) (implied _ _ (allPairs-at (entered old new c) (c .M) h n n′ l) (and-both (sameKind-of k) (sameKind-of k′))) i b) (every-of (exitsAt old new c n n′) i m),
+        λ h n n′ l k k′ i b m. implied _ _ (every-at (enteredAt old new (c .M) n n′) (calleeCount old n) (implied _ _ (allPairs-at (entered old new c) (c .M) h n n′ l) (and-both (sameKind-of k) (sameKind-of k′))) i b) (every-of (exitsAt old new c n n′) i m),
         λ h. allPairs-of (entered old new c) (c .M) (λ n n′ l. implies _ _ (λ b.
-            every-of (enteredAt old new c n n′) (calleeCount old n) (λ i u. implies _ _ (λ m. h n n′ l (sameKind-true _ _ (and-left _ _ b)) (sameKind-true _ _ (and-right _ _ b)) i u (every-at (exitsAt old new c n n′) i m))))),
+            every-of (enteredAt old new (c .M) n n′) (calleeCount old n) (λ i u. implies _ _ (λ m. h n n′ l (sameKind-true _ _ (and-left _ _ b)) (sameKind-true _ _ (and-right _ _ b)) i u (every-at (exitsAt old new c n n′) i m))))),
       );
       edges-kept = (
         λ h n n′ l g e b s.

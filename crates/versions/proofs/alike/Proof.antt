@@ -15,14 +15,14 @@ returns c = search (all, needs)
 same-label-requires : tie.Need-same-label-requires
 same-label-requires c κs = search needs
 
-callee-requires : tie.Need-callee-requires
-callee-requires c κs = search needs
+callees-requires : tie.Need-callees-requires
+callees-requires c κs = search needs
 
-callee-requires-2 : tie.Need-callee-requires-2
-callee-requires-2 c κs = search needs
+callees-requires-2 : tie.Need-callees-requires-2
+callees-requires-2 c κs = search needs
 
-same-name-requires : tie.Need-same-name-requires
-same-name-requires c κs = search needs
+same-callees-requires : tie.Need-same-callees-requires
+same-callees-requires c κs = search needs
 
 returns-2 : tie.Need-returns-2
 returns-2 c = search (all, needs)
@@ -41,9 +41,9 @@ alike-spec =
     kind-requires-2
     returns
     same-label-requires
-    callee-requires
-    callee-requires-2
-    same-name-requires
+    callees-requires
+    callees-requires-2
+    same-callees-requires
     returns-2
     returns-3
     returns-4)

@@ -6,20 +6,14 @@ use Rattle.versions.proofs.entered.Tie as tie
 both-call-requires : tie.Need-both-call-requires
 both-call-requires c κs = search needs
 
-callee-requires : tie.Need-callee-requires
-callee-requires c κs = search needs
+callees-requires : tie.Need-callees-requires
+callees-requires c κs = search needs
 
-entry-requires : tie.Need-entry-requires
-entry-requires c κs = search needs
+callees-requires-2 : tie.Need-callees-requires-2
+callees-requires-2 c κs = search needs
 
-callee-requires-2 : tie.Need-callee-requires-2
-callee-requires-2 c κs = search needs
-
-entry-requires-2 : tie.Need-entry-requires-2
-entry-requires-2 c κs = search needs
-
-has-requires : tie.Need-has-requires
-has-requires c κs = search needs
+callees-entered-requires : tie.Need-callees-entered-requires
+callees-entered-requires c κs = search needs
 
 returns : tie.Need-returns
 returns c = search (all, needs)
@@ -32,10 +26,8 @@ entered-spec =
     tie.close
     (tie.spec
     both-call-requires
-    callee-requires
-    entry-requires
-    callee-requires-2
-    entry-requires-2
-    has-requires
+    callees-requires
+    callees-requires-2
+    callees-entered-requires
     returns
     returns-2)

@@ -9,20 +9,14 @@ kind-requires c κs = search needs
 returns : tie.Need-returns
 returns c = search (all, needs)
 
-callee-requires : tie.Need-callee-requires
-callee-requires c κs = search needs
+callees-requires : tie.Need-callees-requires
+callees-requires c κs = search needs
 
-exit-requires : tie.Need-exit-requires
-exit-requires c κs = search needs
+callees-requires-2 : tie.Need-callees-requires-2
+callees-requires-2 c κs = search needs
 
-callee-requires-2 : tie.Need-callee-requires-2
-callee-requires-2 c κs = search needs
-
-exit-requires-2 : tie.Need-exit-requires-2
-exit-requires-2 c κs = search needs
-
-has-requires : tie.Need-has-requires
-has-requires c κs = search needs
+exits-met-requires : tie.Need-exits-met-requires
+exits-met-requires c κs = search needs
 
 returns-2 : tie.Need-returns-2
 returns-2 c = search (all, needs)
@@ -33,9 +27,7 @@ goes-on-spec =
     (tie.spec
     kind-requires
     returns
-    callee-requires
-    exit-requires
-    callee-requires-2
-    exit-requires-2
-    has-requires
+    callees-requires
+    callees-requires-2
+    exits-met-requires
     returns-2)

@@ -1,7 +1,7 @@
 use borrow.Author.Needs.{needs}
 use Rattle.versions.proofs.Laws.{all}
-use Rattle.versions.proofs.callee.Statement.{statement}
-use Rattle.versions.proofs.callee.Tie as tie
+use Rattle.versions.proofs.callees.Statement.{statement}
+use Rattle.versions.proofs.callees.Tie as tie
 
 returns : tie.Need-returns
 returns c = search (all, needs)
@@ -18,5 +18,5 @@ get-requires c κs = search needs
 returns-2 : tie.Need-returns-2
 returns-2 c = search needs
 
-pub callee-spec : {M : Type 1} → statement M
-callee-spec = tie.close (tie.spec returns mul-get add-get get-requires returns-2)
+pub callees-spec : {M : Type 1} → statement M
+callees-spec = tie.close (tie.spec returns mul-get add-get get-requires returns-2)
