@@ -8,10 +8,10 @@ use lib.ListN.{length, getD, replicate}
 use lib.Seq.{sets}
 use Rattle.laws.specs.Tests.{_and_, choose}
 use Rattle.rules.specs.Text.{Bytes, Reading, refused, accepted}
-use Rattle.rules.specs.Graph.{kindAt, kindNumber, labelAt, called, nodeCount}
+use Rattle.rules.specs.Graph.{kindAt, kindNumber, labelAt, nodeCount}
 use Rattle.rules.specs.ProgramFile.{Listing, readListing}
 use Rattle.rules.specs.Job.{Outcome, ofStage, outcome, packed, read-old, success}
-use Rattle.graph.specs.Table.{linksAfter}
+use Rattle.graph.specs.Table.{calleesFrom, linksAfter}
 use Rattle.records.specs.declared.Job.{Job}
 use Rattle.records.specs.declared.Node.{Node}
 use Rattle.records.specs.Jobs.{fresh, sameJob}
@@ -49,7 +49,7 @@ readAnswer a = outcome a (λ s. success)
 
 -- The record of the node n, and the first k of them.
 abbrev pub nodeRecord : Listing → ℕ → Node
-nodeRecord s n = record { kind = kindNumber (kindAt (s .program) n); start = getD (s .places .labelStarts) n 0; len = length (labelAt (s .program) n); callee = called (s .program) n }
+nodeRecord s n = record { kind = kindNumber (kindAt (s .program) n); start = getD (s .places .labelStarts) n 0; len = length (labelAt (s .program) n); callees = calleesFrom (s .program) n 0 }
 
 unfoldable pub nodeRecords : Listing → ℕ → List Node
 nodeRecords s zero = []

@@ -33,11 +33,11 @@ getD-end [] i h = refl
 getD-end (x ∷ l) zero h = absurd (let z : ⊥ = omega arith in z)
 getD-end (x ∷ l) (suc i) h = getD-end l i (omega arith)
 
-pub node-beyond : (l : List ℕ) (i : ℕ) → length l / 4 < i → record { kind = 0; start = 0; len = 0; callee = 0 } ≡ nodeAt l i
+pub node-beyond : (l : List ℕ) (i : ℕ) → length l / 4 < i → record { kind = 0; start = 0; len = 0; callees = 0 } ≡ nodeAt l i
 node-beyond l i h = rw (getD-end l (4 * i) (omega arith), getD-end l (4 * i + 1) (omega arith), getD-end l (4 * i + 2) (omega arith), getD-end l (4 * i + 3) (omega arith))
 
 pub node-is : (l : List ℕ) (i a b c d : ℕ) → a ≡ getD l (4 * i) 0 → b ≡ getD l (4 * i + 1) 0 → c ≡ getD l (4 * i + 2) 0 → d ≡ getD l (4 * i + 3) 0
-    → record { kind = a; start = b; len = c; callee = d } ≡ nodeAt l i
+    → record { kind = a; start = b; len = c; callees = d } ≡ nodeAt l i
 node-is l i a b c d ea eb ec ed = rw (ea, eb, ec, ed)
 
 -- ---- `shown_part`

@@ -12,13 +12,14 @@ ghost use Rattle.records.specs.Nodes.{flat, nodeAt, nodesOf, row};
 ghost use Rattle.records.specs.Jobs.{fresh, sameJob};
 ghost use Rattle.records.specs.Shown.{partShown};
 
-// A node: its kind, where its label stands in the text and how long it is, and the procedure that it calls.
+// A node: its kind, where its label stands in the text and how long it is, and the procedures that it calls, as digits to the base 256: 1 + the
+// first one's number is the lowest, and so on; 0 if it calls none.
 #[repr(C)]
 pub struct Node {
     pub kind: usize,
     pub start: usize,
     pub len: usize,
-    pub callee: usize,
+    pub callees: usize,
 }
 
 // The job: its stage, and how many procedures, nodes and edges each version has, and how many tests there are.
@@ -60,7 +61,7 @@ fn put_row(out: &mut [usize], at: usize, i: usize, v: Node)
     put(out, k, v.kind);
     put(out, k + 1, v.start);
     put(out, k + 2, v.len);
-    put(out, k + 3, v.callee);
+    put(out, k + 3, v.callees);
 }
 
 // The record i of the numbers.
@@ -72,19 +73,19 @@ fn node_at(table: &[usize], i: usize) -> Node
             kind: 0,
             start: 0,
             len: 0,
-            callee: 0,
+            callees: 0,
         };
     }
     let k = 4 * i;
     let kind = get(table, k);
     let start = get(table, k + 1);
     let len = get(table, k + 2);
-    let callee = get(table, k + 3);
+    let callees = get(table, k + 3);
     Node {
         kind,
         start,
         len,
-        callee,
+        callees,
     }
 }
 

@@ -2,12 +2,12 @@
 use mathlib.Core.Path.{_≡_, refl, sym, ap, ap₂, _∙_}
 use mathlib.Core.Bool.{Bool, true, false}
 use mathlib.Core.List.{List, []}
-use Prim.Native.Nat.{ℕ, zero, suc, _+_, _-_, _/_, _≤_, _<_}
+use Prim.Native.Nat.{ℕ, zero, suc, _+_, _-_, _*_, _/_, _%_, _^_, _≤_, _<_, min}
 use native.Mathlib.Numerals.{add-one}
 use native.Mathlib.Nat.{zero-add}
 use native.Mathlib.Omega.{arith}
 use lib.Dec.{eqb}
-use lib.ListN.{length, getD, take, drop, length-take}
+use lib.ListN.{length, getD, take, drop, length-drop, length-take}
 use borrow.Author.Tests.{eq-eqb, ne-eqb}
 use Rattle.laws.specs.Tests.{_and_, choose, every}
 use Rattle.laws.specs.TestLaws.{and-both, both-ways, every-at, fails}
@@ -16,7 +16,7 @@ use Rattle.rules.specs.Text.{same}
 use Rattle.graph.specs.Table.{edgeBase, nodeBase, procBase}
 use Rattle.graph.specs.Reads.{partAt, past}
 use Rattle.reader.specs.declared.Count.{Count}
-use Rattle.writeback.specs.Parts.{behindLabel, calleeIn, digitsOf, labelIn, nameIn, partsSame, nameSame, nodeSame, wordSame, wordIn}
+use Rattle.writeback.specs.Parts.{behindLabel, calleeIn, digitsOf, labelIn, nameIn, nameLong, nameSame, namesLong, nodeSame, partsSame, wordIn, wordSame}
 
 -- ---- numbers
 
@@ -56,6 +56,55 @@ module _ (v n rest : ℕ) (inv : digitsOf 8 v ≡ n + digitsOf (8 - n) rest) whe
   unfolding digitsOf
   digits-done h l = let k : 8 - n ≡ 0 = omega arith in let z : digitsOf (8 - n) rest ≡ 0 = ap (λ (k : ℕ). digitsOf k rest) k in omega arith
 
+-- `name_long`, `names_long`
+
+module _ (l : List ℕ) (q len : ℕ) (e : len ≡ getD l (procBase q + 1) 0) where
+  pub long-cut : 12 < len → 12 ≡ nameLong l q
+  unfolding nameLong
+  long-cut h = omega arith
+
+  pub long-whole : len ≤ 12 → len ≡ nameLong l q
+  unfolding nameLong
+  long-whole h = omega arith
+
+long-zero : (k : ℕ) (l : List ℕ) → namesLong k l 0 ≡ 0
+unfolding namesLong
+long-zero zero l = refl
+long-zero (suc k) l = choose-yes _ _ refl
+
+long-more : (k : ℕ) (l : List ℕ) (v : ℕ) → (v ≡ 0 → ⊥) → namesLong (suc k) l v ≡ nameLong l (v % 256 - 1) + 1 + namesLong k l (v / 256)
+unfolding namesLong
+long-more k l v h = choose-no _ _ (ne-eqb v 0 h)
+
+-- Of at most i names the length is known; those left are called by the number rest.
+pub record LongTo (l : List ℕ) (v rest len i : ℕ) : Type 0 where
+  pub few : len ≤ 13 * i
+  pub is : namesLong 4 l v ≡ len + namesLong (4 - i) l rest
+
+pub long-start : (l : List ℕ) (v : ℕ) → LongTo l v v 0 0
+long-start l v = record { few = omega arith; is = sym (zero-add (namesLong 4 l v)) }
+
+module _ (l : List ℕ) (v rest len i : ℕ) (inv : LongTo l v rest len i) where
+  pub long-end : rest ≡ 0 → len ≡ namesLong 4 l v
+  long-end e = let z : namesLong (4 - i) l rest ≡ 0 = ap (namesLong (4 - i) l) e ∙ long-zero (4 - i) l in omega (arith, inv .is)
+
+  pub long-done : 4 ≤ i → len ≡ namesLong 4 l v
+  unfolding namesLong
+  long-done h = let k : 4 - i ≡ 0 = omega arith in let z : namesLong (4 - i) l rest ≡ 0 = ap (λ (k : ℕ). namesLong k l rest) k in omega (arith, inv .is)
+
+  module _ (q one : ℕ) (h : i < 4) (eq : q ≡ rest % 256 - 1) (eo : one ≡ nameLong l q) (small : one ≤ 12) where
+    pub long-room : len + (one + 1) < 2 ^ 64
+    long-room = omega (arith, inv .few)
+
+    pub long-on : (rest ≡ 0 → ⊥) → LongTo l v (rest / 256) (len + (one + 1)) (i + 1)
+    long-on e =
+        let k : 4 - i ≡ suc (4 - (i + 1)) = omega arith in
+        let z : namesLong (4 - i) l rest ≡ nameLong l (rest % 256 - 1) + 1 + namesLong (4 - (i + 1)) l (rest / 256) = ap (λ (k : ℕ). namesLong k l rest) k ∙ long-more (4 - (i + 1)) l rest e in
+        let y : nameLong l (rest % 256 - 1) ≡ one = sym (eo ∙ ap (nameLong l) eq) in
+        record { few = omega (arith, inv .few); is = omega (arith, inv .is) }
+
+pub ruleset longs = (long-cut, long-whole, long-start, long-end, long-done, long-room, long-on)
+
 pub ruleset numbers = (node-past, proc-past, word-past, digits-start, digits-end, digits-on, digits-done)
 
 -- ---- parts
@@ -74,12 +123,11 @@ module _ (t n l : List ℕ) (m k : ℕ) (ek : k ≡ getD n (nodeBase m) 0) where
   unfolding calleeIn
   callee-none r h e = e ∙ sym (choose-no _ _ (ne-eqb _ _ (λ x. h (ek ∙ x))))
 
-  pub callee-of : (a b p r : List ℕ) (c len i j : ℕ) → k ≡ 2 → c ≡ getD n (nodeBase m + 3) 0 → len ≡ getD l (procBase c + 1) 0 → i ≡ getD n (nodeBase m + 1) 0 → a ≡ drop i t
-      → j ≡ getD n (nodeBase m + 2) 0 → b ≡ drop j a → p ≡ take len (drop 1 b) → r ≡ take 12 p → r ≡ calleeIn t n l m
+  pub callee-of : (a b p r : List ℕ) (v len i j : ℕ) → k ≡ 2 → v ≡ getD n (nodeBase m + 3) 0 → len ≡ namesLong 4 l v → i ≡ getD n (nodeBase m + 1) 0 → a ≡ drop i t
+      → j ≡ getD n (nodeBase m + 2) 0 → b ≡ drop j a → p ≡ take len b → r ≡ drop 1 p → r ≡ calleeIn t n l m
   unfolding calleeIn behindLabel
-  callee-of a b p r c len i j h ec el ei ea ej eb ep er =
-      let x : r ≡ take 12 (take (getD l (procBase (getD n (nodeBase m + 3) 0) + 1) 0) (drop 1 (drop (getD n (nodeBase m + 2) 0) (drop (getD n (nodeBase m + 1) 0) t)))) =
-      simp (er, ep, eb, ej, ea, ei, el, ec) in
+  callee-of a b p r v len i j h ev el ei ea ej eb ep er =
+      let x : r ≡ drop 1 (take (namesLong 4 l (getD n (nodeBase m + 3) 0)) (drop (getD n (nodeBase m + 2) 0) (drop (getD n (nodeBase m + 1) 0) t))) = simp (er, ep, eb, ej, ea, ei, el, ev) in
       x ∙ sym (choose-yes _ _ (eq-eqb _ _ (sym ek ∙ h)))
 
 pub word-of : (t l r : List ℕ) (e key len i : ℕ) → key ≡ getD l (edgeBase e + 2) 0 → len ≡ digitsOf 8 key → i ≡ getD l (edgeBase e + 1) 0 → r ≡ take len (drop i t) → r ≡ wordIn t l e
@@ -112,9 +160,23 @@ pub label-short : (t n r : List ℕ) (m : ℕ) → r ≡ labelIn t n m → lengt
 unfolding labelIn
 label-short t n r m e = rw e (take-short 60 (partAt t n (nodeBase m + 1)) (omega arith))
 
+names-few : (k : ℕ) (l : List ℕ) (v : ℕ) → namesLong k l v ≤ 13 * k
+unfolding namesLong nameLong choose
+names-few zero l v = omega arith
+names-few (suc k) l v = go (eqb v 0) (names-few k l (v / 256))
+  where
+    go : (b : Bool) {n : ℕ} → n ≤ 13 * k → choose b 0 (min 12 (getD l (procBase (v % 256 - 1) + 1) 0) + 1 + n) ≤ 13 * suc k
+    go true h = omega arith
+    go false h = omega arith
+
 pub callee-short : (t n l r : List ℕ) (m : ℕ) → r ≡ calleeIn t n l m → length r ≤ 60
 unfolding calleeIn
-callee-short t n l r m e = rw e (choose-short _ _ (take-short 12 (take (getD l (procBase (getD n (nodeBase m + 3) 0) + 1) 0) (behindLabel t n m)) (omega arith)))
+callee-short t n l r m e =
+    rw e (choose-short _ _
+    (let c = names-few 4 l (getD n (nodeBase m + 3) 0) in
+    let s = take (namesLong 4 l (getD n (nodeBase m + 3) 0)) (behindLabel t n m) in
+    let a : length s ≤ 60 = take-short (namesLong 4 l (getD n (nodeBase m + 3) 0)) (behindLabel t n m) (omega arith) in
+    omega (arith, length-drop 1 s)))
 
 pub word-short : (t l r : List ℕ) (e : ℕ) → r ≡ wordIn t l e → length r ≤ 60
 unfolding wordIn

@@ -2,7 +2,7 @@
 -- tables of any numbers.
 use mathlib.Core.Bool.{Bool}
 use mathlib.Core.List.{List, []}
-use Prim.Native.Nat.{ℕ, zero, suc, _+_, _/_}
+use Prim.Native.Nat.{ℕ, zero, suc, _+_, _-_, _/_, _%_, min}
 use lib.Dec.{eqb}
 use lib.ListN.{length, getD, take, drop}
 use Rattle.laws.specs.Tests.{_and_, choose, every}
@@ -18,13 +18,22 @@ nameIn t l q = take 12 (partAt t l (procBase q))
 unfoldable pub labelIn : Bytes → List ℕ → ℕ → Bytes
 labelIn t n m = take 60 (partAt t n (nodeBase m + 1))
 
--- What stands behind the label of the node m and a comma.
+-- What stands behind the label of the node m.
 unfoldable pub behindLabel : Bytes → List ℕ → ℕ → Bytes
-behindLabel t n m = drop 1 (drop (getD n (nodeBase m + 2) 0) (drop (getD n (nodeBase m + 1) 0) t))
+behindLabel t n m = drop (getD n (nodeBase m + 2) 0) (drop (getD n (nodeBase m + 1) 0) t)
 
--- The callee of the node m: of a C, whose number is 2, it stands there, and is as long as the name of the procedure that is called, at most 12 bytes; of other kinds it is empty.
+-- How long the name of the procedure q is, at most 12 bytes.
+unfoldable pub nameLong : List ℕ → ℕ → ℕ
+nameLong l q = min 12 (getD l (procBase q + 1) 0)
+
+-- How long the names are of the procedures that are called by the number v, each with the byte before it, for at most k callees.
+unfoldable pub namesLong : ℕ → List ℕ → ℕ → ℕ
+namesLong zero l v = 0
+namesLong (suc k) l v = choose (eqb v 0) 0 (nameLong l (v % 256 - 1) + 1 + namesLong k l (v / 256))
+
+-- The callee field of the node m: of a C, whose number is 2, a comma and the names of its callees, at most four, with `+` between them, stand behind its label; of other kinds it is empty.
 unfoldable pub calleeIn : Bytes → List ℕ → List ℕ → ℕ → Bytes
-calleeIn t n l m = choose (eqb (getD n (nodeBase m) 0) 2) (take 12 (take (getD l (procBase (getD n (nodeBase m + 3) 0) + 1) 0) (behindLabel t n m))) []
+calleeIn t n l m = choose (eqb (getD n (nodeBase m) 0) 2) (drop 1 (take (namesLong 4 l (getD n (nodeBase m + 3) 0)) (behindLabel t n m))) []
 
 -- How many digits to the base 256 the number has, at most k.
 unfoldable pub digitsOf : ℕ → ℕ → ℕ

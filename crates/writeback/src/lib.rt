@@ -16,6 +16,8 @@ ghost use Rattle.writeback.specs.Parts.{
   calleeIn,
   digitsOf,
   labelIn,
+  nameLong,
+  namesLong,
   nameIn,
   partsSame,
   nameSame,
@@ -102,17 +104,48 @@ fn label_in<'a>(text: &'a [u8], nodes: &[usize], m: usize) -> &'a [u8]
     text::front(versions::label(text, nodes, m), 60)
 }
 
-// The callee of the node m.
+// How long the name of the procedure q is, at most 12 bytes.
+fn name_long(links: &[usize], q: usize) -> usize
+    ensures { λ r. ⌜ r ≡ nameLong (now (links .entry)) q ⌝ }
+    ensures { λ r. ⌜ r ≤ 12 ⌝ }
+{
+    let len = proc_number(links, q, 1);
+    if 12 < len {
+        return 12;
+    }
+    len
+}
+
+// How long the names are of the procedures that are called by this number, each with the byte before it; at most four.
+fn names_long(links: &[usize], callees: usize) -> usize
+    ensures { λ r. ⌜ r ≡ namesLong 4 (now (links .entry)) callees ⌝ }
+{
+    let mut rest = callees;
+    let mut len = 0;
+    let mut i = 0;
+    while i < 4 {
+        if rest == 0 {
+            return len;
+        }
+        let one = name_long(links, versions::callee(rest));
+        len = len + (one + 1);
+        rest = rest / 256;
+        i += 1;
+    }
+    len
+}
+
+// The callee field of the node m.
 fn callee_in<'a>(text: &'a [u8], nodes: &[usize], links: &[usize], m: usize) -> &'a [u8]
     ensures { λ r. ⌜ now r ≡ calleeIn (now (text .entry)) (now (nodes .entry)) (now (links .entry)) m ⌝ }
 {
     if versions::kind(nodes, m) != 2 {
         return text::front(text, 0);
     }
-    let len = proc_number(links, versions::callee(nodes, m), 1);
+    let len = names_long(links, versions::callees(nodes, m));
     let label = text::after(text, node_number(nodes, m, 1));
     let behind = text::after(label, node_number(nodes, m, 2));
-    text::front(text::part(behind, 1, len), 12)
+    text::after(text::front(behind, len), 1)
 }
 
 // The word of the edge e.
@@ -134,7 +167,7 @@ fn same_name(a: &[u8], b: &[u8], links: &[usize], q: usize) -> bool
     text::same_long(x, y)
 }
 
-// Whether the node m has the same label and the same callee.
+// Whether the node m has the same label and the same callee field.
 fn same_node(a: &[u8], b: &[u8], nodes: &[usize], links: &[usize], m: usize) -> bool
     ensures { λ r. ⌜ r ≡ nodeSame (now (a .entry)) (now (b .entry)) (now (nodes .entry)) (now (links .entry)) m ⌝ }
 {

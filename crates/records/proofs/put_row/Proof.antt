@@ -47,7 +47,7 @@ same-length c = search needs
 returns-3 : tie.Need-returns-3
 returns-3 c =
     let a = c .before .before .before .before .before .before .before .before .before .before .before .before .before .before .before .before .before .before .before .args in
-    sets-four (a .out .now) _ _ (a .at + 4 * a .i) (a .v .kind) (a .v .start) (c .before .before .before .before .before .before .before .before .before .before .before .before .before .before .put .ensures) (c .before .before .before .before .before .before .before .before .before .before .put2 .ensures) _ (a .v .len) (c .before .before .before .before .before .before .put3 .ensures) _ (a .v .callee) (c .before .before .put4 .ensures)
+    sets-four (a .out .now) _ _ (a .at + 4 * a .i) (a .v .kind) (a .v .start) (c .before .before .before .before .before .before .before .before .before .before .before .before .before .before .put .ensures) (c .before .before .before .before .before .before .before .before .before .before .put2 .ensures) _ (a .v .len) (c .before .before .before .before .before .before .put3 .ensures) _ (a .v .callees) (c .before .before .put4 .ensures)
 
 pub put-row-spec : {M : Type 1} → statement M
 put-row-spec =
