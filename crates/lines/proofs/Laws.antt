@@ -1,18 +1,58 @@
 -- The returns of this crate's functions, as `search` finds them: the premises are what the code holds there.
-use mathlib.Core.Path.{_≡_, sym, _∙_}
+use mathlib.Core.Path.{_≡_, refl, sym, ap, _∙_}
 use mathlib.Core.Bool.{Bool, true, false}
 use mathlib.Core.Option.{some}
-use mathlib.Core.List.{[], _∷_}
-use Prim.Native.Nat.{ℕ, _≤_, _<_}
+use mathlib.Core.List.{List, [], _∷_}
+use Prim.Native.Nat.{ℕ, zero, suc, _+_, _-_, _≤_, _<_}
 use native.Mathlib.Omega.{arith}
 use lib.Dec.{ltb}
-use lib.ListN.{length}
+use lib.ListN.{length, take, drop}
 use borrow.Author.Tests.{lt-ltb, le-ltb}
 use Rattle.laws.specs.Tests.{_and_, choose}
-use Rattle.rules.specs.Text.{Bytes, same, empty, isName, isLabel}
+use Rattle.laws.specs.TestLaws.{and-ends}
+use Rattle.rules.specs.Text.{Bytes, same, split, empty, isName, isCallees, isLabel}
 use Rattle.rules.specs.Graph.{Kind, E, S, C, X, kindNumber}
 use Rattle.rules.specs.ProgramFile.{kindOf, isNode}
+use Rattle.rules.specs.Proofs.TextLaws.{split-cons}
+use Rattle.text.specs.Scans.{span}
+use Rattle.text.specs.SplitLaws.{first-last, first-more}
+use Rattle.lines.specs.Callees.{namesUpTo, up-to-four}
 use Rattle.lines.specs.Kinds.{nodeKind}
+
+-- ---- `names_up_to`, `is_callees`
+
+-- There is one piece at least.
+pub names-none : (s : Bytes) (n : ℕ) → n ≡ 0 → false ≡ namesUpTo n (split 43 s)
+unfolding namesUpTo
+names-none s n z = sym (simp (z, split-cons 43 s .2))
+
+-- By the first piece.
+names-cons : (n : ℕ) (p : Bytes) (ps : List Bytes) → (n ≡ 0 → ⊥) → namesUpTo n (p ∷ ps) ≡ (isName p and namesUpTo (n - 1) ps)
+unfolding namesUpTo
+names-cons zero p ps z = absurd (z refl)
+names-cons (suc n) p ps z = let e : n ≡ suc n - 1 = omega arith in ap (λ (k : ℕ). isName p and namesUpTo k ps) e
+
+module _ (s name : Bytes) (n : ℕ) (z : n ≡ 0 → ⊥) (e : name ≡ take (span 43 s) s) where
+  pub names-last : (t : Bool) → length s ≤ length name → t ≡ isName s → t ≡ namesUpTo n (split 43 s)
+  unfolding namesUpTo
+  names-last t h d = d ∙ sym (ap (namesUpTo n) (first-last 43 s name e h) ∙ names-cons n s [] z ∙ and-ends (isName s))
+
+  module _ (h : length name < length s) (t : Bool) (d : t ≡ isName name) where
+    split-is : (rest : Bytes) → rest ≡ drop (length name + 1) s → namesUpTo n (split 43 s) ≡ (t and namesUpTo (n - 1) (split 43 rest))
+    split-is rest er = ap (namesUpTo n) (first-more 43 s name e rest h er) ∙ names-cons n name (split 43 rest) z ∙ ap (λ (u : Bool). u and namesUpTo (n - 1) (split 43 rest)) (sym d)
+
+    pub names-not : t ≡ false → false ≡ namesUpTo n (split 43 s)
+    unfolding _and_
+    names-not f = sym (split-is (drop (length name + 1) s) refl ∙ ap (λ (u : Bool). u and namesUpTo (n - 1) (split 43 (drop (length name + 1) s))) f)
+
+    pub names-on : (rest : Bytes) (u : Bool) → t ≡ true → rest ≡ drop (length name + 1) s → u ≡ namesUpTo (n - 1) (split 43 rest) → u ≡ namesUpTo n (split 43 s)
+    unfolding _and_
+    names-on rest u y er eu = eu ∙ sym (split-is rest er ∙ ap (λ (u : Bool). u and namesUpTo (n - 1) (split 43 rest)) y)
+
+pub callees-are : (s : Bytes) (t : Bool) → t ≡ namesUpTo 4 (split 43 s) → t ≡ isCallees s
+callees-are s t e = e ∙ up-to-four s
+
+pub ruleset callees = (names-none, names-last, names-not, names-on, callees-are)
 
 -- ---- `is_end`, `is_step`, `is_call`
 
@@ -43,7 +83,7 @@ module _ (b c : Bytes) where
     unfolding isNode _and_
     call-not n = sym (simp (← e, n))
 
-    pub call-is : (u : Bool) → t ≡ true → u ≡ isName c → u ≡ isNode C b c
+    pub call-is : (u : Bool) → t ≡ true → u ≡ isCallees c → u ≡ isNode C b c
     unfolding isNode _and_
     call-is u y d = d ∙ sym (simp (← e, y))
 
@@ -91,4 +131,4 @@ module _ (a b c : Bytes) (t : Bool) (e : t ≡ same a (69 ∷ [])) where
 
 pub ruleset kinds = (if-so, if-not, kind-entry, kind-step, kind-call, kind-exit, kind-none)
 
-pub ruleset all = (suits, kinds)
+pub ruleset all = (callees, suits, kinds)

@@ -6,13 +6,13 @@ use mathlib.Core.List.{List, [], _∷_}
 use Prim.Native.Nat.{ℕ, _+_, _≤_, _<_, min}
 use native.Mathlib.Omega.{arith}
 use lib.ListN.{length, take, drop}
-use Rattle.laws.specs.Tests.{_and_, after, choose}
+use Rattle.laws.specs.Tests.{_and_, after, choose, isnt}
 use Rattle.laws.specs.TestLaws.{and-not, and-right, both-ways}
 use Rattle.rules.specs.Text.{Bytes, isName, isNumber, isWord, joinBy, same, split, valueFrom}
 use Rattle.rules.specs.Graph.{Kind, E, S, C, X, kindNumber}
 use Rattle.rules.specs.ProgramFile.{Line, proc-line, node-line, edge-line, malformed, kindOf, isNode, isEdge, formOf}
 use Rattle.rules.specs.Proofs.ProgramLaws.{Formed, formed}
-use Rattle.rules.specs.Proofs.TextLaws.{empty-true, join-split, name-free, same-of, split-free}
+use Rattle.rules.specs.Proofs.TextLaws.{callees-free, empty-true, join-split, name-free, other, same-of, split-free}
 use Rattle.text.specs.NumberLaws.{a-number, no-number, number-whole}
 use Rattle.text.specs.Scans.{span}
 use Rattle.text.specs.SplitLaws.{first-last, first-more, letter, pieces}
@@ -70,12 +70,12 @@ kind-small S = omega arith
 kind-small C = omega arith
 kind-small X = omega arith
 
--- The callee of a node has no comma.
+-- The callee field of a node has no comma.
 callee-free : (k : Kind) (b c : Bytes) → isNode k b c ≡ true → split 44 c ≡ c ∷ []
-unfolding isNode split
+unfolding isNode split other isnt
 callee-free E b c y = rw (empty-true c (and-right _ _ y)) refl
 callee-free S b c y = rw (empty-true c (and-right _ _ y)) refl
-callee-free C b c y = split-free 44 c (name-free 44 c (omega arith) (and-right _ _ y))
+callee-free C b c y = split-free 44 c (callees-free 44 c (omega arith) refl (and-right _ _ y))
 callee-free X b c y = rw (empty-true c (and-right _ _ y)) refl
 
 module _ (s a : Bytes) (ea : a ≡ take (span 44 s) s) where

@@ -17,7 +17,7 @@ use Rattle.lines.specs.Stands.{Stands}
 
 pub record Known (text : Bytes) (s : Listing) : Type 0 where
   pub sound : Sound (s .program)
-  -- each name, label and callee stands in the text
+  -- each name, label and callee field stands in the text
   pub names : (q : ℕ) → q < procCount (s .program) → Part text (getD (s .places .nameStarts) q 0) (nameAt (s .program) q)
   pub labels : (n : ℕ) → n < nodeCount (s .program) → Part text (getD (s .places .labelStarts) n 0) (labelAt (s .program) n)
   pub callees : (n : ℕ) → n < nodeCount (s .program)

@@ -1,3 +1,4 @@
+pub mod Callees
 pub mod Kinds
 pub mod Forms
 pub mod Stands

@@ -1,8 +1,10 @@
 // What the fields of an N line say: `N,kind,label,callee`. Every function takes any bytes.
 ghost use mathlib.Core.Path.{_≡_};
 ghost use Rattle.laws.specs.Tests.{choose};
+ghost use Rattle.rules.specs.Text.{isCallees, namesIn};
 ghost use Rattle.rules.specs.Graph.{E, S, C};
 ghost use Rattle.rules.specs.ProgramFile.{isNode};
+ghost use Rattle.lines.specs.Callees.{namesUpTo};
 ghost use Rattle.lines.specs.Kinds.{nodeKind};
 
 // Whether label and callee are those of an E or X: both empty.
@@ -25,12 +27,36 @@ fn is_step(label: &[u8], callee: &[u8]) -> bool
     false
 }
 
-// Whether label and callee are those of a C: the callee is a name.
+// Whether the bytes are at most `most` names joined by `+`.
+fn names_up_to(field: &[u8], most: usize) -> bool
+    ensures { λ r. ⌜ r ≡ namesUpTo most (namesIn (now (field .entry))) ⌝ }
+{
+    if most == 0 {
+        return false;
+    }
+    let name = text::first_short(field, 43);
+    if field.len() <= name.len() {
+        return text::is_name(field);
+    }
+    if text::is_name(name) {
+        return names_up_to(text::after(field, name.len() + 1), most - 1);
+    }
+    false
+}
+
+// Whether the bytes are a callee field.
+fn is_callees(field: &[u8]) -> bool
+    ensures { λ r. ⌜ r ≡ isCallees (now (field .entry)) ⌝ }
+{
+    names_up_to(field, 4)
+}
+
+// Whether label and callee are those of a C: the callee is 1 to 4 names joined by `+`.
 fn is_call(label: &[u8], callee: &[u8]) -> bool
     ensures { λ r. ⌜ r ≡ isNode C (now (label .entry)) (now (callee .entry)) ⌝ }
 {
     if text::is_label(label) {
-        return text::is_name(callee);
+        return is_callees(callee);
     }
     false
 }

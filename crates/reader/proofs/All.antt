@@ -6,6 +6,7 @@ use Rattle.reader.proofs.Completeness.{kinds, fines, all-fines, fine-ye
 use Rattle.reader.proofs.Steps.{proc-lines, node-lines, links-lines, edge-lines}
 use Rattle.reader.proofs.Forms.{splits}
 use Rattle.reader.proofs.Turns.{turns}
+use Rattle.reader.proofs.Callees.{callees}
 use Rattle.reader.proofs.Ends.{resolves, resolve-turns, finishes, intos}
 
-pub ruleset all = (parts, sets-four, leaves, kinds, fines, all-fines, fine-yes, fine-no, completes, proc-lines, node-lines, links-lines, edge-lines, splits, turns, resolves, resolve-turns, finishes, intos)
+pub ruleset all = (parts, sets-four, leaves, kinds, fines, all-fines, fine-yes, fine-no, completes, proc-lines, node-lines, links-lines, edge-lines, splits, turns, callees, resolves, resolve-turns, finishes, intos)

@@ -2,31 +2,31 @@
 use mathlib.Core.Path.{_≡_, refl, sym, ap, _∙_, subst}
 use mathlib.Core.Logic.{⊎-elim}
 use mathlib.Core.Bool.{Bool, true, false}
-use mathlib.Core.Option.{Option, none, some}
+use mathlib.Core.Option.{Option}
 use mathlib.Core.List.{List, [], _∷_}
 use Prim.Native.Nat.{ℕ, zero, suc, _+_, _-_, _*_, _/_, _%_, _≤_, _<_}
 use native.Mathlib.Omega.{arith}
 use lib.ListN.{length, getD, take, drop, set}
 use lib.Seq.{drop-drop, getD-set-same, getD-set-other}
 use borrow.Author.Tests.{lt-ltb, le-ltb}
-use Rattle.laws.specs.Tests.{_and_, isnt, any, first, found, after}
-use Rattle.laws.specs.TestLaws.{and-left, and-right, and-both, fails, both-ways, below-suc, true-isnt, false-isnt, isnt-true, any-of, any-at, first-at, first-none, first-skip, first-least}
+use Rattle.laws.specs.Tests.{isnt, first, after}
+use Rattle.laws.specs.TestLaws.{below-suc, true-isnt, false-isnt, first-skip, first-least}
 use Rattle.laws.specs.Slices.{drop-sets-after, same-or}
-use Rattle.rules.specs.Text.{Bytes, same, isName, maxBytes, Reading, refused, accepted, readText}
-use Rattle.rules.specs.Graph.{Kind, E, S, C, X, Program, nameAt, kindAt, labelAt, calleeAt, procCount, nodeCount, kindNumber, sameKind, orZero, entry, exit, procOf, called}
-use Rattle.rules.specs.ProgramFile.{Listing, current, begun, isNode, named, lost, complete, finishProgram, readListing}
-use Rattle.rules.specs.Proofs.TextLaws.{same-true, empty-true, name-sized, unless-passes, unless-refuses}
-use Rattle.rules.specs.Proofs.GraphLaws.{sameKind-of, sameKind-true}
+use Rattle.rules.specs.Text.{Bytes, namesIn, isCallees, maxBytes, Reading, refused, accepted, readText}
+use Rattle.rules.specs.Graph.{nameAt, kindAt, labelAt, calleeAt, procCount, nodeCount, kindNumber, entry, exit}
+use Rattle.rules.specs.ProgramFile.{Listing, current, begun, lost, complete, finishProgram, readListing}
+use Rattle.rules.specs.Proofs.TextLaws.{unless-passes, unless-refuses}
 use Rattle.rules.specs.Proofs.ProgramLaws.{Complete, complete-says}
 use Rattle.rules.specs.Proofs.Places.{part-is}
-use Rattle.graph.specs.Table.{At, firstNode, firstEdge, nodeRow, procRow, edgeRow}
-use Rattle.graph.specs.Lookups.{in-table, Procs, ProcNamed}
+use Rattle.graph.specs.Table.{At, firstNode, firstEdge, nodeRow, procRow, edgeRow, procDigit, calleesFrom}
+use Rattle.graph.specs.Lookups.{in-table, Procs}
+use Rattle.lines.specs.Callees.{callees-few, callees-short}
 use Rattle.lines.specs.Known.{Known}
 use Rattle.reader.specs.declared.Count.{Count}
 use Rattle.reader.specs.Result.{linksOf, Small, InTable, Told, ReadInto}
-use Rattle.reader.specs.Reading.{Holds, Completes, ofCurrent, wholeText, LinesRead, Partly, ResolvedNode, ResolvedTo, Resolved, calleeBytes, Finished, Refusal, counts}
-use Rattle.reader.proofs.Completeness.{procs-of, some-procs, number-kind, current-row}
-use Rattle.reader.proofs.Steps.{found-none}
+use Rattle.reader.specs.Reading.{Holds, Completes, ofCurrent, wholeText, LinesRead, Partly, ResolvedNode, ResolvedTo, Resolved, calleeBytes, CalleesIn, NumberOf, Finished, Refusal, counts}
+use Rattle.reader.proofs.Completeness.{procs-of, some-procs, current-row}
+use Rattle.reader.proofs.Callees.{positive, calls-nothing, not-lost, is-callees, call-lost, call-known}
 
 -- ---- `callee_of`
 
@@ -39,81 +39,10 @@ unfolding calleeBytes
 callee-is text start len size =
     ap (λ (l : Bytes). take size (drop 1 l)) (drop-drop len start text) ∙ ap (take size) (drop-drop 1 (start + len) text)
 
--- ---- a node's callee
-
-or-some : (i : ℕ) → orZero (some i) ≡ i
-unfolding orZero
-or-some i = refl
-
 one-less : (q i : ℕ) → q ≡ suc i → q - 1 ≡ i
 one-less q i e = omega arith
 
--- Only a C has one.
-no-callee : (k : Kind) (label callee : Bytes) → isNode k label callee ≡ true → (kindNumber k ≡ 2 → ⊥) → callee ≡ []
-unfolding isNode
-no-callee E label callee h z = empty-true _ (and-right _ _ h)
-no-callee S label callee h z = empty-true _ (and-right _ _ h)
-no-callee C label callee h z = absurd (z refl)
-no-callee X label callee h z = empty-true _ (and-right _ _ h)
-
-call-callee : (k : Kind) (label callee : Bytes) → isNode k label callee ≡ true → k ≡ C → isName callee ≡ true
-unfolding isNode
-call-callee k label callee h e = and-right _ _ (subst (λ (t : Kind). isNode t label callee ≡ true) e h)
-
-c-number : (k : Kind) → k ≡ C → kindNumber k ≡ 2
-c-number k e = ap kindNumber e
-
-module _ (text : Bytes) (s : Listing) (k : Known text s) (n : ℕ) (l : n < nodeCount (s .program)) where
-  abbrev p : Program
-  p = s .program
-
-  form : isNode (kindAt p n) (labelAt p n) (calleeAt p n) ≡ true
-  form = k .sound .nodeForms n l
-
-  -- A node that calls nothing.
-  called-none : (kindNumber (kindAt p n) ≡ 2 → ⊥) → 0 ≡ called p n
-  unfolding called procOf orZero
-  called-none z =
-      let e = no-callee (kindAt p n) (labelAt p n) (calleeAt p n) form z in
-      ap orZero (sym (none-is (first (procCount p) (λ q. same (nameAt p q) (calleeAt p n))) refl (subst (λ (c : Bytes). (q : ℕ) → q < procCount p → same (nameAt p q) c ≡ true → ⊥) (sym e) nameless)))
-    where
-      nameless : (q : ℕ) → q < procCount p → same (nameAt p q) [] ≡ true → ⊥
-      nameless q h t =
-          let a = name-sized (nameAt p q) (k .sound .nameForms q h) in
-          let b : length (nameAt p q) ≡ 0 = ap length (same-true (nameAt p q) [] t) in
-          let y : ⊥ = omega (arith, a .0) in y
-
-      none-is : (o : Option ℕ) → first (procCount p) (λ q. same (nameAt p q) (calleeAt p n)) ≡ o → ((q : ℕ) → q < procCount p → same (nameAt p q) (calleeAt p n) ≡ true → ⊥) → o ≡ none
-      none-is none e h = refl
-      none-is (some q) e h = let f = first-at (λ q. same (nameAt p q) (calleeAt p n)) (procCount p) q e in absurd (h q (f .0) (f .1))
-
-  not-lost : (kindNumber (kindAt p n) ≡ 2 → ⊥) → lost p n ≡ false
-  unfolding lost
-  not-lost z = fails _ (λ t. z (c-number (kindAt p n) (sameKind-true _ _ (and-left _ _ t))))
-
-  module _ (e : kindNumber (kindAt p n) ≡ 2) (q : ℕ) (eq : q ≡ found (first (procCount p) (λ q. same (nameAt p q) (calleeAt p n)))) where
-    is-c : kindAt p n ≡ C
-    is-c = number-kind (kindAt p n) .1 e
-
-    called-lost : q ≡ 0 → lost p n ≡ true
-    unfolding lost named
-    called-lost z =
-        let o = found-none _ (let y : found (first (procCount p) (λ q. same (nameAt p q) (calleeAt p n))) ≤ 0 = omega (arith, eq) in y) in
-        and-both (sameKind-of is-c) (true-isnt (fails _ (λ t.
-        let u = any-at (λ q. same (nameAt p q) (calleeAt p n)) (procCount p) t in first-none (λ q. same (nameAt p q) (calleeAt p n)) (procCount p) o (u .0) (u .1) (u .2))))
-
-    called-known : (q ≡ 0 → ⊥) → (lost p n ≡ false) × (q - 1 ≡ called p n)
-    unfolding lost named called procOf
-    called-known z = go (first (procCount p) (λ q. same (nameAt p q) (calleeAt p n))) refl eq
-      where
-        go : (o : Option ℕ) → first (procCount p) (λ q. same (nameAt p q) (calleeAt p n)) ≡ o → q ≡ found o
-            → ((sameKind (kindAt p n) C and isnt (any (procCount p) (λ q. same (nameAt p q) (calleeAt p n)))) ≡ false) × (q - 1 ≡ orZero (first (procCount p) (λ q. same (nameAt p q) (calleeAt p n))))
-        go none f g = absurd (z g)
-        go (some i) f g =
-            let u = first-at (λ q. same (nameAt p q) (calleeAt p n)) (procCount p) i f in
-            (fails _ (λ t. both-ways (any-of (λ q. same (nameAt p q) (calleeAt p n)) (procCount p) i (u .0) (u .1)) (isnt-true _ (and-right _ _ t))), one-less q i g ∙ sym (ap orZero f ∙ or-some i))
-
--- ---- the row of a node, with its callee
+-- ---- the row of a node, with its callees
 
 four-at : (w : List ℕ) (i a b c d : ℕ) → getD w i 0 ≡ a → getD w (i + 1) 0 ≡ b → getD w (i + 2) 0 ≡ c → getD w (i + 3) 0 ≡ d → At (in-table w) i (a ∷ b ∷ c ∷ d ∷ [])
 four-at w i a b c d p q r s zero h = ap (λ (m : ℕ). getD w m 0) (let z : i + 0 ≡ i = omega arith in z) ∙ p
@@ -133,11 +62,11 @@ module _ (text : Bytes) (s : Listing) (k : Known text s) (w₀ w : List ℕ) (n 
   row-label : getD w (4 * n + 2) 0 ≡ length (labelAt (s .program) n)
   row-label = h .todo n l (omega arith) 2 (omega arith)
 
-  row-last : getD w (4 * n + 3) 0 ≡ getD (s .places .nodeLines) n 0 * 16 + length (calleeAt (s .program) n)
+  row-last : getD w (4 * n + 3) 0 ≡ getD (s .places .nodeLines) n 0 * 64 + length (calleeAt (s .program) n)
   row-last = h .todo n l (omega arith) 3 (omega arith)
 
-  -- Its callee stored.
-  partly-next : (w′ : List ℕ) (v : ℕ) → 8128 ≤ length w → w′ ≡ set w (4 * n + 3) v → v ≡ called (s .program) n → lost (s .program) n ≡ false → Partly w₀ w′ s (n + 1)
+  -- Its callees stored.
+  partly-next : (w′ : List ℕ) (v : ℕ) → 8128 ≤ length w → w′ ≡ set w (4 * n + 3) v → v ≡ calleesFrom (s .program) n 0 → lost (s .program) n ≡ false → Partly w₀ w′ s (n + 1)
   partly-next w′ v room e ev u =
       subst (λ (x : List ℕ). Partly w₀ x s (n + 1)) (sym e)
       (record {
@@ -160,46 +89,49 @@ module _ (text w : List ℕ) (procs n kind : ℕ) (ek : kind ≡ getD w (4 * n) 
   unfolding ResolvedNode
   resolve-other w′ room z e s c w₀ k hs ep l h =
       let no-c : kindNumber (kindAt (s .program) n) ≡ 2 → ⊥ = λ q. z (ek ∙ row-kind text s k w₀ w n l h few ∙ q) in
-      (λ y. partly-next text s k w₀ w n l h few w′ 0 room e (called-none text s k n l no-c) (not-lost text s k n l no-c), λ y. absurd (y refl))
+      (λ y. partly-next text s k w₀ w n l h few w′ 0 room e (calls-nothing text s k n l no-c) (not-lost text s k n l no-c), λ y. absurd (y refl))
 
   module _ (is-call : kind ≡ 2) (start len last : ℕ) (es : start ≡ getD w (4 * n + 1) 0) (el : len ≡ getD w (4 * n + 2) 0) (et : last ≡ getD w (4 * n + 3) 0)
-      (b : Bytes) (eb : b ≡ calleeBytes text start len (last % 16)) (ls : List ℕ) (els : ls ≡ linksOf w) (q : ℕ) (pn : ProcNamed text ls procs b q) where
+      (b : Bytes) (eb : b ≡ calleeBytes text start len (last % 64)) (ls : List ℕ) (els : ls ≡ linksOf w) (q : ℕ) (ci : CalleesIn text ls procs b 4 q) where
     module _ (s : Listing) (c : Count) (w₀ : List ℕ) (k : Known text s) (hs : Holds w₀ c s) (ep : procs ≡ procCount (s .program)) (l : n < nodeCount (s .program)) (h : Partly w₀ w s n) where
       is-two : kindNumber (kindAt (s .program) n) ≡ 2
       is-two = sym (row-kind text s k w₀ w n l h few) ∙ sym ek ∙ is-call
 
-      short : length (calleeAt (s .program) n) ≤ 12
-      short = name-sized _ (call-callee (kindAt (s .program) n) (labelAt (s .program) n) (calleeAt (s .program) n) (k .sound .nodeForms n l) (number-kind _ .1 is-two)) .1
+      field : isCallees (calleeAt (s .program) n) ≡ true
+      field = is-callees text s k n l is-two
 
-      last-is : last ≡ getD (s .places .nodeLines) n 0 * 16 + length (calleeAt (s .program) n)
+      short : length (calleeAt (s .program) n) ≤ 51
+      short = callees-short (calleeAt (s .program) n) field
+
+      last-is : last ≡ getD (s .places .nodeLines) n 0 * 64 + length (calleeAt (s .program) n)
       last-is = et ∙ row-last text s k w₀ w n l h few
 
       bytes-are : b ≡ calleeAt (s .program) n
       bytes-are =
-          let size : last % 16 ≡ length (calleeAt (s .program) n) = omega (arith, last-is, short) in
-          eb ∙ callee-is text start len (last % 16) ∙ ap (λ (m : ℕ). take m (drop (start + len + 1) text)) size
+          let size : last % 64 ≡ length (calleeAt (s .program) n) = omega (arith, last-is, short) in
+          eb ∙ callee-is text start len (last % 64) ∙ ap (λ (m : ℕ). take m (drop (start + len + 1) text)) size
           ∙ ap (λ (m : ℕ). take (length (calleeAt (s .program) n)) (drop m text))
           (let z : start + len + 1 ≡ getD (s .places .labelStarts) n 0 + length (labelAt (s .program) n) + 1 = omega (arith, es, el, row-start text s k w₀ w n l h few, row-label text s k w₀ w n l h few) in z)
           ∙ part-is text _ (calleeAt (s .program) n) (k .callees n l)
 
-      q-is : q ≡ found (first (procCount (s .program)) (λ q. same (nameAt (s .program) q) (calleeAt (s .program) n)))
-      unfolding ProcNamed
-      q-is =
-          pn s (subst (λ (x : List ℕ). Procs text (in-table x) s) (sym (els ∙ h .same-links)) (procs-of text w₀ c s k hs)) ep
-          ∙ ap (λ (x : Bytes). found (first (procCount (s .program)) (λ q. same (nameAt (s .program) q) x))) bytes-are
+      number-is : NumberOf (procDigit (s .program)) (namesIn (calleeAt (s .program) n)) q
+      unfolding CalleesIn
+      number-is =
+          subst (λ (x : Bytes). CalleesIn text ls procs x 4 q) bytes-are ci
+          s (subst (λ (x : List ℕ). Procs text (in-table x) s) (sym (els ∙ h .same-links)) (procs-of text w₀ c s k hs)) ep (k .sound .fewProcs) (callees-few (calleeAt (s .program) n) field)
 
-    pub resolve-lost : q ≡ 0 → ResolvedNode text w procs n (last / 16 + 1) w
+    pub resolve-lost : q ≡ 0 → ResolvedNode text w procs n (last / 64 + 1) w
     unfolding ResolvedNode
     resolve-lost z s c w₀ k hs ep l h = (
       λ y. absurd (let x : ⊥ = omega arith in x),
-      λ y. (called-lost text s k n l (is-two s c w₀ k hs ep l h) q (q-is s c w₀ k hs ep l h) z, let x : last / 16 + 1 ≡ suc (getD (s .places .nodeLines) n 0) = omega (arith, last-is s c w₀ k hs ep l h, short s c w₀ k hs ep l h) in x),
+      λ y. (call-lost text s k n l (is-two s c w₀ k hs ep l h) q (number-is s c w₀ k hs ep l h) z, let x : last / 64 + 1 ≡ suc (getD (s .places .nodeLines) n 0) = omega (arith, last-is s c w₀ k hs ep l h, short s c w₀ k hs ep l h) in x),
     )
 
-    pub resolve-known : (w′ : List ℕ) → 8128 ≤ length w → (q ≡ 0 → ⊥) → w′ ≡ set w (4 * n + 3) (q - 1) → ResolvedNode text w procs n 0 w′
+    pub resolve-known : (w′ : List ℕ) → 8128 ≤ length w → (q ≡ 0 → ⊥) → w′ ≡ set w (4 * n + 3) q → ResolvedNode text w procs n 0 w′
     unfolding ResolvedNode
     resolve-known w′ room z e s c w₀ k hs ep l h =
-        let a = called-known text s k n l (is-two s c w₀ k hs ep l h) q (q-is s c w₀ k hs ep l h) z in
-        (λ y. partly-next text s k w₀ w n l h few w′ (q - 1) room e (a .1) (a .0), λ y. absurd (y refl))
+        let a = call-known text s k n l (is-two s c w₀ k hs ep l h) q (number-is s c w₀ k hs ep l h) z in
+        (λ y. partly-next text s k w₀ w n l h few w′ q room e (a .1) (a .0), λ y. absurd (y refl))
 
 pub ruleset resolves = (callee-part, resolve-other, resolve-lost, resolve-known)
 
@@ -337,10 +269,6 @@ into-long text w r h a = record { told = told-refused _ 1 0 r w (unless-refuses 
 read-whole : (text : List ℕ) → length text ≤ 65536 → readListing text ≡ wholeText text
 unfolding readListing readText wholeText
 read-whole text h = unless-passes _ _ _ _ (le-ltb maxBytes (length text) h)
-
-positive : (n : ℕ) → (n ≡ 0 → ⊥) → 0 < n
-positive zero h = absurd (h refl)
-positive (suc n) h = omega arith
 
 pub into-stop : (text w : List ℕ) (r : Count) → length text ≤ 65536 → LinesRead text r w → (r .number ≡ 0 → ⊥) → ReadInto text r w
 into-stop text w r h l z =

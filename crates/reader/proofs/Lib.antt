@@ -5,5 +5,6 @@ pub mod Completeness
 pub mod Steps
 pub mod Forms
 pub mod Turns
+pub mod Callees
 pub mod Ends
 pub mod All

@@ -42,6 +42,9 @@ pub found-none : (o : Option ℕ) → found o ≤ 0 → o ≡ none
 found-none none h = refl
 found-none (some i) h = absurd (let z : ⊥ = omega arith in z)
 
+pub none-any : (f : ℕ → Bool) (n : ℕ) → first n f ≡ none → any n f ≡ false
+none-any f n e = fails _ (λ t. let u = any-at f n t in first-none f n e (u .0) (u .1) (u .2))
+
 -- ---- counts that stay within their limits
 
 small-proc : (c : Count) → Small c → c .procs < 64 → Small (counts (c .procs + 1) (c .nodes) (c .edges))
@@ -91,7 +94,7 @@ module _ (text w : List ℕ) (n at : ℕ) (name : Bytes) (c : Count) where
           opened = λ s k h.
               let o = found-none _ (subst (λ (m : ℕ). m ≤ 0) (named-is s k h) z) in
               let fresh : any (procCount (s .program)) (λ q. same (nameAt (s .program) q) name) ≡ false
-              = fails _ (λ t. let y = any-at (λ q. same (nameAt (s .program) q) name) (procCount (s .program)) t in first-none (λ q. same (nameAt (s .program) q) name) (procCount (s .program)) o (y .0) (y .1) (y .2)) in
+              = none-any (λ q. same (nameAt (s .program) q) name) (procCount (s .program)) o in
               after-same _ _ _ _ (unless-passes _ _ _ _ (room-procs s h) ∙ unless-passes _ _ _ _ fresh) (
                 refl,
                 subst (λ (v : List ℕ). Holds v (counts (c .procs + 1) (c .nodes) (c .edges)) (withProc n at name s)) (sym ew) (push-proc text w c s k h room few name n at),
@@ -185,7 +188,7 @@ module _ (w : List ℕ) (n at kind : ℕ) (label callee : Bytes) (c : Count) whe
             small = a .small;
           }
 
-      pub node-new : (r : Count) (w′ : List ℕ) → Small c → c .nodes < 512 → 8128 ≤ length w → w′ ≡ storedNode w (c .procs - 1) (c .nodes) kind (at + 4) (length label) (n * 16 + length callee)
+      pub node-new : (r : Count) (w′ : List ℕ) → Small c → c .nodes < 512 → 8128 ≤ length w → w′ ≡ storedNode w (c .procs - 1) (c .nodes) kind (at + 4) (length label) (n * 64 + length callee)
           → r ≡ counts (c .procs) (c .nodes + 1) (c .edges) → AddedNode n at kind label callee c w r w′
       unfolding Stepped takeLine
       node-new r w′ sm few room ew er =
@@ -194,7 +197,7 @@ module _ (w : List ℕ) (n at kind : ℕ) (label callee : Bytes) (c : Count) whe
                 after-same _ _ _ _ (unless-passes _ _ _ _ (in-place text s ks h) ∙ unless-passes _ _ _ _ (lt-leb 512 (nodeCount (s .program)) (omega (arith, h .nodes-n)))) (
                   refl,
                   subst (λ (v : List ℕ). Holds v (counts (c .procs) (c .nodes + 1) (c .edges)) (withNode n at k label callee s))
-                      (sym (ew ∙ ap (λ (m : ℕ). storedNode w (c .procs - 1) (c .nodes) m (at + 4) (length label) (n * 16 + length callee)) e))
+                      (sym (ew ∙ ap (λ (m : ℕ). storedNode w (c .procs - 1) (c .nodes) m (at + 4) (length label) (n * 64 + length callee)) e))
                       (push-node text w c s ks h room (omega (arith, begun-of s h some-proc, h .procs-n)) few k label callee n at),
                 );
             small = small-node c sm few;
@@ -241,7 +244,7 @@ module _ (w : List ℕ) (n f start : ℕ) (word : Bytes) (t : ℕ) (c : Count) (
             let g = found-none _ (subst (λ (m : ℕ). m ≤ 0) (taken-is text s k h v m) z) in
             let fresh : any (edgeCount (s .program)) (leaves (s .program) (value from) word) ≡ false
             = ap (λ (i : ℕ). any (edgeCount (s .program)) (leaves (s .program) i word)) (sym ef)
-            ∙ fails _ (λ t. let u = any-at (leaves (s .program) f word) (edgeCount (s .program)) t in first-none (leaves (s .program) f word) (edgeCount (s .program)) g (u .0) (u .1) (u .2)) in
+            ∙ none-any (leaves (s .program) f word) (edgeCount (s .program)) g in
             after-same _ _ _ _ (unless-passes _ _ _ _ fresh) (
               refl,
               subst (λ (v : List ℕ). Holds v (counts (c .procs) (c .nodes) (c .edges + 1)) (withEdge at from word to s))

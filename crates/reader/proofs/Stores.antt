@@ -200,7 +200,7 @@ module _ (text w : List ℕ) (c : Count) (s : Listing) (k : Known text s) (h : H
   with-node = withNode n at kind label callee s
 
   node-row : List ℕ
-  node-row = kindNumber kind ∷ (at + 4) ∷ length label ∷ (n * 16 + length callee) ∷ []
+  node-row = kindNumber kind ∷ (at + 4) ∷ length label ∷ (n * 64 + length callee) ∷ []
 
   after-rows : List ℕ
   unfolding node-row
@@ -304,7 +304,7 @@ module _ (text w : List ℕ) (c : Count) (s : Listing) (k : Known text s) (h : H
       ∙ ap (λ (j : ℕ). getD m₀ (5568 + j) 0) e ∙ getD-set-same (linksOf w) (5568 + c .nodes) 0 0 (omega (arith, length-drop 2048 w))
       ∙ sym (latest-none (sourceAt (s .program)) i (edgeCount (s .program)) (λ j b (y : sourceAt (s .program) j ≡ i). let z : ⊥ = omega (arith, k .sound .sources j b) in z))
 
-  pub push-node : Holds (storedNode w (c .procs - 1) (c .nodes) (kindNumber kind) (at + 4) (length label) (n * 16 + length callee))
+  pub push-node : Holds (storedNode w (c .procs - 1) (c .nodes) (kindNumber kind) (at + 4) (length label) (n * 64 + length callee))
       (counts (c .procs) (c .nodes + 1) (c .edges)) (withNode n at kind label callee s)
   unfolding storedNode after-rows node-row with-node entry exit
   push-node =

@@ -7,24 +7,25 @@ use Prim.Native.Nat.{ℕ, suc, _+_, _-_, _*_, _≤_, _<_, min}
 use lib.Dec.{eqb, leb, ltb}
 use lib.ListN.{length, getD, take, drop, set}
 use lib.Seq.{sets}
+use Rattle.laws.specs.Digits.{number}
 use Rattle.laws.specs.Tests.{_and_, _⇒_, every, first, count, choose}
-use Rattle.rules.specs.Text.{Bytes, isWord, value, Reading, refused, accepted, unless, readLines, linesOf as linesOfText}
+use Rattle.rules.specs.Text.{Bytes, isWord, nameCount, namesIn, value, Reading, refused, accepted, unless, readLines, linesOf as linesOfText}
 use Rattle.rules.specs.Graph.{Program, Kind, E, X, kindAt, labelAt, calleeAt, sourceAt, nodeCount, edgeCount, procCount, kindNumber, isOf, entry, exit, worded, wordAt, ownerAt}
 use Rattle.rules.specs.ProgramFile.{Line, node-line, edge-line, Listing, current, complete, takeProc, takeLine, stepProgram, finishProgram, nothingRead, hasWord, withEdge, degreeFine, lost}
 use Rattle.rules.specs.Proofs.ProgramLaws.{Sound}
-use Rattle.graph.specs.Table.{At, nodeBase, procBase, edgeBase, headBase, procHead, edgeRow, headOf, nodeRow}
-use Rattle.graph.specs.Lookups.{in-table}
+use Rattle.graph.specs.Table.{At, nodeBase, procBase, edgeBase, headBase, procHead, edgeRow, headOf, nodeRow, procDigit}
+use Rattle.graph.specs.Lookups.{in-table, Procs}
 use Rattle.lines.specs.Known.{Known}
 use Rattle.reader.specs.declared.Count.{Count}
 use Rattle.reader.specs.Result.{linksOf, Small, Told}
 
 -- ---- what the work table holds of a listing that is being read
 
--- A node's row: until its callee is known, the fourth number is 16 times its line and the length of its callee.
+-- A node's row: until its callees are known, the fourth number is 64 times its line and the length of its callee field.
 abbrev pub readingRow : Listing → ℕ → List ℕ
 readingRow s n =
     kindNumber (kindAt (s .program) n) ∷ getD (s .places .labelStarts) n 0 ∷ length (labelAt (s .program) n)
-    ∷ (getD (s .places .nodeLines) n 0 * 16 + length (calleeAt (s .program) n)) ∷ []
+    ∷ (getD (s .places .nodeLines) n 0 * 64 + length (calleeAt (s .program) n)) ∷ []
 
 -- The tables hold the listing. An entry and an exit stand in a procedure's row where it has one of each.
 pub record InProgress (node link : ℕ → ℕ) (s : Listing) : Type 0 where
@@ -169,31 +170,41 @@ pub record LinesRead (text : Bytes) (r : Count) (w : List ℕ) : Type 0 where
 
 -- ---- callees (9), and the whole text
 
--- The callees of the nodes below i are known, and none of them is unknown; the rest is as it was in the work table w₀.
+-- The rows of the nodes below i have their callees, and none of these is unknown; the rest is as it was in the work table w₀.
 pub record Partly (w₀ w : List ℕ) (s : Listing) (i : ℕ) : Type 0 where
   pub same-links : linksOf w ≡ linksOf w₀
   pub done : (n : ℕ) → n < nodeCount (s .program) → n < i → At (in-table w) (nodeBase n) (nodeRow s n)
   pub todo : (n : ℕ) → n < nodeCount (s .program) → i ≤ n → At (in-table w) (nodeBase n) (readingRow s n)
   pub none-lost : first i (lost (s .program)) ≡ none
 
--- `resolve_node`: 0 where the callee of the node n is known, else 1 + its line, and then nothing is said of the work table.
+-- `callees_in`: of these names the number whose digits are theirs, or 0 where one of their digits is 0.
+pub record NumberOf (digit : Bytes → ℕ) (names : List Bytes) (r : ℕ) : Type 0 where
+  pub unknown : r ≡ 0 → (i : ℕ) × (i < length names) × (digit (getD names i []) ≡ 0)
+  pub known : (r ≡ 0 → ⊥) → (r ≡ number 256 digit names) × ((i : ℕ) → i < length names → 0 < digit (getD names i []))
+
+unfoldable pub CalleesIn : Bytes → List ℕ → ℕ → Bytes → ℕ → ℕ → Type 0
+CalleesIn text links procs field most r =
+    (s : Listing) → Procs text (in-table links) s → procs ≡ procCount (s .program) → procCount (s .program) ≤ 64 → nameCount field ≤ most
+    → NumberOf (procDigit (s .program)) (namesIn field) r
+
+-- `resolve_node`: 0 where every callee of the node n is known, else 1 + its line, and then nothing is said of the work table.
 unfoldable pub ResolvedNode : Bytes → List ℕ → ℕ → ℕ → ℕ → List ℕ → Type 0
 ResolvedNode text w procs n r w′ =
     (s : Listing) (c : Count) (w₀ : List ℕ) → Known text s → Holds w₀ c s → procs ≡ procCount (s .program) → n < nodeCount (s .program) → Partly w₀ w s n
     → (r ≡ 0 → Partly w₀ w′ s (n + 1)) × ((r ≡ 0 → ⊥) → (lost (s .program) n ≡ true) × (r ≡ suc (getD (s .places .nodeLines) n 0)))
 
--- The callees of the nodes below n are known.
+-- The same of every node below n.
 unfoldable pub ResolvedTo : Bytes → List ℕ → ℕ → ℕ → ℕ → List ℕ → Type 0
 ResolvedTo text w₀ procs nodes n w = (s : Listing) (c : Count) → Known text s → Holds w₀ c s → procs ≡ procCount (s .program) → nodes ≡ nodeCount (s .program) → Partly w₀ w s n
 
--- `resolve`: 0 where all callees are known, else 1 + the line of the first that is not, and then nothing is said of the work table.
+-- `resolve`: 0 where all callees are known, else 1 + the line of the first node with an unknown one, and then nothing is said of the work table.
 unfoldable pub Resolved : Bytes → List ℕ → ℕ → ℕ → ℕ → List ℕ → Type 0
 Resolved text w₀ procs nodes r w =
     (s : Listing) (c : Count) → Known text s → Holds w₀ c s → procs ≡ procCount (s .program) → nodes ≡ nodeCount (s .program)
     → (r ≡ 0 → Partly w₀ w s (nodeCount (s .program)))
     × ((r ≡ 0 → ⊥) → (m : ℕ) × (first (nodeCount (s .program)) (lost (s .program)) ≡ some m) × (r ≡ suc (getD (s .places .nodeLines) m 0)))
 
--- `callee_of`: the field behind a label.
+-- `callee_of`: the callee field, behind a label.
 unfoldable pub calleeBytes : Bytes → ℕ → ℕ → ℕ → Bytes
 calleeBytes text start len size = take size (drop 1 (drop len (drop start text)))
 

@@ -16,6 +16,7 @@ ghost use Rattle.reader.specs.Reading.{
   AddedEdge,
   AddedNode,
   AllFine,
+  CalleesIn,
   Completes,
   Finished,
   LinesRead,
@@ -342,7 +343,7 @@ fn proc_line(
     refused(2, line)
 }
 
-// An N line of this kind's number, label and callee. After a refusal the work table may hold anything.
+// An N line of this kind's number, label and callee field. After a refusal the work table may hold anything.
 fn add_node(
     line: usize,
     at: usize,
@@ -376,12 +377,12 @@ fn add_node(
         kind,
         at + 4,
         label.len(),
-        line * 16 + callee.len(),
+        line * 64 + callee.len(),
     );
     counted(procs, nodes + 1, edges)
 }
 
-// An N line, by what stands behind its first comma: kind, label, and the callee, which has no comma, so that it is all the rest. After a
+// An N line, by what stands behind its first comma: kind, label, and the callee field, which has no comma, so that it is all the rest. After a
 // refusal the work table may hold anything.
 fn node_line(line: usize, at: usize, rest: &[u8], had: Count, work: &mut [usize]) -> Count
     requires { ⌜ Small had ⌝ }
@@ -554,7 +555,7 @@ fn read_lines(text: &[u8], work: &mut [usize]) -> Count
 
 // ---- callees, and the whole text
 
-// The callee of a node whose label stands at start and has len bytes: the next field, of so many bytes.
+// The callee field of a node whose label stands at start and has len bytes: the next field, of so many bytes.
 fn callee_of(text: &[u8], start: usize, len: usize, size: usize) -> &[u8]
     ensures { λ r. ⌜ now r ≡ calleeBytes (now (text .entry)) start len size ⌝ }
 {
@@ -564,7 +565,31 @@ fn callee_of(text: &[u8], start: usize, len: usize, size: usize) -> &[u8]
     front(callee, size)
 }
 
-// Puts the procedure that the node calls into its row; 1 + the node's line, where there is none of that name, and then the work table may hold
+// The procedures that a callee field names, of which there are at most `most`, as one number: for each a digit to the base 256, 1 + the
+// procedure, the first name's the lowest; 0 where a name is unknown.
+fn callees_in(text: &[u8], links: &[usize], procs: usize, field: &[u8], most: usize) -> usize
+    requires { ⌜ most ≤ 4 ⌝ }
+    ensures { λ r. ⌜ CalleesIn (now (text .entry)) (now (links .entry)) procs (now (field .entry)) most r ⌝ }
+{
+    if most == 0 {
+        return 0;
+    }
+    let name = text::first_short(field, 43);
+    if field.len() <= name.len() {
+        return graph::proc_named(text, links, procs, field);
+    }
+    let q = graph::proc_named(text, links, procs, name);
+    if q == 0 {
+        return 0;
+    }
+    let behind = callees_in(text, links, procs, after(field, name.len() + 1), most - 1);
+    if behind == 0 {
+        return 0;
+    }
+    behind % 16777216 * 256 + q % 256
+}
+
+// Puts the procedures that the node calls into its row; 1 + the node's line, where it names an unknown one, and then the work table may hold
 // anything.
 fn resolve_node(text: &[u8], work: &mut [usize], procs: usize, n: usize) -> usize
     requires { ⌜ (n < 512) × (8128 ≤ length (now work)) ⌝ }
@@ -578,16 +603,16 @@ fn resolve_node(text: &[u8], work: &mut [usize], procs: usize, n: usize) -> usiz
     let start = get(work, 4 * n + 1);
     let len = get(work, 4 * n + 2);
     let last = get(work, 4 * n + 3);
-    let callee = callee_of(text, start, len, last % 16);
-    let q = graph::proc_named(text, links(work), procs, callee);
-    if q == 0 {
-        return last / 16 + 1;
+    let field = callee_of(text, start, len, last % 64);
+    let callees = callees_in(text, links(work), procs, field, 4);
+    if callees == 0 {
+        return last / 64 + 1;
     }
-    put(work, 4 * n + 3, q - 1);
+    put(work, 4 * n + 3, callees);
     0
 }
 
-// The same of every node, up to the first whose callee is unknown.
+// The same of every node, up to the first with an unknown callee.
 fn resolve(text: &[u8], work: &mut [usize], procs: usize, nodes: usize) -> usize
     requires { ⌜ (nodes ≤ 512) × (8128 ≤ length (now work)) ⌝ }
     ensures { λ r. ⌜ Resolved (now (text .entry)) (now (work .entry)) procs nodes r (now (work .exit)) ⌝ }

@@ -1,6 +1,5 @@
 use borrow.Author.Needs.{needs}
 use Rattle.reader.proofs.All.{all}
-use Prim.Native.Nat.{_-_}
 use Rattle.reader.proofs.Ends.{resolves, resolve-lost}
 use Rattle.reader.proofs.resolve_node.Statement.{statement}
 use Rattle.reader.proofs.resolve_node.Tie as tie
@@ -59,8 +58,8 @@ callee-of-requires c κs = search needs
 links-requires : tie.Need-links-requires
 links-requires c κs = search needs
 
-proc-named-requires : tie.Need-proc-named-requires
-proc-named-requires c κs = search needs
+callees-in-requires : tie.Need-callees-in-requires
+callees-in-requires c κs = search needs
 
 add-result : tie.Need-add-result
 add-result c = search needs
@@ -69,16 +68,13 @@ same-length-2 : tie.Need-same-length-2
 same-length-2 c = search needs
 
 returns-2 : tie.Need-returns-2
-returns-2 c = resolve-lost _ _ _ _ _ (c .before .before .before .before .before .before .before .before .before .before .before .before .get .ensures) (search needs) (c .before .before .before .before .before .before .before .before .before .before .before .if1 .left) _ _ _ (c .before .before .before .before .before .before .before .before .before .get2 .ensures) (c .before .before .before .before .before .before .before .get3 .ensures) (c .before .before .before .before .before .get4 .ensures) _ (c .before .before .before .before .callee-of .ensures) _ (c .before .before .links .ensures) _ (c .before .proc-named .ensures) (c .if2 .taken)
+returns-2 c = resolve-lost _ _ _ _ _ (c .before .before .before .before .before .before .before .before .before .before .before .before .get .ensures) (search needs) (c .before .before .before .before .before .before .before .before .before .before .before .if1 .left) _ _ _ (c .before .before .before .before .before .before .before .before .before .get2 .ensures) (c .before .before .before .before .before .before .before .get3 .ensures) (c .before .before .before .before .before .get4 .ensures) _ (c .before .before .before .before .callee-of .ensures) _ (c .before .before .links .ensures) _ (c .before .callees-in .ensures) (c .if2 .taken)
 
 mul-put-2 : tie.Need-mul-put-2
 mul-put-2 c = search needs
 
 add-put-2 : tie.Need-add-put-2
 add-put-2 c = search needs
-
-sub-put : tie.Need-sub-put
-sub-put c = search needs
 
 put-requires-2 : tie.Need-put-requires-2
 put-requires-2 c κs = search needs
@@ -111,13 +107,12 @@ resolve-node-spec =
     get-requires-4
     callee-of-requires
     links-requires
-    proc-named-requires
+    callees-in-requires
     add-result
     same-length-2
     returns-2
     mul-put-2
     add-put-2
-    sub-put
     put-requires-2
     same-length-3
     returns-3)
