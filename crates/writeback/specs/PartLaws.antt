@@ -12,7 +12,7 @@ use Rattle.laws.specs.TestLaws.{and-both, and-left, and-right, every-at, every-
 use Rattle.laws.specs.Digits.{number}
 use Rattle.laws.specs.Lists.{choose-no, choose-yes}
 use Rattle.laws.specs.Slices.{below-or, same-or}
-use Rattle.rules.specs.Text.{Bytes, allBytes, between, isCallees, isLabel, isWord, joinBy, nameCount, nameIn, namesIn, wordByte}
+use Rattle.rules.specs.Text.{Bytes, allBytes, between, isCallees, isLabel, isWord, joinBy, nameCount, nameIn as nameOf, namesIn, wordByte}
 use Rattle.rules.specs.Graph.{C, E, Kind, S, X, calleeAt, calleeCount, calleeName, called, edgeCount, kindAt, kindNumber, labelAt, nameAt, nodeCount, procCount, sameKind, wordAt}
 use Rattle.rules.specs.ProgramFile.{Listing, isNode}
 use Rattle.rules.specs.WriteBack.{SameParts, calleeStart, labelStart, nameStart, otherAlone, wordStart}
@@ -128,8 +128,8 @@ module _ (t n l : List ℕ) (s : Listing) (h : InMemory (memory t n l) s) where
       -- The names of the callees from i on, which the number v has.
       names-long : kindAt (s .program) m ≡ C → (k i v : ℕ) → v ≡ calleesFrom (s .program) m i → calleeCount (s .program) m ≤ i + k
           → namesLong k l v ≡ long (drop i (namesIn (calleeAt (s .program) m)))
-      unfolding namesLong nameLong nameCount nameIn long
-      names-long e zero i v ev few = ap long (sym (drop-of-length-le (namesIn (calleeAt (s .program) m)) (omega arith)))
+      unfolding namesLong nameLong nameCount nameOf long
+      names-long e zero i v ev few = ap long (sym (drop-of-length-le (namesIn (calleeAt (s .program) m)) {i = i} (omega arith)))
       names-long e (suc k) i v ev few =
           below-or i (calleeCount (s .program) m)
           (λ c.

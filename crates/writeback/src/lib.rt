@@ -122,7 +122,7 @@ fn names_long(links: &[usize], callees: usize) -> usize
 {
     let mut rest = callees;
     let mut len = 0;
-    let mut i = 0;
+    let mut i = 0usize;
     while i < 4 {
         if rest == 0 {
             return len;

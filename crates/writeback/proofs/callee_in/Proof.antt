@@ -12,11 +12,11 @@ front-requires c κs = search needs
 returns : tie.Need-returns
 returns c = search (all, needs)
 
-callee-requires : tie.Need-callee-requires
-callee-requires c κs = search needs
+callees-requires : tie.Need-callees-requires
+callees-requires c κs = search needs
 
-proc-number-requires : tie.Need-proc-number-requires
-proc-number-requires c κs = search needs
+names-long-requires : tie.Need-names-long-requires
+names-long-requires c κs = search needs
 
 node-number-requires : tie.Need-node-number-requires
 node-number-requires c κs = search needs
@@ -30,11 +30,11 @@ node-number-requires-2 c κs = search needs
 after-requires-2 : tie.Need-after-requires-2
 after-requires-2 c κs = search needs
 
-part-requires : tie.Need-part-requires
-part-requires c κs = search needs
-
 front-requires-2 : tie.Need-front-requires-2
 front-requires-2 c κs = search needs
+
+after-requires-3 : tie.Need-after-requires-3
+after-requires-3 c κs = search needs
 
 returns-2 : tie.Need-returns-2
 returns-2 c = search (all, needs)
@@ -46,12 +46,12 @@ callee-in-spec =
     kind-requires
     front-requires
     returns
-    callee-requires
-    proc-number-requires
+    callees-requires
+    names-long-requires
     node-number-requires
     after-requires
     node-number-requires-2
     after-requires-2
-    part-requires
     front-requires-2
+    after-requires-3
     returns-2)
