@@ -101,9 +101,9 @@ fn enter_callees(
     while 0 < a {
         let q = versions::callee(a);
         let p = versions::callee(b);
-        let next = enter_callee(ol, nl, limit, w, count, q, p);
-        count = next.count;
-        if !next.settled {
+        let one = enter_callee(ol, nl, limit, w, count, q, p);
+        count = one.count;
+        if !one.settled {
             return Growth {
                 count,
                 settled: false,
