@@ -90,7 +90,8 @@ enum {
        many edges, or the edge of an entry or call has another word than `-`.
        Place: the procedure's P line. */
     RY_PROCEDURE_BROKEN = 8,
-    /* A call names no procedure. Place: the first such N line. */
+    /* A call names a procedure that is not there, alone or among others.
+       Place: the first such N line. */
     RY_UNKNOWN_CALLEE = 9,
     /* Length, digit or spare bit of a coverage row is wrong. Place: the line. */
     RY_ROW_WRONG = 10,
@@ -100,12 +101,14 @@ enum {
     /* The sheet's layout is right but a claim of it is false. Place: the first
        broken rule, 1 to 5:
          1 the entries of the two first procedures are listed;
-         2 listed pairs are alike: equal kinds, equal callees, and labels that
-           are equal after dropping blanks (byte 32) at both ends and taking
-           each inner run of them as one;
-         3 for a listed pair of calls the callee's entries are listed;
-         4 each old edge of a listed pair that may go on is listed under D, or
-           the new node has its word and the ends are listed;
+         2 listed pairs are alike: equal kinds, equal callee fields, and labels
+           that are equal after dropping blanks (byte 32) at both ends and
+           taking each inner run of them as one;
+         3 for a listed pair of calls the first callee's entries are listed, and
+           each later one's, if the exits of every callee before it are;
+         4 each old edge of a listed pair that may go on (a call only if the
+           exits of all its callees are listed) is listed under D, or the new
+           node has its word and the ends are listed;
          5 every test whose row holds a D edge is listed. */
     RY_CLAIM_FALSE = 12,
     /* The job is at another stage than the call is for. Place: 0. This and 14
@@ -160,9 +163,12 @@ struct ry_job {
 };
 
 /* A node: its kind (E 0, S 1, C 2, X 3), where its label stands in the text of
-   its version and how long it is, and the procedure that a C calls. */
+   its version and how long it is, and the procedures that a C calls, one to
+   four, as digits to the base 256: 1 + the number of the first is the lowest
+   (callees % 256), that of the second the next (callees / 256 % 256), and so
+   on; a digit 0 says that there are no more. */
 struct ry_node {
-    size_t kind, start, len, callee;
+    size_t kind, start, len, callees;
 };
 
 /* What ry_job_call can be asked for, and what it uses of its arguments. */

@@ -97,7 +97,7 @@ static inline const char *in_words(uint32_t number)
         return "the procedure has not one entry and one exit, or a node has too few or "
                "too many edges, or the edge of an entry or call has not the word -";
     case RY_UNKNOWN_CALLEE:
-        return "the call names no procedure";
+        return "the call names a procedure that is not there";
     case RY_ROW_WRONG:
         return "the coverage row has a wrong length, digit or spare bit";
     case RY_SHEET_WRONG:
@@ -126,7 +126,7 @@ static inline const char *claim_in_words(uint32_t rule)
     case 2:
         return "a listed pair is not alike";
     case 3:
-        return "a listed pair of calls lacks the entries of the procedure called";
+        return "a listed pair of calls lacks the entries of a procedure that comes to be called";
     case 4:
         return "an old edge is neither listed as dangerous nor led to a listed pair";
     case 5:
