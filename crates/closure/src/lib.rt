@@ -344,10 +344,10 @@ fn repeat(
 // The worst case. A pass visits each pair once, and a visit tries the edges of the old node, at most 8. A try compares the edge's word with
 // those of the new node, at most 8, and looks the pair of ends up by its bit; labels are compared only for ends that are no pair yet, and not
 // known to be alike by the groups. There is at most one pass more than old procedures; one pass is enough where no call waits for its exits. A
-// pass leaves out only what stands behind calls that wait, so one that adds a pair, after the first, does so from a call whose exits became a
-// pair in the pass before; the callees of a pair have one name, so there are at most as many such passes as old procedures. If there are as
-// many, the exits of every callee are a pair before the last of them, in which so no call waits, and no pass follows it. Otherwise one pass
-// more, which adds nothing, is the last. At the limits of the files that is at most 65 * 4,096 * 8 tries.
+// pass leaves out only what stands behind calls that wait, so one that adds a pair, after the first, does so from a call that waited for the
+// exits of a callee, which became a pair in the pass before; the callees of a pair have one name, so there are at most as many such passes as
+// old procedures. If there are as many, the exits of every callee are a pair before the last of them, in which so no call waits, and no pass
+// follows it. Otherwise one pass more, which adds nothing, is the last. At the limits of the files that is at most 65 * 4,096 * 8 tries.
 pub fn close(
     ot: &[u8],
     on: &[usize],

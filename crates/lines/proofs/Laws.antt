@@ -13,7 +13,7 @@ use Rattle.laws.specs.TestLaws.{and-ends}
 use Rattle.rules.specs.Text.{Bytes, same, split, empty, isName, isCallees, isLabel}
 use Rattle.rules.specs.Graph.{Kind, E, S, C, X, kindNumber}
 use Rattle.rules.specs.ProgramFile.{kindOf, isNode}
-use Rattle.rules.specs.Proofs.TextLaws.{split-cons}
+use Rattle.rules.specs.Proofs.TextLaws.{name-free, split-cons, split-free}
 use Rattle.text.specs.Scans.{span}
 use Rattle.text.specs.SplitLaws.{first-last, first-more}
 use Rattle.lines.specs.Callees.{namesUpTo, up-to-four}
@@ -32,10 +32,17 @@ unfolding namesUpTo
 names-cons zero p ps z = absurd (z refl)
 names-cons (suc n) p ps z = let e : n ≡ suc n - 1 = omega arith in ap (λ (k : ℕ). isName p and namesUpTo k ps) e
 
+-- One piece.
+names-one : (s : Bytes) (n : ℕ) (t : Bool) → (n ≡ 0 → ⊥) → split 43 s ≡ s ∷ [] → t ≡ isName s → t ≡ namesUpTo n (split 43 s)
+unfolding namesUpTo
+names-one s n t z e d = d ∙ sym (ap (namesUpTo n) e ∙ names-cons n s [] z ∙ and-ends (isName s))
+
+pub names-all : (s : Bytes) (n : ℕ) (t : Bool) → (n ≡ 0 → ⊥) → t ≡ isName s → t ≡ true → true ≡ namesUpTo n (split 43 s)
+names-all s n t z d y = sym y ∙ names-one s n t z (split-free 43 s (name-free 43 s (omega arith) (sym d ∙ y))) d
+
 module _ (s name : Bytes) (n : ℕ) (z : n ≡ 0 → ⊥) (e : name ≡ take (span 43 s) s) where
-  pub names-last : (t : Bool) → length s ≤ length name → t ≡ isName s → t ≡ namesUpTo n (split 43 s)
-  unfolding namesUpTo
-  names-last t h d = d ∙ sym (ap (namesUpTo n) (first-last 43 s name e h) ∙ names-cons n s [] z ∙ and-ends (isName s))
+  pub names-last : (t : Bool) → length s ≤ length name → t ≡ isName s → t ≡ false → false ≡ namesUpTo n (split 43 s)
+  names-last t h d y = sym y ∙ names-one s n t z (first-last 43 s name e h) d
 
   module _ (h : length name < length s) (t : Bool) (d : t ≡ isName name) where
     split-is : (rest : Bytes) → rest ≡ drop (length name + 1) s → namesUpTo n (split 43 s) ≡ (t and namesUpTo (n - 1) (split 43 rest))
@@ -52,7 +59,7 @@ module _ (s name : Bytes) (n : ℕ) (z : n ≡ 0 → ⊥) (e : name ≡ take (sp
 pub callees-are : (s : Bytes) (t : Bool) → t ≡ namesUpTo 4 (split 43 s) → t ≡ isCallees s
 callees-are s t e = e ∙ up-to-four s
 
-pub ruleset callees = (names-none, names-last, names-not, names-on, callees-are)
+pub ruleset callees = (names-none, names-all, names-last, names-not, names-on, callees-are)
 
 -- ---- `is_end`, `is_step`, `is_call`
 

@@ -27,16 +27,19 @@ fn is_step(label: &[u8], callee: &[u8]) -> bool
     false
 }
 
-// Whether the bytes are at most `most` names joined by `+`.
+// Whether the bytes are at most `most` names joined by `+`; one name, as most callee fields are, is told at once.
 fn names_up_to(field: &[u8], most: usize) -> bool
     ensures { λ r. ⌜ r ≡ namesUpTo most (namesIn (now (field .entry))) ⌝ }
 {
     if most == 0 {
         return false;
     }
+    if text::is_name(field) {
+        return true;
+    }
     let name = text::first_short(field, 43);
     if field.len() <= name.len() {
-        return text::is_name(field);
+        return false;
     }
     if text::is_name(name) {
         return names_up_to(text::after(field, name.len() + 1), most - 1);

@@ -589,6 +589,17 @@ fn callees_in(text: &[u8], links: &[usize], procs: usize, field: &[u8], most: us
     behind % 16777216 * 256 + q % 256
 }
 
+// The same of a whole callee field. One name, as most have, is looked up at once; so the compiler keeps the others out of the reader's loop.
+fn all_callees(text: &[u8], links: &[usize], procs: usize, field: &[u8]) -> usize
+    ensures { λ r. ⌜ CalleesIn (now (text .entry)) (now (links .entry)) procs (now (field .entry)) 4 r ⌝ }
+{
+    let name = text::first_short(field, 43);
+    if field.len() <= name.len() {
+        return graph::proc_named(text, links, procs, field);
+    }
+    callees_in(text, links, procs, field, 4)
+}
+
 // Puts the procedures that the node calls into its row; 1 + the node's line, where it names an unknown one, and then the work table may hold
 // anything.
 fn resolve_node(text: &[u8], work: &mut [usize], procs: usize, n: usize) -> usize
@@ -604,7 +615,7 @@ fn resolve_node(text: &[u8], work: &mut [usize], procs: usize, n: usize) -> usiz
     let len = get(work, 4 * n + 2);
     let last = get(work, 4 * n + 3);
     let field = callee_of(text, start, len, last % 64);
-    let callees = callees_in(text, links(work), procs, field, 4);
+    let callees = all_callees(text, links(work), procs, field);
     if callees == 0 {
         return last / 64 + 1;
     }

@@ -25,19 +25,22 @@ names-up-to-below t =
 
 -- What the callees ask and give, where the measure is t.
 abbrev R : ℕ → names-up-to-lts.Claims
-R t = (first-short-reads.Asked, first-short-reads.Learnt, is-name-reads.Asked, is-name-reads.Learnt, after-reads.Asked, after-reads.Learnt, names-up-to-below t, names-up-to.Post)
+R t = (is-name-reads.Asked, is-name-reads.Learnt, first-short-reads.Asked, first-short-reads.Learnt, after-reads.Asked, after-reads.Learnt, names-up-to-below t, names-up-to.Post)
 
 names-up-to-returns : (t : ℕ) → names-up-to-lts.Need-returns (R t) (names-up-to-at t) names-up-to.Post
 names-up-to-returns t c = search (all, needs)
-
-names-up-to-first-short-requires : (t : ℕ) → names-up-to-lts.Need-first-short-requires (R t) (names-up-to-at t) names-up-to.Post
-names-up-to-first-short-requires t c κs = search needs
 
 names-up-to-is-name-requires : (t : ℕ) → names-up-to-lts.Need-is-name-requires (R t) (names-up-to-at t) names-up-to.Post
 names-up-to-is-name-requires t c κs = search needs
 
 names-up-to-returns-2 : (t : ℕ) → names-up-to-lts.Need-returns-2 (R t) (names-up-to-at t) names-up-to.Post
 names-up-to-returns-2 t c = search (all, needs)
+
+names-up-to-first-short-requires : (t : ℕ) → names-up-to-lts.Need-first-short-requires (R t) (names-up-to-at t) names-up-to.Post
+names-up-to-first-short-requires t c κs = search needs
+
+names-up-to-returns-3 : (t : ℕ) → names-up-to-lts.Need-returns-3 (R t) (names-up-to-at t) names-up-to.Post
+names-up-to-returns-3 t c = search (all, needs)
 
 names-up-to-is-name-requires-2 : (t : ℕ) → names-up-to-lts.Need-is-name-requires-2 (R t) (names-up-to-at t) names-up-to.Post
 names-up-to-is-name-requires-2 t c κs = search needs
@@ -54,24 +57,25 @@ names-up-to-sub-names-up-to t c = search needs
 names-up-to-names-up-to-requires : (t : ℕ) → names-up-to-lts.Need-names-up-to-requires (R t) (names-up-to-at t) names-up-to.Post
 names-up-to-names-up-to-requires t c κs = search needs
 
-names-up-to-returns-3 : (t : ℕ) → names-up-to-lts.Need-returns-3 (R t) (names-up-to-at t) names-up-to.Post
-names-up-to-returns-3 t c = search (all, needs)
-
 names-up-to-returns-4 : (t : ℕ) → names-up-to-lts.Need-returns-4 (R t) (names-up-to-at t) names-up-to.Post
 names-up-to-returns-4 t c = search (all, needs)
+
+names-up-to-returns-5 : (t : ℕ) → names-up-to-lts.Need-returns-5 (R t) (names-up-to-at t) names-up-to.Post
+names-up-to-returns-5 t c = search (all, needs)
 
 pub +names-up-to-spec : {M : Type 1} → statement M
 +names-up-to-spec = close μ-names-up-to λ t. names-up-to-lts.spec (R t)
     (names-up-to-at t)
     names-up-to.Post
     (names-up-to-returns t)
-    (names-up-to-first-short-requires t)
     (names-up-to-is-name-requires t)
     (names-up-to-returns-2 t)
+    (names-up-to-first-short-requires t)
+    (names-up-to-returns-3 t)
     (names-up-to-is-name-requires-2 t)
     (names-up-to-add-after t)
     (names-up-to-after-requires t)
     (names-up-to-sub-names-up-to t)
     (names-up-to-names-up-to-requires t)
-    (names-up-to-returns-3 t)
     (names-up-to-returns-4 t)
+    (names-up-to-returns-5 t)

@@ -58,8 +58,8 @@ callee-of-requires c κs = search needs
 links-requires : tie.Need-links-requires
 links-requires c κs = search needs
 
-callees-in-requires : tie.Need-callees-in-requires
-callees-in-requires c κs = search needs
+all-callees-requires : tie.Need-all-callees-requires
+all-callees-requires c κs = search needs
 
 add-result : tie.Need-add-result
 add-result c = search needs
@@ -68,7 +68,7 @@ same-length-2 : tie.Need-same-length-2
 same-length-2 c = search needs
 
 returns-2 : tie.Need-returns-2
-returns-2 c = resolve-lost _ _ _ _ _ (c .before .before .before .before .before .before .before .before .before .before .before .before .get .ensures) (search needs) (c .before .before .before .before .before .before .before .before .before .before .before .if1 .left) _ _ _ (c .before .before .before .before .before .before .before .before .before .get2 .ensures) (c .before .before .before .before .before .before .before .get3 .ensures) (c .before .before .before .before .before .get4 .ensures) _ (c .before .before .before .before .callee-of .ensures) _ (c .before .before .links .ensures) _ (c .before .callees-in .ensures) (c .if2 .taken)
+returns-2 c = resolve-lost _ _ _ _ _ (c .before .before .before .before .before .before .before .before .before .before .before .before .get .ensures) (search needs) (c .before .before .before .before .before .before .before .before .before .before .before .if1 .left) _ _ _ (c .before .before .before .before .before .before .before .before .before .get2 .ensures) (c .before .before .before .before .before .before .before .get3 .ensures) (c .before .before .before .before .before .get4 .ensures) _ (c .before .before .before .before .callee-of .ensures) _ (c .before .before .links .ensures) _ (c .before .all-callees .ensures) (c .if2 .taken)
 
 mul-put-2 : tie.Need-mul-put-2
 mul-put-2 c = search needs
@@ -107,7 +107,7 @@ resolve-node-spec =
     get-requires-4
     callee-of-requires
     links-requires
-    callees-in-requires
+    all-callees-requires
     add-result
     same-length-2
     returns-2
