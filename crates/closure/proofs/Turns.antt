@@ -1,12 +1,12 @@
 -- The turns of the loops, and the returns of the functions over them, as `search` finds them: the premises are what the code holds there.
 use mathlib.Core.Path.{_≡_, refl, sym, ap, _∙_, subst, subst₂}
 use mathlib.Core.Logic.{⊎-elim}
-use mathlib.Core.Bool.{Bool, true, false, not, false≢true, true≢false}
+use mathlib.Core.Bool.{Bool, true, false, not, false≢true}
 use mathlib.Core.List.{List}
 use Prim.Native.Nat.{ℕ, suc, _+_, _-_, _*_, _/_, _%_, _≤_, _<_}
 use native.Mathlib.Numerals.{add-one}
 use native.Mathlib.Omega.{arith}
-use borrow.Author.Tests.{eq-eqb, le-leb, lt-leb}
+use borrow.Author.Tests.{eq-eqb, le-leb, lt-leb, not-false, not-true}
 use lib.ListN.{length, getD, replicate}
 use Rattle.laws.specs.Tests.{listed}
 use Rattle.laws.specs.TestLaws.{below-suc, both-ways, fails}
@@ -99,14 +99,6 @@ module _ (ot on ol nt nn nl groups : List ℕ) (limit : ℕ) (w₀ : List ℕ) (
 pub ruleset follows = (follow-less, follow-start, follow-on, follow-end)
 
 -- ---- `enter_callees`, `enter`
-
-not-false : (z : Bool) → not z ≡ false → z ≡ true
-not-false true e = refl
-not-false false e = absurd (true≢false e)
-
-not-true : (z : Bool) → not z ≡ true → z ≡ false
-not-true true e = absurd (false≢true e)
-not-true false e = refl
 
 -- The first i callees of the pair (n, m) were entered and their exits are pairs; a and b have those left.
 pub record EnteredTo (o p : Listing) (limit : ℕ) (w₀ : List ℕ) (c₀ n m : ℕ) (w : List ℕ) (c a b : ℕ) : Type 0 where

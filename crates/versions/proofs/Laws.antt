@@ -8,7 +8,7 @@ use lib.Dec.{eqb}
 use lib.ListN.{getD, length, length-set, set}
 use lib.Seq.{getD-set-other, getD-set-same, set-out}
 use borrow.Author.Tests.{eqb-true, eq-eqb, ne-eqb}
-use Rattle.laws.specs.Tests.{_and_, _⇒_, choose, every, found, listed}
+use Rattle.laws.specs.Tests.{_and_, _⇒_, choose, every, found}
 use Rattle.laws.specs.TestLaws.{and-both, and-left, and-right, both-ways, fails}
 use Rattle.laws.specs.Lists.{choose-no, choose-yes}
 use Rattle.laws.specs.Slices.{below-or, same-or}

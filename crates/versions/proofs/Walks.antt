@@ -1,14 +1,14 @@
 -- Walks over the callees of an old and a new node, by the numbers of these: the turns and the returns, as `search` finds them. A walk keeps that what is answered for the callees left is
 -- the answer for all.
-use mathlib.Core.Path.{_≡_, refl, sym, ap, ap₂, _∙_, subst}
-use mathlib.Core.Bool.{Bool, true, false, not, false≢true, true≢false}
+use mathlib.Core.Path.{_≡_, sym, ap₂, _∙_, subst}
+use mathlib.Core.Bool.{Bool, true, false, not}
 use mathlib.Core.List.{List}
 use Prim.Native.Nat.{ℕ, suc, _+_, _-_, _/_, _%_, _≤_, _<_}
 use native.Mathlib.Omega.{arith}
 use lib.Dec.{ltb}
 use lib.ListN.{getD}
-use borrow.Author.Tests.{eq-eqb, eqb-true, le-ltb, lt-ltb}
-use Rattle.laws.specs.Tests.{_and_, _⇒_, every, listed}
+use borrow.Author.Tests.{eq-eqb, eqb-true, le-ltb, lt-ltb, not-false, not-true}
+use Rattle.laws.specs.Tests.{every, listed}
 use Rattle.laws.specs.TestLaws.{and-both, and-left, and-right, both-ways, every-at, every-of, fails, implied, implies}
 use Rattle.laws.specs.Slices.{below-or}
 use Rattle.rules.specs.Text.{same}
@@ -23,14 +23,6 @@ use Rattle.pairset.specs.Store.{Has, pairsIn}
 use Rattle.versions.specs.Memory.{InMemory, memory}
 use Rattle.versions.specs.Called.{CalleesAt, at-end, at-here, at-next, callee-there, callees-end, entries-told, exits-told, its-name}
 use Rattle.versions.specs.Claims.{CalleesEntered, ExitsMet, SameCallees}
-
-not-true : (t : Bool) → not t ≡ false → t ≡ true
-not-true true e = refl
-not-true false e = absurd (true≢false e)
-
-not-false : (t : Bool) → not t ≡ true → t ≡ false
-not-false true e = absurd (false≢true e)
-not-false false e = refl
 
 -- Fewer digits are left.
 pub fewer-left : (a : ℕ) → 0 < a → a / 256 < a
@@ -84,7 +76,7 @@ module _ (ot ol nt nl : List ℕ) (k l : ℕ) where
       same-on y r z =
           inv r (λ on nn o p h g n m i at d c few names.
           z on nn o p h g n m (suc i) (at-next h g at pos) d c (callee-there nt nn nl p g m i b (at .new-from) pos′)
-          (and-both names (sym (names-here on nn o p h g n m i at d c) ∙ not-true t y)))
+          (and-both names (sym (names-here on nn o p h g n m i at d c) ∙ not-false t y)))
 
       pub same-not : not t ≡ true → SameCallees ot ol nt nl k l false
       unfolding SameLeft SameCallees
@@ -92,7 +84,7 @@ module _ (ot ol nt nl : List ℕ) (k l : ℕ) where
           inv false (λ on nn o p h g n m i at d c few names.
           sym (sameCallee-names _ _ ∙ fails _ (λ s.
           both-ways (every-at (λ j. same (calleeName (o .program) n j) (calleeName (p .program) m j)) (calleeCount (o .program) n) (and-right _ _ s) i (at-here h g at pos))
-          (sym (names-here on nn o p h g n m i at d c) ∙ not-false t y))))
+          (sym (names-here on nn o p h g n m i at d c) ∙ not-true t y))))
 
 pub ruleset callees = (fewer-left, same-start, same-end, same-fewer, same-on, same-not)
 
@@ -118,13 +110,13 @@ module _ (ol nl w : List ℕ) (k l : ℕ) where
       unfolding ExitsLeft ExitsMet exitsMet every
       exits-on u r z =
           inv r (λ ot on nt nn o p c h g st n m i at met.
-          z ot on nt nn o p c h g st n m (suc i) (at-next h g at pos) (and-both met (sym (exits-told h g at w c q q′ t st eq eq′ has) ∙ not-true t u)))
+          z ot on nt nn o p c h g st n m (suc i) (at-next h g at pos) (and-both met (sym (exits-told h g at w c q q′ t st eq eq′ has) ∙ not-false t u)))
 
       pub exits-not : not t ≡ true → ExitsMet ol nl w k l false
       unfolding ExitsLeft ExitsMet exitsMet
       exits-not u =
           inv false (λ ot on nt nn o p c h g st n m i at met.
-          sym (fails _ (λ all. both-ways (every-at _ (calleeCount (o .program) n) all i (at-here h g at pos)) (sym (exits-told h g at w c q q′ t st eq eq′ has) ∙ not-false t u))))
+          sym (fails _ (λ all. both-ways (every-at _ (calleeCount (o .program) n) all i (at-here h g at pos)) (sym (exits-told h g at w c q q′ t st eq eq′ has) ∙ not-true t u))))
 
 pub ruleset exits = (fewer-left, exits-start, exits-end, exits-on, exits-not)
 
@@ -153,7 +145,7 @@ module _ (ol nl w : List ℕ) (k l : ℕ) where
           inv false (λ ot on nt nn o p c h g st n m i at met came.
           sym (fails _ (λ all.
           both-ways (implied _ _ (every-at (enteredAt (o .program) (p .program) (pairsIn w c) n m) (calleeCount (o .program) n) all i (at-here h g at pos)) met)
-          (sym (entries-told h g at w c q q′ t st eq eq′ has) ∙ not-false t u))))
+          (sym (entries-told h g at w c q q′ t st eq eq′ has) ∙ not-true t u))))
 
       module _ (t′ : Bool) (u : not t ≡ false) (has′ : Has w (getD ol (procBase q + 6) 0) (getD nl (procBase q′ + 6) 0) t′) where
         -- The exits are no pair: the callees behind need not come in.
@@ -165,18 +157,18 @@ module _ (ol nl w : List ℕ) (k l : ℕ) where
             below-or j i (λ e. every-at (enteredAt (o .program) (p .program) (pairsIn w c) n m) i came j e)
             (λ e.
             below-or i j
-            (λ f. implies _ _ (λ all. absurd (both-ways (every-at _ j all i f) (sym (exits-told h g at w c q q′ t′ st eq eq′ has′) ∙ not-false t′ u′))))
+            (λ f. implies _ _ (λ all. absurd (both-ways (every-at _ j all i f) (sym (exits-told h g at w c q q′ t′ st eq eq′ has′) ∙ not-true t′ u′))))
             (λ f.
             let same : i ≡ j = omega arith in
             implies _ _ (λ _. subst (λ (j : ℕ). listed (pairsIn w c) (entry (o .program) (called (o .program) n j)) (entry (p .program) (called (p .program) m j)) ≡ true) same
-            (sym (entries-told h g at w c q q′ t st eq eq′ has) ∙ not-true t u)))))))
+            (sym (entries-told h g at w c q q′ t st eq eq′ has) ∙ not-false t u)))))))
 
         pub entries-on : not t′ ≡ false → EntriesLeft (a / 256) (b / 256)
         unfolding EntriesLeft CalleesEntered exitsMet every
         entries-on u′ r z =
             inv r (λ ot on nt nn o p c h g st n m i at met came.
             z ot on nt nn o p c h g st n m (suc i) (at-next h g at pos)
-            (and-both met (sym (exits-told h g at w c q q′ t′ st eq eq′ has′) ∙ not-true t′ u′))
-            (and-both came (implies _ _ (λ _. sym (entries-told h g at w c q q′ t st eq eq′ has) ∙ not-true t u))))
+            (and-both met (sym (exits-told h g at w c q q′ t′ st eq eq′ has′) ∙ not-false t′ u′))
+            (and-both came (implies _ _ (λ _. sym (entries-told h g at w c q q′ t st eq eq′ has) ∙ not-false t u))))
 
 pub ruleset entries = (fewer-left, entries-start, entries-end, entries-not, entries-stop, entries-on)
