@@ -307,19 +307,19 @@ ran k text = opened (readProgram (bytes text))
     opened (refused n p) = none
     opened (accepted p) = seen k p
 
--- A call in a call, and a step without an edge for its word.
+-- Calls in calls, each of several, and a step without an edge for its word.
 nested : String
-nested = "P,up\nN,E,,\nN,C,wind,down\nN,X,,\nB,0,-,1\nB,1,-,2\nP,down\nN,E,,\nN,C,hold,on\nN,X,,\nB,3,-,4\nB,4,-,5\nP,on\nN,E,,\nN,X,,\nB,6,-,7\n"
+nested = "P,up\nN,E,,\nN,C,wind,down+on\nN,X,,\nB,0,-,1\nB,1,-,2\nP,down\nN,E,,\nN,C,hold,low+on\nN,X,,\nB,3,-,4\nB,4,-,5\nP,low\nN,E,,\nN,C,stay,on+on\nN,X,,\nB,6,-,7\nB,7,-,8\nP,on\nN,E,,\nN,X,,\nB,9,-,10\n"
 
 stopping : String
 stopping = "P,up\nN,E,,\nN,S,hold,\nN,X,,\nB,0,-,1\nB,1,go,2\n"
 
--- P2's programs, the call that returns, the call in a call and the step that stops run as document 01 says: an exit closes the newest open call, and a run that has stopped takes no more
--- steps and has not ended. The call of several runs as document 02 says: its action is done once, and each callee is entered as often as it is named.
+-- P2's programs, the call that returns and the step that stops run as document 01 says: a run that has stopped takes no more steps and has not ended. Calls of several run as document 02
+-- says, also in one another: an action is done once, each callee is entered as often as it is named, and an exit is that of the newest open call, which stays open until its last callee.
 runs-computed : (ran 5 layers ≡ some (true, 2, bytes "read layer" ∷ bytes "hold" ∷ [], 0 ∷ 2 ∷ 4 ∷ []))
     × (ran 5 by-layer ≡ some (true, 2, bytes "read layer" ∷ bytes "hold" ∷ [], 0 ∷ 2 ∷ 4 ∷ []))
     × (ran 5 returning ≡ some (true, 1, bytes "wind" ∷ [], 0 ∷ 2 ∷ 1 ∷ []))
-    × (ran 9 nested ≡ some (true, 2, bytes "wind" ∷ bytes "hold" ∷ [], 0 ∷ 2 ∷ 4 ∷ 3 ∷ 1 ∷ []))
+    × (ran 19 nested ≡ some (true, 3, bytes "wind" ∷ bytes "hold" ∷ bytes "stay" ∷ [], 0 ∷ 2 ∷ 4 ∷ 6 ∷ 6 ∷ 5 ∷ 6 ∷ 3 ∷ 6 ∷ 1 ∷ []))
     × (ran 13 several ≡ some (true, 2, bytes "wind" ∷ bytes "hold" ∷ [], 0 ∷ 2 ∷ 3 ∷ 4 ∷ 2 ∷ 2 ∷ 1 ∷ []))
     × (ran 2 stopping ≡ some (false, 1, bytes "hold" ∷ [], 0 ∷ []))
     × (ran 3 stopping ≡ none)

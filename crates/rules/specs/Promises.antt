@@ -9,7 +9,7 @@ use lib.ListN.{length, getD, take, drop}
 use Rattle.laws.specs.Tests.{has, listed, count, plus}
 use Rattle.laws.specs.TestLaws.{Ascending}
 use Rattle.laws.specs.Lists.{Rising}
-use Rattle.rules.specs.Text.{Bytes, accepted, fieldsOf, isName, joinBy, linesOf, maxBytes, maxPairs, refused, sameLabel, squeezed, textOf, tooMany}
+use Rattle.rules.specs.Text.{Bytes, accepted, fieldsOf, isCallees, isName, joinBy, linesOf, maxBytes, maxPairs, refused, sameLabel, squeezed, textOf, tooMany}
 use Rattle.rules.specs.Graph.{C, E, Program, WellFormed, X, called, calleeAt, calleeCount, calleeName, edgeCount, edgeTaken, entry, exit, itsEdge, kindAt, labelAt, nameAt, nodeCount, ownerAt, procCount, sourceAt, targetAt, wordAt}
 use Rattle.rules.specs.ProgramFile.{Listing, readListing, readProgram}
 use Rattle.rules.specs.SuiteFile.{Suite, TestListing, coverageAt, readSuite, readTests, testCount, testName}
@@ -243,12 +243,12 @@ pub record Lookups (p : Program) : Type 0 where
 abbrev pub LookupsExact : Type 0
 LookupsExact = (text : Bytes) (p : Program) → readProgram text ≡ accepted p → Lookups p
 
--- The callee field of a C (document 02, job 3): from 1 to 4 names, joined by `+`, are the names of its callees in their order.
-abbrev pub CalleesExact : Type 0
-CalleesExact =
-    (text : Bytes) (p : Program) → readProgram text ≡ accepted p → (n : ℕ) → n < nodeCount p → kindAt p n ≡ C
-    → (names : List Bytes) × (calleeAt p n ≡ joinBy 43 names) × (length names ≡ calleeCount p n) × (1 ≤ length names) × (length names ≤ 4)
-    × ((i : ℕ) → i < length names → (isName (getD names i []) ≡ true) × (getD names i [] ≡ calleeName p n i))
+-- The callee field of a C (document 02, job 3): from 1 to 4 names, joined by `+`, are the names of its callees in their order; and any such names, joined, are a callee field.
+pub record CalleesExact : Type 0 where
+  pub named : (text : Bytes) (p : Program) → readProgram text ≡ accepted p → (n : ℕ) → n < nodeCount p → kindAt p n ≡ C
+      → (names : List Bytes) × (calleeAt p n ≡ joinBy 43 names) × (length names ≡ calleeCount p n) × (1 ≤ length names) × (length names ≤ 4)
+      × ((i : ℕ) → i < length names → (isName (getD names i []) ≡ true) × (getD names i [] ≡ calleeName p n i))
+  pub taken : (names : List Bytes) → 1 ≤ length names → length names ≤ 4 → ((i : ℕ) → i < length names → isName (getD names i []) ≡ true) → isCallees (joinBy 43 names) ≡ true
 
 -- ---- blanks in labels (document 02, job 2)
 

@@ -236,7 +236,7 @@ unfolding isName
 name-sized s h = between-at 1 12 (length s) (and-left _ _ h)
 
 -- A callee field has no byte below 48 but `+`.
-names-free : (b : ℕ) (ps : List Bytes) → b < 48 → ((i : ℕ) → i < length ps → isName (getD ps i []) ≡ true) → AllFree b ps
+pub names-free : (b : ℕ) (ps : List Bytes) → b < 48 → ((i : ℕ) → i < length ps → isName (getD ps i []) ≡ true) → AllFree b ps
 names-free b [] l h = tt
 names-free b (p ∷ ps) l h = (name-free b p l (h 0 (omega arith)), names-free b ps l (λ i k. h (suc i) (omega arith)))
 

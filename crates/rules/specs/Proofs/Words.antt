@@ -4,12 +4,13 @@ use mathlib.Core.Logic.{inl, inr, ⊎-elim}
 use mathlib.Core.Bool.{Bool, true, true≢false}
 use mathlib.Core.Option.{some}
 use mathlib.Core.List.{List, [], _∷_, _++_}
-use Prim.Native.Nat.{ℕ, _<_}
+use Prim.Native.Nat.{ℕ, _≤_, _<_}
+use native.Mathlib.Omega.{arith}
 use lib.ListN.{length, getD}
-use borrow.Author.Tests.{eqb-true, eq-eqb}
-use Rattle.laws.specs.Tests.{listed}
+use borrow.Author.Tests.{eqb-true, eq-eqb, le-leb}
+use Rattle.laws.specs.Tests.{_and_, every, listed}
 use Rattle.laws.specs.TestLaws.{and-left, and-right, and-both, implied, implies, or-cases, or-left, or-right, every-at, every-of, any-at, any-of, anyOf-of, anyOf-at, allPairs-at, allPairs-of, both-ways, fails, isnt-true, true-isnt}
-use Rattle.rules.specs.Text.{Bytes, isCallees, isName, linesOf, nameCount, nameIn, namesIn, squeezed}
+use Rattle.rules.specs.Text.{Bytes, between, isCallees, isName, joinBy, linesOf, nameCount, nameIn, namesIn, squeezed}
 use Rattle.rules.specs.Graph.{Program, WellFormed, X, calleeAt, calleeCount, called, edgeCount, exit, isOf, kindAt, nodeCount, orZero, ownerAt, procCount}
 use Rattle.rules.specs.ProgramFile.{isNode}
 use Rattle.rules.specs.Run.{Meaning}
@@ -20,7 +21,7 @@ use Rattle.rules.specs.Promises.{AlikeExact, CalleesExact, LeftOffExact,
 use Rattle.rules.specs.Proofs.ClosingLaws.{alike-is, same-word, word-same, fits-word, fits-ends, fits-of, sameLabel-true}
 use Rattle.rules.specs.Proofs.GraphLaws.{called-below, called-name, edge-is, entry-is, first-found, isOf-true, its-edge, sameKind-of, sameKind-true, taken-at}
 use Rattle.rules.specs.Proofs.SheetLaws.{among-here, among-later}
-use Rattle.rules.specs.Proofs.TextLaws.{between-at, join-split, same-true}
+use Rattle.rules.specs.Proofs.TextLaws.{between-at, join-split, names-free, same-true, split-join}
 use Rattle.rules.specs.Proofs.WriteProgram.{reads-layout}
 
 -- ---- look-ups
@@ -45,18 +46,29 @@ lookups p wf =
           (λ t. let u = taken-at p n _ e t in (u .0, u .1), λ t. i .1 ∙ ap some (sym (i .2 e (t .0) (t .1))));
     }
 
+callees-taken : (names : List Bytes) → 1 ≤ length names → length names ≤ 4 → ((i : ℕ) → i < length names → isName (getD names i []) ≡ true) → isCallees (joinBy 43 names) ≡ true
+unfolding isCallees nameCount nameIn between
+callees-taken [] a b h = absurd (let z : ⊥ = omega arith in z)
+callees-taken (p ∷ ps) a b h =
+    subst (λ (ns : List Bytes). (between 1 4 (length ns) and every (length ns) (λ i. isName (getD ns i []))) ≡ true) (sym (split-join 43 p ps (names-free 43 (p ∷ ps) (omega arith) h)))
+    (and-both (and-both (le-leb 1 _ a) (le-leb _ 4 b)) (every-of (λ i. isName (getD (p ∷ ps) i [])) (length (p ∷ ps)) h))
+
 pub callees-exact : CalleesExact
 unfolding isCallees nameCount nameIn isNode
-callees-exact text p e n h k =
-    let c : isCallees (calleeAt p n) ≡ true = and-right _ _ (rw k at (reads-layout text p .0 e .0 .nodeForms n h)) in
-    let s = between-at 1 4 _ (and-left _ _ c) in (
-      namesIn (calleeAt p n),
-      sym (join-split 43 (calleeAt p n)),
-      refl,
-      s .0,
-      s .1,
-      λ i l. (every-at (λ i. isName (nameIn (calleeAt p n) i)) (nameCount (calleeAt p n)) (and-right _ _ c) i l, refl),
-    )
+callees-exact =
+    record {
+      named = λ text p e n h k.
+          let c : isCallees (calleeAt p n) ≡ true = and-right _ _ (rw k at (reads-layout text p .0 e .0 .nodeForms n h)) in
+          let s = between-at 1 4 _ (and-left _ _ c) in (
+            namesIn (calleeAt p n),
+            sym (join-split 43 (calleeAt p n)),
+            refl,
+            s .0,
+            s .1,
+            λ i l. (every-at (λ i. isName (nameIn (calleeAt p n) i)) (nameCount (calleeAt p n)) (and-right _ _ c) i l, refl),
+          );
+      taken = callees-taken;
+    }
 
 -- ---- meanings
 
