@@ -25,7 +25,7 @@ use Rattle.pairset.specs.Store.{Emptied, Empties, dangerIn, newAt, oldAt, pairs
 use Rattle.pairset.specs.StoreLaws.{listed-at, listed-of}
 use Rattle.versions.specs.Memory.{InMemory, Memory, memory}
 use Rattle.versions.specs.MemoryLaws.{callees-are, edges-chained, kind-is}
-use Rattle.versions.specs.Called.{CalleesAt, at-end, at-here, at-next, callee-is}
+use Rattle.versions.specs.Called.{CalleesAt, at-end, at-here, at-next, callee-is, fewer-callees}
 use Rattle.versions.specs.Groups.{Groups, InGroups, Regrouped, grouped-none}
 use Rattle.closure.specs.State.{AllDone, AllEntered, CallDone, CalleeDone, Claim, EachDone, EdgeDone, EdgesDone, Entered, Lasts, MetTo, OnDone, PairDone, PairFollowed, State, Step, Turn}
 use Rattle.closure.specs.Step.{done-lasts, edge-lasts, entered-done, entered-lasts, entries-lasts, followed-lasts, met-lasts, pair-inside, state-none, step-lasts, step-map, step-none, step-same, step-shows, step-then}
@@ -110,10 +110,6 @@ unfoldable pub Entering : List ℕ → List ℕ → ℕ → List ℕ → ℕ →
 Entering ol nl limit w₀ c₀ k l w c a b =
     (ot on nt nn : List ℕ) (o p : Listing) → InMemory (memory ot on ol) o → InMemory (memory nt nn nl) p → State (o .program) (p .program) limit w₀ c₀
     → (n m : ℕ) → Pair (o .program) (p .program) n m → CalleesAt o p n m 0 k l → EnteredTo o p limit w₀ c₀ n m w c a b
-
--- Fewer digits are left.
-pub enter-less : (a : ℕ) → 0 < a → a / 256 < a
-enter-less a h = omega arith
 
 module _ (ol nl : List ℕ) (limit : ℕ) (w₀ : List ℕ) (c₀ k l : ℕ) where
   pub enter-start : Sized w₀ w₀ (Entering ol nl limit w₀ c₀ k l w₀ c₀ k l)
@@ -241,7 +237,7 @@ module _ (on ol nn nl : List ℕ) (limit : ℕ) (w : List ℕ) (c n m t : ℕ) (
             });
       }
 
-pub ruleset enters = (enter-less, enter-start, enter-all, enter-on, enter-stop, enter-none, enter-call)
+pub ruleset enters = (fewer-callees, enter-start, enter-all, enter-on, enter-stop, enter-none, enter-call)
 
 -- ---- `visit`
 

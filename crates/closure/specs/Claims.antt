@@ -42,7 +42,7 @@ EntersCallee ol nl limit w c q k v r settled =
     → q < procCount (o .program) → k < procCount (p .program) → (c ≤ limit → Pair (o .program) (p .program) (entry (o .program) q) (entry (p .program) k))
     → Step (o .program) (p .program) limit w c (CalleeDone (o .program) (p .program) q k settled) v r
 
--- `enter_callees`: rule 2 for the pair (n, m) of calls, whose callees have the numbers k and l.
+-- `enter_callees`: rule 2 for the pair (n, m) of calls, whose callees are the digits of k and l.
 unfoldable pub EntersCallees : List ℕ → List ℕ → ℕ → List ℕ → ℕ → ℕ → ℕ → List ℕ → ℕ → Bool → Type 0
 EntersCallees ol nl limit w c k l v r settled =
     (ot on nt nn : List ℕ) (o p : Listing) → InMemory (memory ot on ol) o → InMemory (memory nt nn nl) p → State (o .program) (p .program) limit w c

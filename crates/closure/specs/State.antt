@@ -95,7 +95,7 @@ module _ (old new : Program) where
     pub goes : goesOn old new M n m ≡ settled
     pub all : settled ≡ true → AllEntered n m M S
 
-  -- Rules 2 and 3 for the pair (n, m), whether it goes on by the list or not; by the list.
+  -- All that rules 2 and 3 could ask for the pair (n, m), which lasts as the list grows; what they ask by the list.
   pub record PairFollowed (n m : ℕ) (M : List (ℕ × ℕ)) (S : ℕ → Bool) : Type 0 where
     pub call : AllEntered n m M S
     pub edges : EdgesDone n m M S

@@ -80,7 +80,8 @@ fn enter_callee(
     Growth { count, settled }
 }
 
-// Rule 2 for the callees of a pair, by their numbers k and l: each in turn, until the exits of one are no pair. It is settled if there is no such one.
+// Rule 2 for the callees of a pair, which are the digits of k and l: each in turn, until the exits of one are no pair. It is settled if there is no
+// such one.
 fn enter_callees(
     ol: &[usize],
     nl: &[usize],
@@ -118,7 +119,8 @@ fn enter_callees(
     }
 }
 
-// Rule 2 for the pair (n, m). It is settled if the pair may go on by the pairs found so far: if n is a call, so is m.
+// Rule 2 for the pair (n, m). It is settled if the pair may go on by the pairs found so far. Only the kind of n is asked for: the nodes of a pair are
+// alike.
 fn enter(
     on: &[usize],
     ol: &[usize],
@@ -341,13 +343,14 @@ fn repeat(
 // Finds all pairs and all dangerous edges, and puts them into the table: how many pairs there are, or limit + 1 where there are more than the
 // limit; what the table holds then is left open.
 //
-// The worst case. A pass visits each pair once, and a visit tries the edges of the old node, at most 8. A try compares the edge's word with
-// those of the new node, at most 8, and looks the pair of ends up by its bit; labels are compared only for ends that are no pair yet, and not
-// known to be alike by the groups. There is at most one pass more than old procedures; one pass is enough where no call waits for its exits. A
-// pass leaves out only what stands behind calls that wait, so one that adds a pair, after the first, does so from a call that waited for the
-// exits of a callee, which became a pair in the pass before; the callees of a pair have one name, so there are at most as many such passes as
-// old procedures. If there are as many, the exits of every callee are a pair before the last of them, in which so no call waits, and no pass
-// follows it. Otherwise one pass more, which adds nothing, is the last. At the limits of the files that is at most 65 * 4,096 * 8 tries.
+// The worst case. A pass visits each pair once; a visit looks up the entries and the exits of at most 4 callees, and tries the edges of the old
+// node, at most 8. A try compares the edge's word with those of the new node, at most 8, and looks the pair of ends up by its bit; labels are
+// compared only for ends that are no pair yet, and not known to be alike by the groups. There is at most one pass more than old procedures; one
+// pass is enough where no call waits for its exits. A pass leaves out only what stands behind calls that wait, so one that adds a pair, after the
+// first, does so from a call that waited for the exits of a callee, which became a pair in the pass before; the callees i of a pair have one
+// name, so there are at most as many such passes as old procedures. If there are as many, the exits of every callee are a pair before the last of
+// them, in which so no call waits, and no pass follows it. Otherwise one pass more, which adds nothing, is the last. At the limits of the files
+// that is at most 65 * 4,096 * 8 tries.
 pub fn close(
     ot: &[u8],
     on: &[usize],

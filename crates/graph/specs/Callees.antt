@@ -19,7 +19,7 @@ use Rattle.graph.specs.Table.{calleesFrom, procDigit}
 
 -- ---- a digit
 
--- It is 1 + the procedure that is looked up for the name, where a procedure has it.
+-- Less 1 it is the procedure that is looked up for the name.
 digit-proc : (p : Program) (name : Bytes) → procDigit p name - 1 ≡ procOf p name
 unfolding procDigit procOf orZero
 digit-proc p name = go (first (procCount p) (λ q. same (nameAt p q) name))
@@ -74,6 +74,6 @@ module _ (p : Program) (few : procCount p ≤ 64) (n i : ℕ) where
       (λ l. let d = digit-small p (nameIn (calleeAt p n) i) in let m : calleesFrom p n i / 256 ≡ calleesFrom p n (suc i) = omega (arith, from-cons p n i l) in m)
       (λ l. ap (λ (x : ℕ). x / 256) (none-from p n i l) ∙ sym (none-from p n (suc i) (omega arith)))
 
--- Where its callees exist, a node has one from i on exactly if the number is not 0.
+-- Where its callees exist, the number of those from i on is not 0 if there is one.
 pub some-from : (p : Program) → WellFormed p → (n i : ℕ) → n < nodeCount p → kindAt p n ≡ C → i < calleeCount p n → 0 < calleesFrom p n i
 some-from p wf n i h k l = let r = wf .callees n h k i l in let d = digit-some p _ (r .0) (r .1) (r .2) in omega (arith, from-cons p n i l)

@@ -13,7 +13,7 @@ use Rattle.rules.specs.Text.{Bytes, same, split, namesIn, nameCount, nameIn, is
 use Rattle.rules.specs.Graph.{Kind, E, S, C, X, Program, nameAt, kindAt, labelAt, calleeAt, calleeCount, calleeName, procCount, nodeCount, kindNumber}
 use Rattle.rules.specs.ProgramFile.{Listing, isNode, named, lost}
 use Rattle.rules.specs.Proofs.TextLaws.{same-true, empty-true, name-sized}
-use Rattle.rules.specs.Proofs.GraphLaws.{sameKind-of, sameKind-true, some-name}
+use Rattle.rules.specs.Proofs.GraphLaws.{nameless, sameKind-of, sameKind-true, some-name}
 use Rattle.text.specs.Scans.{span}
 use Rattle.text.specs.SplitLaws.{first-last, first-more}
 use Rattle.graph.specs.Table.{procDigit, calleesFrom}
@@ -151,16 +151,9 @@ module _ (text : Bytes) (s : Listing) (k : Known text s) (n : ℕ) (l : n < node
   form : isNode (kindAt p n) (labelAt p n) (calleeAt p n) ≡ true
   form = k .sound .nodeForms n l
 
-  -- No procedure has an empty name.
   empty-unknown : procDigit p [] ≡ 0
   unfolding procDigit
-  empty-unknown = go (first (procCount p) (λ q. same (nameAt p q) [])) refl
-    where
-      go : (o : Option ℕ) → first (procCount p) (λ q. same (nameAt p q) []) ≡ o → found o ≡ 0
-      go none e = refl
-      go (some q) e =
-          let u = first-at (λ q. same (nameAt p q) []) (procCount p) q e in
-          absurd (let z : ⊥ = omega (arith, name-sized (nameAt p q) (k .sound .nameForms q (u .0)) .0, ap length (same-true (nameAt p q) [] (u .1))) in z)
+  empty-unknown = ap found (nameless p (k .sound .nameForms))
 
   -- A node that calls nothing.
   pub calls-nothing : (kindNumber (kindAt p n) ≡ 2 → ⊥) → 0 ≡ calleesFrom p n 0

@@ -566,7 +566,7 @@ fn callee_of(text: &[u8], start: usize, len: usize, size: usize) -> &[u8]
 }
 
 // The procedures that a callee field names, of which there are at most `most`, as one number: for each a digit to the base 256, 1 + the
-// procedure, the first name's the lowest; 0 where a name is unknown.
+// procedure, the first name's the lowest; 0 where a name is unknown. The remainders cut nothing off a program's numbers; they bound any others.
 fn callees_in(text: &[u8], links: &[usize], procs: usize, field: &[u8], most: usize) -> usize
     requires { ⌜ most ≤ 4 ⌝ }
     ensures { λ r. ⌜ CalleesIn (now (text .entry)) (now (links .entry)) procs (now (field .entry)) most r ⌝ }

@@ -92,12 +92,15 @@ one-blank = "P,up\nN,E,,\nN,S, ,\nN,X,,\nB,0,-,1\nB,1,T,1\nB,1,F,2\n"
 three-blanks : String
 three-blanks = "P,up\nN,E,,\nN,S,   ,\nN,X,,\nB,0,-,1\nB,1,T,1\nB,1,F,2\n"
 
--- A call of several, of which the second may change, and one of which the first may.
+-- A call of several, of which the second may change, and what stands behind the call with it; and one of which the first may.
 several : String
 several = "P,main\nN,E,,\nN,C,wind,a+b+a+a\nN,X,,\nB,0,-,1\nB,1,-,2\nP,a\nN,E,,\nN,X,,\nB,3,-,4\nP,b\nN,E,,\nN,S,hold,\nN,X,,\nB,5,-,6\nB,6,ok,7\n"
 
 several-stay : String
 several-stay = "P,main\nN,E,,\nN,C,wind,a+b+a+a\nN,X,,\nB,0,-,1\nB,1,-,2\nP,a\nN,E,,\nN,X,,\nB,3,-,4\nP,b\nN,E,,\nN,S,stay,\nN,X,,\nB,5,-,6\nB,6,ok,7\n"
+
+several-rest : String
+several-rest = "P,main\nN,E,,\nN,C,wind,a+b+a+a\nN,S,rest,\nN,X,,\nB,0,-,1\nB,1,-,2\nB,2,ok,3\nP,a\nN,E,,\nN,X,,\nB,4,-,5\nP,b\nN,E,,\nN,S,stay,\nN,X,,\nB,6,-,7\nB,7,ok,8\n"
 
 late : String
 late = "P,main\nN,E,,\nN,C,wind,b+a\nN,X,,\nB,0,-,1\nB,1,-,2\nP,a\nN,E,,\nN,X,,\nB,3,-,4\nP,b\nN,E,,\nN,S,hold,\nN,X,,\nB,5,-,6\nB,6,ok,7\n"
@@ -180,14 +183,17 @@ blanks =
 
 -- ---- several callees (document 02, job 3)
 
--- All callees met, one of them called three times; the second one's exits not met, so that the call does not go on and nothing is behind it; the first one's not met, so that no later one
--- is entered; the callees in another order. A check asks for the second one's entries only after the first one's exits, and then it does; a file that has the callees is given back.
+-- All callees met, one of them called three times; the second one's exits not met, so that the call does not go on: nothing is behind it, and its edge has no counterpart and is not
+-- dangerous, though it leads elsewhere; the first one's not met, so that no later one is entered; the callees in another order. A check asks for the second one's entries only after the
+-- first one's exits, and then it does; a file that has the callees is given back.
 pub severals : List Example
-unfolding writes checks records back job several several-stay late late-stay
+unfolding writes checks records back job several several-stay several-rest late late-stay
 severals =
     writes (job several several "T,t,f8\n") "sheet,1\nM,0,0\nM,1,1\nM,2,2\nM,3,3\nM,4,4\nM,5,5\nM,6,6\nM,7,7\nend,8,0,0\n"
     ∷ records (job several several "T,t,f8\n") 0 "V,t,5,11111\n"
     ∷ writes (job several several-stay "T,t,c0\nT,s,f8\n") "sheet,1\nM,0,0\nM,1,1\nM,3,3\nM,4,4\nM,5,5\nD,3\nR,s\nend,5,1,1\n"
+    ∷ records (job several several-stay "T,t,c0\nT,s,f8\n") 0 "V,t,2,10000\n"
+    ∷ writes (job several several-rest "") "sheet,1\nM,0,0\nM,1,1\nM,3,4\nM,4,5\nM,5,6\nD,3\nend,5,1,0\n"
     ∷ writes (job late late-stay "") "sheet,1\nM,0,0\nM,1,1\nM,5,5\nD,3\nend,3,1,0\n"
     ∷ writes (job several late "") "sheet,1\nM,0,0\nD,0\nend,1,1,0\n"
     ∷ checks (job several several "") "sheet,1\nM,0,0\nM,1,1\nM,3,3\nD,2\nend,3,1,0\n" passed
@@ -247,7 +253,7 @@ refusals =
     ∷ (ofProgram (bytes "P,a\nP,a\n"), refusal 8 1)
     ∷ (ofProgram (bytes "P,a\nN,E,,\nN,X,,\nB,0,x,1\n"), refusal 8 1)
     ∷ (ofProgram (bytes "P,up\nN,E,,\nN,C,wind,down\nN,X,,\nB,0,-,1\nB,1,-,2\n"), refusal 9 3)
-    ∷ (ofProgram (bytes "P,up\nN,E,,\nN,C,wind,up+down\nN,X,,\nB,0,-,1\nB,1,-,2\n"), refusal 9 3)
+    ∷ (ofProgram (bytes "P,up\nN,E,,\nN,C,wind,up+down\nN,C,hold,down\nN,X,,\nB,0,-,1\nB,1,-,2\nB,2,-,3\n"), refusal 9 3)
     ∷ (ofProgram (bytes "P,a\nN,C,x,a+b+a+b+a\n"), refusal 2 2)
     ∷ (ofProgram (bytes "P,a\nN,C,x,a+\n"), refusal 2 2)
     ∷ (ofTests "T,t1\n", refusal 2 1)

@@ -230,8 +230,8 @@ LabelShown = (v : Version) → readListing (v .text) ≡ accepted (v .listing) �
 
 -- ---- what runs and rules look up in a program
 
--- The entry and the exit of a procedure are its E and its X, the callee i of a C is the procedure of the name i in its callee field, the edge that a node takes for a word is its edge of that word, and that of
--- an E or C is the one that it has.
+-- The entry and the exit of a procedure are its E and its X, the callee i of a C is the procedure of the name i in its callee field, the edge that a node takes for a word is its edge of
+-- that word, and that of an E or C is the one that it has.
 pub record Lookups (p : Program) : Type 0 where
   pub entry-is : (q : ℕ) → q < procCount p → (entry p q < nodeCount p) × (ownerAt p (entry p q) ≡ q) × (kindAt p (entry p q) ≡ E)
   pub exit-is : (q : ℕ) → q < procCount p → (exit p q < nodeCount p) × (ownerAt p (exit p q) ≡ q) × (kindAt p (exit p q) ≡ X)
@@ -386,21 +386,22 @@ FormerExact = (old new tests sheet : Bytes) → (formerCheckAnswer old new tests
 abbrev pub StoredSheetsPass : Type 0
 StoredSheetsPass = (old new tests sheet : Bytes) → formerCheckAnswer old new tests sheet ≡ passed → checkAnswer old new tests sheet ≡ passed
 
--- The five rules, in words.
+-- The sheet lists the pair.
 abbrev pub Listed : Sheet → ℕ → ℕ → Type 0
 Listed c n n′ = listed (c .M) n n′ ≡ true
 
+-- The five rules, in words.
 pub record RulesExact (old new : Program) (suite : List Coverage) (c : Sheet) : Type 0 where
-  pub first-listed : (rule1 old new c ≡ true) ↔ (listed (c .M) (entry old 0) (entry new 0) ≡ true)
-  pub pairs-alike : (rule2 old new c ≡ true) ↔ ((n n′ : ℕ) → listed (c .M) n n′ ≡ true → alike old new n n′ ≡ true)
+  pub first-listed : (rule1 old new c ≡ true) ↔ Listed c (entry old 0) (entry new 0)
+  pub pairs-alike : (rule2 old new c ≡ true) ↔ ((n n′ : ℕ) → Listed c n n′ → alike old new n n′ ≡ true)
   pub callees-listed : (rule3 old new c ≡ true)
-      ↔ ((n n′ : ℕ) → listed (c .M) n n′ ≡ true → kindAt old n ≡ C → kindAt new n′ ≡ C → (i : ℕ) → i < calleeCount old n → ExitsMet old new (Listed c) n n′ i
+      ↔ ((n n′ : ℕ) → Listed c n n′ → kindAt old n ≡ C → kindAt new n′ ≡ C → (i : ℕ) → i < calleeCount old n → ExitsMet old new (Listed c) n n′ i
       → Listed c (entry old (called old n i)) (entry new (called new n′ i)))
   pub edges-kept : (rule4 old new c ≡ true)
-      ↔ ((n n′ : ℕ) → listed (c .M) n n′ ≡ true → (kindAt old n ≡ C → ExitsMet old new (Listed c) n n′ (calleeCount old n))
+      ↔ ((n n′ : ℕ) → Listed c n n′ → (kindAt old n ≡ C → ExitsMet old new (Listed c) n n′ (calleeCount old n))
       → (e : ℕ) → e < edgeCount old → sourceAt old e ≡ n
       → (has (c .D) e ≡ true)
-      ⊎ ((e′ : ℕ) × (e′ < edgeCount new) × (sourceAt new e′ ≡ n′) × (wordAt old e ≡ wordAt new e′) × (listed (c .M) (targetAt old e) (targetAt new e′) ≡ true)))
+      ⊎ ((e′ : ℕ) × (e′ < edgeCount new) × (sourceAt new e′ ≡ n′) × (wordAt old e ≡ wordAt new e′) × Listed c (targetAt old e) (targetAt new e′)))
   pub tests-listed : (rule5 suite c ≡ true) ↔ ((i : ℕ) → i < length suite → (e : ℕ) → has (c .D) e ≡ true → holds (getD suite i []) e ≡ true → has (c .R) i ≡ true)
 
 -- A test is left off a sheet exactly if no line of the sheet is its R line.

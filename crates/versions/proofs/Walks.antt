@@ -21,12 +21,8 @@ use Rattle.graph.specs.Table.{procBase}
 use Rattle.graph.specs.Reads.{partAt}
 use Rattle.pairset.specs.Store.{Has, pairsIn}
 use Rattle.versions.specs.Memory.{InMemory, memory}
-use Rattle.versions.specs.Called.{CalleesAt, at-end, at-here, at-next, callee-there, callees-end, entries-told, exits-told, its-name}
+use Rattle.versions.specs.Called.{CalleesAt, at-end, at-here, at-next, callee-there, callees-end, entries-told, exits-told, fewer-callees, its-name}
 use Rattle.versions.specs.Claims.{CalleesEntered, ExitsMet, SameCallees}
-
--- Fewer digits are left.
-pub fewer-left : (a : ℕ) → 0 < a → a / 256 < a
-fewer-left a h = omega arith
 
 -- ---- `same_callees`
 
@@ -86,7 +82,7 @@ module _ (ot ol nt nl : List ℕ) (k l : ℕ) where
           both-ways (every-at (λ j. same (calleeName (o .program) n j) (calleeName (p .program) m j)) (calleeCount (o .program) n) (and-right _ _ s) i (at-here h g at pos))
           (sym (names-here on nn o p h g n m i at d c) ∙ not-true t y))))
 
-pub ruleset callees = (fewer-left, same-start, same-end, same-fewer, same-on, same-not)
+pub ruleset callees = (fewer-callees, same-start, same-end, same-fewer, same-on, same-not)
 
 -- ---- `exits_met`
 
@@ -118,7 +114,7 @@ module _ (ol nl w : List ℕ) (k l : ℕ) where
           inv false (λ ot on nt nn o p c h g st n m i at met.
           sym (fails _ (λ all. both-ways (every-at _ (calleeCount (o .program) n) all i (at-here h g at pos)) (sym (exits-told h g at w c q q′ t st eq eq′ has) ∙ not-true t u))))
 
-pub ruleset exits = (fewer-left, exits-start, exits-end, exits-on, exits-not)
+pub ruleset exits = (fewer-callees, exits-start, exits-end, exits-on, exits-not)
 
 -- ---- `callees_entered`
 
@@ -171,4 +167,4 @@ module _ (ol nl w : List ℕ) (k l : ℕ) where
             (and-both met (sym (exits-told h g at w c q q′ t′ st eq eq′ has′) ∙ not-false t′ u′))
             (and-both came (implies _ _ (λ _. sym (entries-told h g at w c q q′ t st eq eq′ has) ∙ not-false t u))))
 
-pub ruleset entries = (fewer-left, entries-start, entries-end, entries-not, entries-stop, entries-on)
+pub ruleset entries = (fewer-callees, entries-start, entries-end, entries-not, entries-stop, entries-on)

@@ -1,4 +1,4 @@
--- The callees of an old and a new node in memory, one after another: the number of those from i on has the callee i as its first, and the others behind it.
+-- The callees of an old and a new node in memory, one after another: the number that has those from i on as digits has the callee i as its lowest, and the others behind it.
 use mathlib.Core.Path.{_≡_, ap, ap₂, _∙_}
 use mathlib.Core.Bool.{Bool}
 use mathlib.Core.List.{List}
@@ -16,6 +16,10 @@ use Rattle.graph.specs.Reads.{partAt}
 use Rattle.pairset.specs.Store.{Has, Store, pairsIn}
 use Rattle.versions.specs.Memory.{InMemory, memory}
 use Rattle.versions.specs.MemoryLaws.{entry-is, exit-is, name-is, sound, well-formed}
+
+-- Fewer are left behind the first.
+pub fewer-callees : (k : ℕ) → 0 < k → k / 256 < k
+fewer-callees k h = omega arith
 
 -- ---- of one node
 
@@ -48,7 +52,7 @@ module _ (t nodes links : List ℕ) (s : Listing) (h : InMemory (memory t nodes 
 
 -- ---- of an old and a new node
 
--- The number k has the callees of the old node n from i on, and l those of the new node m; n is a call.
+-- The number k has the callees of the old node n from i on as digits, and l those of the new node m; n is a call.
 pub record CalleesAt (o p : Listing) (n m i k l : ℕ) : Type 0 where
   pub old-node : n < nodeCount (o .program)
   pub call : kindAt (o .program) n ≡ C

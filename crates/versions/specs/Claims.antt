@@ -31,7 +31,7 @@ BothCall on nn n m r =
     (ot nt : Bytes) (ol nl : List ℕ) (o p : Listing) → InMemory (memory ot on ol) o → InMemory (memory nt nn nl) p → n < nodeCount (o .program) → m < nodeCount (p .program)
     → r ≡ bothCall (o .program) (p .program) n m
 
--- `same_callees`: the callee fields of two calls count as equal, where k and l are the numbers of their callees; from i on, where the names before are the same.
+-- `same_callees`: the callee fields of two calls count as equal, where k and l have their callees as digits; from i on, where the names before are the same.
 unfoldable pub SameCallees : List ℕ → List ℕ → List ℕ → List ℕ → ℕ → ℕ → Bool → Type 0
 SameCallees ot ol nt nl k l r =
     (on nn : List ℕ) (o p : Listing) → InMemory (memory ot on ol) o → InMemory (memory nt nn nl) p → (n m i : ℕ) → CalleesAt o p n m i k l → m < nodeCount (p .program)

@@ -26,7 +26,7 @@ pub fn kind(nodes: &[usize], n: usize) -> usize
     text::get(nodes, 4 * n)
 }
 
-// The procedures that the node n calls, as one number; 0 if it calls none.
+// The procedures that the node n calls, as the digits of one number; 0 if it calls none.
 pub fn callees(nodes: &[usize], n: usize) -> usize
     ensures { λ r. ⌜ r ≡ getD (now (nodes .entry)) (nodeBase n + 3) 0 ⌝ }
 {
@@ -36,7 +36,7 @@ pub fn callees(nodes: &[usize], n: usize) -> usize
     text::get(nodes, 4 * n + 3)
 }
 
-// The first of the procedures that are called by this number.
+// The first of the procedures that are the digits of such a number.
 pub fn callee(callees: usize) -> usize
     ensures { λ r. ⌜ r ≡ callees % 256 - 1 ⌝ }
 {
@@ -141,7 +141,8 @@ fn same_name(ot: &[u8], ol: &[usize], nt: &[u8], nl: &[usize], q: usize, k: usiz
     text::same(a, b)
 }
 
-// Whether the callee fields of an old and a new call count as equal, by the numbers of their callees: they have as many names, and the same.
+// Whether the callee fields of an old and a new call count as equal, where k and l have their callees as digits: they have as many names, and the
+// same.
 fn same_callees(ot: &[u8], ol: &[usize], nt: &[u8], nl: &[usize], k: usize, l: usize) -> bool
     ensures { λ r. ⌜ SameCallees (now (ot .entry)) (now (ol .entry)) (now (nt .entry)) (now (nl .entry)) k l r ⌝ }
 {
@@ -198,7 +199,7 @@ pub fn taken(ol: &[usize], nl: &[usize], e: usize, m: usize) -> usize
 }
 
 // Whether the old node n and the new node m are calls.
-pub fn both_call(on: &[usize], nn: &[usize], n: usize, m: usize) -> bool
+fn both_call(on: &[usize], nn: &[usize], n: usize, m: usize) -> bool
     ensures { λ r. ⌜ BothCall (now (on .entry)) (now (nn .entry)) n m r ⌝ }
 {
     if kind(on, n) == 2 {
@@ -227,7 +228,7 @@ pub fn exits_paired(ol: &[usize], nl: &[usize], w: &[usize], q: usize, p: usize)
     pairset::has(w, a, b)
 }
 
-// Whether the exits of the old and the new procedures that are called by these numbers are, one by one, pairs of the table.
+// Whether the exits of the procedures that are the digits of k and l, old and new, are one by one pairs of the table.
 fn exits_met(ol: &[usize], nl: &[usize], w: &[usize], k: usize, l: usize) -> bool
     ensures { λ r. ⌜ ExitsMet (now (ol .entry)) (now (nl .entry)) (now (w .entry)) k l r ⌝ }
 {
@@ -263,8 +264,8 @@ pub fn goes_on(
     exits_met(ol, nl, w, callees(on, n), callees(nn, m))
 }
 
-// Whether the entries of the first procedures that are called by these numbers are a pair of the table, and those of each later one, if the exits of
-// every one before it are.
+// Whether the entries of the procedures that are the first digits of k and l, old and new, are a pair of the table, and those of each later digit, if
+// the exits of every one before it are.
 fn callees_entered(ol: &[usize], nl: &[usize], w: &[usize], k: usize, l: usize) -> bool
     ensures { λ r. ⌜ CalleesEntered (now (ol .entry)) (now (nl .entry)) (now (w .entry)) k l r ⌝ }
 {

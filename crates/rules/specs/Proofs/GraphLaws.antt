@@ -63,19 +63,23 @@ taken-at p n w e h =
     let s = leaves-true p n w e (r .1) in
     (r .0, s .0, s .1)
 
--- Where names are names, no procedure is looked up for a number that names no callee, and 0 is taken.
-pub called-none : (p : Program) → ((q : ℕ) → q < procCount p → isName (nameAt p q) ≡ true) → (n i : ℕ) → calleeCount p n ≤ i → called p n i ≡ 0
-unfolding called procOf orZero nameCount nameIn isName between _and_
-called-none p names n i h = rw (List·getD-eq-default (namesIn (calleeAt p n)) [] h) (go (first (procCount p) (λ q. same (nameAt p q) [])) refl)
+-- Where names are names, no procedure has an empty one; so for a number that names no callee 0 is taken.
+pub nameless : (p : Program) → ((q : ℕ) → q < procCount p → isName (nameAt p q) ≡ true) → first (procCount p) (λ q. same (nameAt p q) []) ≡ none
+unfolding isName between _and_
+nameless p names = go (first (procCount p) (λ q. same (nameAt p q) [])) refl
   where
-    nameless : isName [] ≡ true → ⊥
-    nameless e = true≢false (sym e)
+    unnamed : isName [] ≡ true → ⊥
+    unnamed e = true≢false (sym e)
 
-    go : (o : Option ℕ) → first (procCount p) (λ q. same (nameAt p q) []) ≡ o → orZero o ≡ 0
+    go : (o : Option ℕ) → first (procCount p) (λ q. same (nameAt p q) []) ≡ o → o ≡ none
     go none e = refl
     go (some q) e =
         let r = first-at (λ q. same (nameAt p q) []) (procCount p) q e in
-        absurd (nameless (subst (λ (s : Bytes). isName s ≡ true) (same-true _ [] (r .1)) (names q (r .0))))
+        absurd (unnamed (subst (λ (s : Bytes). isName s ≡ true) (same-true _ [] (r .1)) (names q (r .0))))
+
+pub called-none : (p : Program) → ((q : ℕ) → q < procCount p → isName (nameAt p q) ≡ true) → (n i : ℕ) → calleeCount p n ≤ i → called p n i ≡ 0
+unfolding called procOf orZero nameCount nameIn
+called-none p names n i h = rw (List·getD-eq-default (namesIn (calleeAt p n)) [] h, nameless p names) refl
 
 -- A callee field has a name.
 pub some-name : (field : Bytes) → 0 < nameCount field
