@@ -108,7 +108,7 @@ fn node_field(node: &mut Node, at: usize) -> &mut usize {
         0 => &mut node.kind,
         1 => &mut node.start,
         2 => &mut node.length,
-        _ => &mut node.callee,
+        _ => &mut node.callees,
     }
 }
 

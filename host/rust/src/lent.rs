@@ -35,7 +35,7 @@ impl Element for Node {
             kind: at % 4,
             start: usize::guard(at),
             length: at,
-            callee: !at,
+            callees: !at,
         }
     }
 }

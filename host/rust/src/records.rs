@@ -16,14 +16,32 @@ pub struct Job {
 }
 
 /// A node: its kind (E 0, S 1, C 2, X 3), where its label stands and how
-/// long it is, and the procedure that it calls.
+/// long it is, and the procedures that it calls.
 #[repr(C)]
 #[derive(Clone, Copy, PartialEq, Eq, Debug, Default)]
 pub struct Node {
     pub kind: usize,
     pub start: usize,
     pub length: usize,
-    pub callee: usize,
+    /// Digits to the base 256, 1 + each procedure, the first the lowest; 0
+    /// where it is no C.
+    pub callees: usize,
+}
+
+/// The number of these callees.
+pub fn joined_callees(callees: &[u16]) -> usize {
+    let from_last = callees.iter().rev();
+    from_last.fold(0, |number, &callee| 256 * number + 1 + usize::from(callee))
+}
+
+/// The callees of a number, if it is one of callees: no digit is 0.
+pub fn parted_callees(mut number: usize) -> Option<Vec<usize>> {
+    let mut callees = Vec::new();
+    while number > 0 {
+        callees.push((number % 256).checked_sub(1)?);
+        number /= 256;
+    }
+    Some(callees)
 }
 
 /// Records of nodes, and numbers of links, of each version.

@@ -177,11 +177,12 @@ fn tables_of_p2() {
     assert_eq!(drive.numbers(Table::Rows, 0, 33), rows);
 }
 
-/// Of the program with a call: the callee of the C is the procedure 1.
+/// Of the program with a call: the callee of the C is the procedure 1, so its
+/// number is 2.
 #[test]
 fn tables_of_a_call() {
     let mut drive = Drive::calls(1);
-    assert_eq!(drive.numbers(Table::OldNodes, 4, 4), [2, 15, 4, 1]);
+    assert_eq!(drive.numbers(Table::OldNodes, 4, 4), [2, 15, 4, 2]);
     // `in` stands in line 7, behind three nodes and two edges.
     let row = [47, 2, 7, 3, 2, 3, 5];
     assert_eq!(drive.numbers(Table::OldLinks, 7, 7), row);

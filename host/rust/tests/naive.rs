@@ -8,7 +8,7 @@ use std::collections::{BTreeMap, BTreeSet};
 
 type Field<'a> = &'a [u8];
 
-/// Kind, label, callee.
+/// Kind, label, callee field.
 type Node<'a> = (u8, Field<'a>, Field<'a>);
 
 struct Program<'a> {
@@ -32,6 +32,15 @@ fn lines(text: &[u8]) -> (Vec<Field<'_>>, bool) {
 fn is_name(field: Field) -> bool {
     let right = |b: &u8| b.is_ascii_alphanumeric() || *b == b'_';
     (1..=12).contains(&field.len()) && field.iter().all(right)
+}
+
+/// One to four names joined by `+`.
+fn is_callees(field: Field) -> bool {
+    callees(field).len() <= 4 && callees(field).into_iter().all(is_name)
+}
+
+fn callees(field: Field) -> Vec<Field> {
+    field.split(|&b| b == b'+').collect()
 }
 
 fn is_label(field: Field) -> bool {
@@ -78,7 +87,7 @@ fn read_program(text: &[u8]) -> Outcome<Program<'_>> {
             [b"P", name] => is_name(name),
             [b"N", b"E" | b"X", b"", b""] => true,
             [b"N", b"S", label, b""] => is_label(label),
-            [b"N", b"C", label, callee] => is_label(label) && is_name(callee),
+            [b"N", b"C", label, field] => is_label(label) && is_callees(field),
             [b"B", from, word, to] => is_number(from) && is_word(word) && is_number(to),
             _ => false,
         };
@@ -129,8 +138,8 @@ fn read_program(text: &[u8]) -> Outcome<Program<'_>> {
     whole(&p, p_line)?;
     for (at, line) in lines.iter().enumerate() {
         let f: Vec<Field> = line.split(|&b| b == b',').collect();
-        let called = f[0] == b"N" && f[1] == b"C";
-        if called && !p.procedures.iter().any(|other| other.0 == f[3]) {
+        let known = |name: &Field| p.procedures.iter().any(|other| other.0 == *name);
+        if f[0] == b"N" && f[1] == b"C" && !callees(f[3]).iter().all(known) {
             return refuse(9, at + 1);
         }
     }
@@ -166,11 +175,33 @@ impl Program<'_> {
         (low..high).find(|&n| self.nodes[n].0 == kind).unwrap()
     }
 
-    fn callee_end(&self, node: usize, kind: u8) -> usize {
-        let callee = self.nodes[node].2;
-        let at = self.procedures.iter().position(|p| p.0 == callee);
-        self.end(at.unwrap(), kind)
+    /// The node of this kind of each procedure that a node calls, in order.
+    fn called(&self, node: usize, kind: u8) -> Vec<usize> {
+        let (b'C', _, field) = self.nodes[node] else {
+            return vec![];
+        };
+        let number = |name| self.procedures.iter().position(|p| p.0 == name).unwrap();
+        let callees = callees(field).into_iter();
+        callees.map(|name| self.end(number(name), kind)).collect()
     }
+}
+
+type Pair = (usize, usize);
+
+/// The pairs of these nodes of each procedure that two nodes call, in order.
+fn called(old: &Program, new: &Program, (n, m): Pair, kind: u8) -> Vec<Pair> {
+    let others = new.called(m, kind);
+    old.called(n, kind).into_iter().zip(others).collect()
+}
+
+/// The entries that a pair asks for: those of the first callee, and of a later
+/// one if the exits of every callee before it are a pair.
+fn entries(old: &Program, new: &Program, pairs: &Pairs, pair: Pair) -> Vec<Pair> {
+    let exits = called(old, new, pair, b'X');
+    let entries = called(old, new, pair, b'E').into_iter().enumerate();
+    let asked = |at: usize| exits[..at].iter().all(|before| pairs.contains(before));
+    let entries = entries.filter(|(at, _)| asked(*at));
+    entries.map(|(_, entry)| entry).collect()
 }
 
 type Tests<'a> = Vec<(Field<'a>, Vec<bool>)>;
@@ -211,7 +242,7 @@ fn read_tests(text: &[u8], edges: usize) -> Outcome<Tests<'_>> {
     Ok(tests)
 }
 
-type Pairs = BTreeSet<(usize, usize)>;
+type Pairs = BTreeSet<Pair>;
 
 /// A label without blanks at its ends, and one blank for each inner run.
 fn plain(label: Field) -> String {
@@ -227,8 +258,9 @@ fn alike(one: Node, other: Node) -> bool {
     one.0 == other.0 && plain(one.1) == plain(other.1) && one.2 == other.2
 }
 
-fn may_go_on(old: &Program, new: &Program, pairs: &Pairs, (n, m): (usize, usize)) -> bool {
-    old.nodes[n].0 != b'C' || pairs.contains(&(old.callee_end(n, b'X'), new.callee_end(m, b'X')))
+fn may_go_on(old: &Program, new: &Program, pairs: &Pairs, pair: Pair) -> bool {
+    let exits = called(old, new, pair, b'X');
+    exits.iter().all(|exits| pairs.contains(exits))
 }
 
 /// Pairs, dangerous edges and counterparts; `None` above the limit.
@@ -242,9 +274,7 @@ fn close(
         let mut found = pairs.clone();
         let (mut dangers, mut joined) = (BTreeSet::new(), BTreeSet::new());
         for &(n, m) in &pairs {
-            if old.nodes[n].0 == b'C' {
-                found.insert((old.callee_end(n, b'E'), new.callee_end(m, b'E')));
-            }
+            found.extend(entries(old, new, &pairs, (n, m)));
             if !may_go_on(old, new, &pairs, (n, m)) {
                 continue;
             }
@@ -433,9 +463,9 @@ fn claims(
     if unlike {
         return broken(2);
     }
-    for &(n, m) in pairs {
-        let entries = || (old.callee_end(n, b'E'), new.callee_end(m, b'E'));
-        if old.nodes[n].0 == b'C' && !pairs.contains(&entries()) {
+    for &pair in pairs {
+        let mut entries = entries(old, new, pairs, pair).into_iter();
+        if !entries.all(|entries| pairs.contains(&entries)) {
             return broken(3);
         }
     }
@@ -490,7 +520,7 @@ fn write_program(p: &Program) -> Vec<u8> {
 
 #[test]
 fn plain_rules() {
-    let (mut accepted, mut stored) = (0, 0);
+    let (mut accepted, mut stored, mut several) = (0, 0, 0);
     for number in 0..4_000 {
         let mut random = Random::new(77, number);
         let job = generate::job(&mut random);
@@ -550,6 +580,8 @@ fn plain_rules() {
             }
             Ok((p, q, suite)) => {
                 accepted += 1;
+                let mut nodes = p.nodes.iter();
+                several += usize::from(nodes.any(|node| node.2.contains(&b'+')));
                 assert_eq!(found, Answer::new(0, 0), "{number}");
                 let judged = check(&p, &q, &suite, &job.sheet, alike);
                 assert_eq!(
@@ -590,5 +622,6 @@ fn plain_rules() {
     }
     assert!(accepted > 2_000);
     // Of these, jobs with labels that match with other bytes.
-    assert!(stored > 500, "{stored}");
+    assert!(stored > 400, "{stored}");
+    assert!(several > 700, "{several}");
 }

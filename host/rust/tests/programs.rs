@@ -6,10 +6,11 @@
 //! The library, where it is linked, must do as the independent implementation.
 
 mod driving;
+mod whole;
 
 use driving::*;
 use rivetyellow_host::answer::Answer;
-use rivetyellow_host::calls::{Calls, INDEPENDENT, LINKED};
+use rivetyellow_host::calls::Calls;
 use rivetyellow_host::drive::{Call, Table, Text};
 use rivetyellow_host::generate::damage::{parts, spoil_program, twin};
 use rivetyellow_host::generate::limits::ring;
@@ -19,12 +20,9 @@ use rivetyellow_host::independent::{back, tables};
 use rivetyellow_host::records::{
     Node, Version, CALL_SCRATCH, LABEL, LINKS, NODES, PROGRAM, READ_SCRATCH,
 };
+use whole::all;
 
 // ---- whole jobs
-
-fn all() -> impl Iterator<Item = Calls> {
-    [Some(INDEPENDENT), LINKED].into_iter().flatten()
-}
 
 /// A call with an output of this length: its answer and what is written. What
 /// lies beyond stays.
@@ -433,16 +431,16 @@ fn edges_led_elsewhere() {
 fn tables_of_another_text() {
     for side in 0..2 {
         let mut drive = back();
-        // The call of node 2.
+        // The call of node 2; a callee's number is 1 + its procedure.
         let callee = 4 * 2 + 3;
         let other = with("call it,dn", "call it,q1");
-        drive.driver.put(NODES_OF[side], callee, 2);
+        drive.driver.put(NODES_OF[side], callee, 3);
         drive.refused(ask(side), 14, 0);
         drive.text(SIDES[side], &other);
         drive.writes(ask(side), &other);
-        drive.driver.put(NODES_OF[side], callee, 3);
+        drive.driver.put(NODES_OF[side], callee, 4);
         drive.refused(ask(side), 14, 0);
-        drive.driver.put(NODES_OF[side], callee, 1);
+        drive.driver.put(NODES_OF[side], callee, 2);
 
         // The word of the edge 1, by its key: 111 + 256 x 110 is `on`.
         let key = 448 + 5 + 2;

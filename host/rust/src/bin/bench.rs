@@ -5,11 +5,12 @@
 use rivetyellow_host::calls::{Calls, INDEPENDENT, LINKED};
 use rivetyellow_host::generate::labels::format_some;
 use rivetyellow_host::generate::limits::{
-    deep, formatted_ring, groups, many_tests, put_blanks, ring, wide,
+    deep, formatted_ring, fours, groups, many_tests, put_blanks, ring, wide,
 };
 use rivetyellow_host::generate::model::{joined, Program, Sheet};
 use rivetyellow_host::generate::random::Random;
 use rivetyellow_host::generate::sheets::all_alike;
+use rivetyellow_host::generate::tests::runs;
 use rivetyellow_host::independent::job::Job;
 use std::hint::black_box;
 use std::time::{Duration, Instant};
@@ -114,13 +115,25 @@ fn main() {
     let mut moved = blanks.clone();
     format_some(&mut random, &mut moved, 100);
     let formatted = Texts::new(&blanks, &moved, tests);
-    let own = own_sheet(&formatted);
+    let formatted_sheet = own_sheet(&formatted);
     let label = b"turn the drum until one layer of rope is on";
     let rings_formatted = Texts::new(
         &formatted_ring(&mut random, 46, label),
         &formatted_ring(&mut random, 89, label),
         Vec::new(),
     );
+
+    // Each step and each call has three partners. In one procedure a word is
+    // renamed, so a part of the tests is repeated.
+    let old = fours(1);
+    let mut new = fours(2);
+    let changed = &mut new.procedures[20];
+    for edge in changed.edges.iter_mut().filter(|edge| edge.word == b"stay") {
+        edge.word = b"wait".to_vec();
+    }
+    let rows = runs(&mut random, &old, 200, 2_000, 40);
+    let calls_of_four = Texts::new(&old, &new, rows);
+    let calls_of_four_sheet = own_sheet(&calls_of_four);
 
     let cases: Vec<(&str, Run)> = vec![
         (
@@ -150,10 +163,22 @@ fn main() {
             "sheet: 512 nodes, blanks moved in labels",
             write_sheet(&formatted),
         ),
-        ("check: this sheet", check(&formatted, &own)),
+        ("check: this sheet", check(&formatted, &formatted_sheet)),
         (
             "sheet: rings 46 x 89, blanks moved in labels",
             write_sheet(&rings_formatted),
+        ),
+        (
+            "sheet: 64 procedures, calls of four each",
+            write_sheet(&calls_of_four),
+        ),
+        (
+            "check: this sheet",
+            check(&calls_of_four, &calls_of_four_sheet),
+        ),
+        (
+            "record: one line of 200, calls of four each",
+            write_records(&calls_of_four, 200),
         ),
     ];
 

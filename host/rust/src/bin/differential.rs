@@ -2,19 +2,21 @@
 //! implementation on COUNT generated jobs, every call of each, answers and
 //! lent bytes. Exits 1 on a difference; the first one's job is left in
 //! `differential-job`. It exits 1 too if COUNT is 20,000 or more and labels that
-//! match with other bytes, or that nearly match, were met too seldom. Without
-//! the library it exits 2 after the statistics.
+//! match with other bytes, or that nearly match, or what calls of several names
+//! show, were met too seldom. Without the library it exits 2 after the
+//! statistics.
 
 use rivetyellow_host::answer::{meaning, Answer};
 use rivetyellow_host::calls::{Calls, INDEPENDENT, LINKED};
 use rivetyellow_host::generate::labels::parts;
 use rivetyellow_host::generate::random::Random;
-use rivetyellow_host::generate::sheets::label;
+use rivetyellow_host::generate::sheets::{label, lists};
 use rivetyellow_host::generate::{self, Generated};
-use rivetyellow_host::independent::closing::{self, Closing, Graph};
+use rivetyellow_host::independent::closing::{self, called, Closing, Graph, Pairs};
 use rivetyellow_host::independent::job::Job;
 use rivetyellow_host::independent::program::Kind;
 use rivetyellow_host::independent::suite::meet;
+use rivetyellow_host::independent::text::Name;
 use rivetyellow_host::lent::{front, pattern, Lent};
 use std::collections::BTreeMap;
 use std::time::Instant;
@@ -48,9 +50,49 @@ const BLANK_MORE: &str = "ends not alike by labels equal once all blanks are dro
 const BLANK_FOR_BYTE: &str = "ends not alike by labels with a blank for another byte";
 const LONGER: &str = "ends not alike by labels of which one begins the other";
 
+/// Pairs of calls, of which those of several names go on, or wait for the exits
+/// of the callee at a place.
+const SEVERAL_JOBS: &str = "accepted jobs with pairs of calls of several names";
+const GOING: [&str; 4] = [
+    "pairs of calls of one name that go on",
+    "pairs of calls of two names that go on",
+    "pairs of calls of three names that go on",
+    "pairs of calls of four names that go on",
+];
+const STAYING: [&str; 4] = [
+    "pairs of calls of several names that wait at the first",
+    "pairs of calls of several names that wait at the second",
+    "pairs of calls of several names that wait at the third",
+    "pairs of calls of several names that wait at the fourth",
+];
+const REPEATED_NAME: &str = "pairs of calls with a name twice that go on";
+const OWN_LATER: &str = "pairs of calls whose later callee is their own procedure";
+const OWN_RETURNS: &str = "pairs of calls whose later callee is their own procedure, that go on";
+/// Ends of edges with one word that are not alike only by their callees.
+const OTHER_ORDER: &str = "ends not alike by the order of callees";
+const OTHER_CALLEE: &str = "ends not alike by one of several callees";
+const CALLEE_MORE: &str = "ends not alike by a callee more or less";
+/// Refusals of a callee field.
+const UNKNOWN: [&str; 4] = [
+    "unknown callees, the first of them at place 1 of several",
+    "unknown callees, the first of them at place 2",
+    "unknown callees, the first of them at place 3",
+    "unknown callees, the first of them at place 4",
+];
+const FIFTH: &str = "calls of five names or more";
+const EMPTY_FIRST: &str = "empty names of several callees, at the front";
+const EMPTY_INNER: &str = "empty names of several callees, between two";
+const EMPTY_LAST: &str = "empty names of several callees, at the end";
+const LONG_NAME: &str = "callees of 13 bytes among several";
+/// Sheets by what they list of the callees of listed pairs.
+const ENTRIES_MISSING: &str = "sheets that break rule 3 at a later callee alone";
+const EXITS_CUT: &str = "sheets that pass without the exits of a later callee alone";
+const LATER_CUT: &str = "sheets that pass without the entries of a later callee";
+const EXITS_MISSING: &str = "sheets that break rule 4, without the exits of a later callee alone";
+
 /// In so many jobs each of these must be met at least so often.
 const ENOUGH: u64 = 20_000;
-const MET: [(&str, u64); 7] = [
+const MET: [(&str, u64); 35] = [
     (OTHER_BYTES, 10_000),
     (OTHER_JOBS, 1_000),
     (OTHER_CALLS, 1_000),
@@ -58,6 +100,34 @@ const MET: [(&str, u64); 7] = [
     (BLANK_MORE, 500),
     (BLANK_FOR_BYTE, 500),
     (LONGER, 500),
+    (SEVERAL_JOBS, 1_500),
+    (GOING[0], 2_000),
+    (GOING[1], 400),
+    (GOING[2], 400),
+    (GOING[3], 400),
+    (STAYING[0], 500),
+    (STAYING[1], 150),
+    (STAYING[2], 80),
+    (STAYING[3], 20),
+    (REPEATED_NAME, 500),
+    (OWN_LATER, 200),
+    (OWN_RETURNS, 15),
+    (OTHER_ORDER, 40),
+    (OTHER_CALLEE, 20),
+    (CALLEE_MORE, 60),
+    (UNKNOWN[0], 20),
+    (UNKNOWN[1], 20),
+    (UNKNOWN[2], 5),
+    (UNKNOWN[3], 3),
+    (FIFTH, 50),
+    (EMPTY_FIRST, 15),
+    (EMPTY_INNER, 8),
+    (EMPTY_LAST, 15),
+    (LONG_NAME, 10),
+    (ENTRIES_MISSING, 10),
+    (EXITS_MISSING, 10),
+    (EXITS_CUT, 80),
+    (LATER_CUT, 60),
 ];
 
 #[derive(Default)]
@@ -91,7 +161,7 @@ impl Statistics {
                 self.count(OTHER_CALLS, call);
                 self.count(BLANKS_ONLY, parts(one).is_empty());
             }
-            if call && !goes_on(old, new, closed, n, m) {
+            if waits_at(old, new, &closed.pairs, (n, m)).is_some() {
                 continue;
             }
             for edge in old.leaving(n) {
@@ -107,14 +177,24 @@ impl Statistics {
 
     /// Counts two nodes that are not alike.
     fn near(&mut self, old: &Graph, new: &Graph, n: u16, m: u16) {
-        let callee = |graph: &Graph, node| match graph.kind(node) {
-            Kind::Call => graph.program.procedures[graph.callee(node) as usize].name,
-            _ => 0,
-        };
-        if old.kind(n) != new.kind(m) || callee(old, n) != callee(new, m) {
+        if old.kind(n) != new.kind(m) {
             return;
         }
         let (one, other) = (parts(label(old, n)), parts(label(new, m)));
+        let names = |graph: &Graph, node| -> Vec<Name> {
+            let procedures = &graph.program.procedures;
+            let callees = graph.callees(node).iter();
+            callees
+                .map(|&callee| procedures[callee as usize].name)
+                .collect()
+        };
+        let (called, others) = (names(old, n), names(new, m));
+        if called != others {
+            if one == other {
+                self.other_callees(called, others);
+            }
+            return;
+        }
         self.count(BLANK_MORE, one.concat() == other.concat());
         let (one, other) = (one.join(&b' '), other.join(&b' '));
         let blank = |(a, b): (&u8, &u8)| a == b || *a == b' ' || *b == b' ';
@@ -122,6 +202,115 @@ impl Statistics {
         let same = one.len() == other.len();
         self.count(BLANK_FOR_BYTE, same && bytes.clone().all(blank));
         self.count(LONGER, !same && bytes.clone().all(|(a, b)| a == b));
+    }
+
+    /// Counts calls that are not alike by the names of their callees.
+    fn other_callees(&mut self, mut called: Vec<Name>, mut others: Vec<Name>) {
+        let same = called.len() == others.len();
+        let differing = called
+            .iter()
+            .zip(&others)
+            .filter(|(one, other)| one != other);
+        let one = same && called.len() > 1 && differing.count() == 1;
+        self.count(OTHER_CALLEE, one);
+        self.count(CALLEE_MORE, called.len().abs_diff(others.len()) == 1);
+        called.sort();
+        others.sort();
+        self.count(OTHER_ORDER, called == others);
+    }
+
+    /// Counts pairs of calls by their callees.
+    fn calls(&mut self, old: &Graph, new: &Graph, closed: &Closing) {
+        let mut job = false;
+        for &(n, m) in &closed.pairs.list {
+            let callees = old.callees(n);
+            let count = callees.len();
+            if count == 0 {
+                continue;
+            }
+            let waits = waits_at(old, new, &closed.pairs, (n, m));
+            job |= count > 1;
+            match waits {
+                None => self.count(GOING[count - 1], true),
+                Some(place) => self.count(STAYING[place], count > 1),
+            }
+            let twice = (1..count).any(|at| callees[..at].contains(&callees[at]));
+            self.count(REPEATED_NAME, twice && waits.is_none());
+            let own = callees[1..].contains(&old.procedure(n));
+            self.count(OWN_LATER, own);
+            self.count(OWN_RETURNS, own && waits.is_none());
+        }
+        self.count(SEVERAL_JOBS, job);
+    }
+
+    /// Counts the refusal of a program by the callee field of its line.
+    fn refused(&mut self, text: &[u8], answer: Answer) {
+        let line = text
+            .split(|&byte| byte == b'\n')
+            .nth(answer.place as usize - 1);
+        let fields: Vec<&[u8]> = line
+            .unwrap_or_default()
+            .split(|&byte| byte == b',')
+            .collect();
+        let [b"N", b"C", _, field] = fields[..] else {
+            return;
+        };
+        let names: Vec<&[u8]> = field.split(|&byte| byte == b'+').collect();
+        let count = names.len();
+        if answer.number == 9 {
+            let known = |name: &&[u8]| {
+                let procedure = [b"P,", *name].concat();
+                text.split(|&byte| byte == b'\n')
+                    .any(|line| line == procedure)
+            };
+            if let Some(place) = names.iter().position(|name| !known(name)) {
+                self.count(UNKNOWN[place], count > 1);
+            }
+            return;
+        }
+        let empty: Vec<usize> = (0..count).filter(|&at| names[at].is_empty()).collect();
+        if count > 1 && empty.len() == 1 {
+            let place = match empty[0] {
+                0 => EMPTY_FIRST,
+                last if last == count - 1 => EMPTY_LAST,
+                _ => EMPTY_INNER,
+            };
+            self.count(place, true);
+        }
+        let right = |name: &&[u8]| {
+            let byte = |byte: &u8| byte.is_ascii_alphanumeric() || *byte == b'_';
+            (1..=12).contains(&name.len()) && name.iter().all(byte)
+        };
+        self.count(FIFTH, count > 4 && names.iter().all(right));
+        let long = names.iter().filter(|name| name.len() == 13).count() == 1;
+        let others = names.iter().filter(|name| right(name)).count() == count - 1;
+        self.count(LONG_NAME, (2..=4).contains(&count) && long && others);
+    }
+
+    /// Counts a sheet by what it lists of callees.
+    fn sheet(&mut self, job: &Job, text: &[u8], answer: Answer) {
+        let (old, new) = job.graphs();
+        let listed = lists(job, text).pairs;
+        let is = |(n, m): (u16, u16)| listed.contains(&(n as usize, m as usize));
+        let (mut first, mut later) = (false, false);
+        let (mut exits_missing, mut entries_missing) = (false, false);
+        for &(n, m) in &listed {
+            let mut met = true;
+            for (place, (entries, exits)) in called(&old, &new, (n as u16, m as u16)).enumerate() {
+                if met && !is(entries) {
+                    first |= place == 0;
+                    later |= place > 0;
+                }
+                exits_missing |= met && place > 0 && is(entries) && !is(exits);
+                entries_missing |= !met && place > 0 && !is(entries);
+                met &= is(exits);
+            }
+        }
+        let broken = |rule| answer == Answer::new(12, rule);
+        self.count(ENTRIES_MISSING, broken(3) && later && !first);
+        self.count(EXITS_MISSING, broken(4) && exits_missing);
+        self.count(EXITS_CUT, answer.is_success() && exits_missing);
+        self.count(LATER_CUT, answer.is_success() && entries_missing);
     }
 
     fn answer(&mut self, call: usize, answer: Answer) {
@@ -222,8 +411,19 @@ impl<'g> Comparison<'g> {
         for (at, call) in [0, 1, 2, 5].into_iter().enumerate() {
             self.judge(call, expected[at], found.map(|found| found[at]));
         }
+        for (text, answer) in [old, new].into_iter().zip(expected) {
+            if matches!(answer.number, 2 | 9) {
+                self.statistics.refused(text, answer);
+                break;
+            }
+        }
         let passed = expected[3].is_success();
         self.statistics.count("sheets that pass", passed);
+        if passed || expected[3].number == 12 {
+            if let Ok(job) = Job::read(old, new, tests) {
+                self.statistics.sheet(&job, sheet, expected[3]);
+            }
+        }
         if self.job.passes && !passed {
             self.differ(format!("a sheet made to pass is refused: {}", expected[3]));
         }
@@ -368,13 +568,14 @@ impl<'g> Comparison<'g> {
         for &(n, m) in &closed.pairs.list {
             *partners.entry(n).or_insert(0) += 1;
             if old.kind(n) == Kind::Call {
-                let goes_on = goes_on(&old, &new, &closed, n, m);
-                going |= goes_on;
-                staying |= !goes_on;
+                let waits = waits_at(&old, &new, &closed.pairs, (n, m)).is_some();
+                going |= !waits;
+                staying |= waits;
             }
         }
         let statistics = &mut *self.statistics;
         statistics.labels(&old, &new, &closed);
+        statistics.calls(&old, &new, &closed);
         let mut pairs = closed.pairs.list.iter();
         let other = pairs.any(|&(n, m)| label(&old, n) != label(&new, m));
         statistics.count(OTHER_JOBS, other);
@@ -404,10 +605,10 @@ impl<'g> Comparison<'g> {
     }
 }
 
-/// Whether a pair of calls may go on.
-fn goes_on(old: &Graph, new: &Graph, closed: &Closing, n: u16, m: u16) -> bool {
-    let exits = (old.ends(old.callee(n)).1, new.ends(new.callee(m)).1);
-    closed.pairs.contains(exits.0, exits.1)
+/// The place of the first callee whose exits are no pair; none where a pair
+/// may go on.
+fn waits_at(old: &Graph, new: &Graph, pairs: &Pairs, pair: (u16, u16)) -> Option<usize> {
+    called(old, new, pair).position(|(_, exits)| !pairs.contains(exits.0, exits.1))
 }
 
 /// Leaves the job of a difference as files.

@@ -8,7 +8,7 @@ use std::ops::Range;
 
 const BYTES: &[u8] = b"\n\n,,\x00\r \t0019azAZ_-*~\x7f\x80\xffPNBTMDRESCX";
 
-const LINES: [&[u8]; 22] = [
+const LINES: [&[u8]; 26] = [
     b"P,f",
     b"P,new",
     b"P,main",
@@ -23,6 +23,10 @@ const LINES: [&[u8]; 22] = [
     b"N,C,a,f",
     b"N,C,a,nobody",
     b"N,C,a,",
+    b"N,C,a,f+f",
+    b"N,C,a,f+nobody",
+    b"N,C,a,f+",
+    b"N,C,a,f+f+f+f+f",
     b"N,Q,,",
     b"N,E,a,",
     b"B,0,-,1",
@@ -33,13 +37,15 @@ const LINES: [&[u8]; 22] = [
     b"B,1,T,0",
 ];
 
-const FIELDS: [&[u8]; 18] = [
+const FIELDS: [&[u8]; 20] = [
     b"",
     b"-",
     b"a",
     b"f",
     b"main",
     b"nobody",
+    b"f+main",
+    b"main+",
     b"E",
     b"S",
     b"C",
@@ -191,6 +197,51 @@ fn damage_line(random: &mut Random, text: &mut Bytes) {
     *text = lines.concat();
 }
 
+/// Damages the callee field of a call: an empty name, a fifth one, one of 13
+/// bytes, one that no procedure has, at any place; another byte for a `+`.
+pub fn damage_callees(random: &mut Random, text: &mut Bytes) {
+    let callees = places(&parts(text), Part::Callee);
+    let split = |place: &Range<usize>| -> Vec<Bytes> {
+        let names = text[place.clone()].split(|&byte| byte == b'+');
+        names.map(<[u8]>::to_vec).collect()
+    };
+    let place = match random.percent(50) {
+        true => callees.iter().max_by_key(|place| split(place).len()),
+        false => callees.get(random.below(callees.len().max(1))),
+    };
+    let Some(place) = place else {
+        return;
+    };
+    let mut names = split(place);
+    let count = names.len();
+    let at = match random.one_in(3) {
+        true => count - 1,
+        false => random.below(count),
+    };
+    let before = random.below(count + 1);
+    let mut joint = b'+';
+    match random.below(12) {
+        0..=1 => names.insert(before, Bytes::new()),
+        2 => names[at].clear(),
+        // Names that may all be known; the fifth is one too many.
+        3..=4 => {
+            let last = random.within(5, 6);
+            while names.len() < last {
+                names.insert(random.below(names.len() + 1), names[at].clone());
+            }
+        }
+        5 => names[at] = b"thirteenbytes".to_vec(),
+        6..=7 => names[at] = b"nobody".to_vec(),
+        8..=9 => names.insert(before, b"nobody".to_vec()),
+        10 => names[at].push(*random.pick(b"+ -*\0")),
+        _ => {
+            names.insert(before, names[at].clone());
+            joint = *random.pick(b"-,* _\n\t&");
+        }
+    }
+    text.splice(place.clone(), names.join(&joint));
+}
+
 // ---- a program text that was read, spoilt before it is written back
 
 /// What is taken from a program text when it is written back.
@@ -234,6 +285,8 @@ pub const OTHER_BYTES: &str = "bytes of no part changed";
 pub const LABEL_BYTE: &str = "a byte of a label changed";
 pub const NAME_BYTE: &str = "a byte of a name changed";
 pub const CALLEE_BYTE: &str = "a byte of a callee changed";
+pub const PLUS_BYTE: &str = "a `+` between two callees changed";
+pub const CALLEES_EXCHANGED: &str = "two callees of a call exchanged";
 pub const WORD_BYTE: &str = "a byte of a word changed";
 pub const RENAMED: &str = "a byte of a name changed, in its calls too";
 pub const NAMES_EXCHANGED: &str = "two names exchanged";
@@ -249,7 +302,7 @@ const PART_BYTES: &[u8] = b",\n\x00\x1f\x7f\xff ,\n 07_-*";
 /// Spoils a program text that was accepted, and says what of it.
 pub fn spoil_program(random: &mut Random, text: &mut Bytes) -> &'static str {
     let parts = parts(text);
-    let spoilt = match random.below(24) {
+    let spoilt = match random.below(27) {
         0..=3 => spoil_byte(random, text, &parts, Part::Label).then_some(LABEL_BYTE),
         4..=5 => spoil_byte(random, text, &parts, Part::Name).then_some(NAME_BYTE),
         6..=7 => spoil_byte(random, text, &parts, Part::Callee).then_some(CALLEE_BYTE),
@@ -257,8 +310,15 @@ pub fn spoil_program(random: &mut Random, text: &mut Bytes) -> &'static str {
         10..=11 => rename(random, text, &parts).then_some(RENAMED),
         12 => exchange(random, text, &parts, false).then_some(NAMES_EXCHANGED),
         13 => exchange(random, text, &parts, true).then_some(CALLS_EXCHANGED),
-        14 => replace(random, text, &parts, Part::Callee, Part::Name).then_some(OTHER_CALLEE),
-        15 => replace(random, text, &parts, Part::Word, Part::Word).then_some(OTHER_WORD),
+        14 => {
+            let called = names_called(text, &parts);
+            let names = places(&parts, Part::Name);
+            replace(random, text, &called, &names).then_some(OTHER_CALLEE)
+        }
+        15 => {
+            let words = places(&parts, Part::Word);
+            replace(random, text, &words, &words).then_some(OTHER_WORD)
+        }
         16 => {
             let at = match random.percent(50) {
                 true => text.len(),
@@ -275,6 +335,8 @@ pub fn spoil_program(random: &mut Random, text: &mut Bytes) -> &'static str {
             text.remove(at);
             Some(BYTE_LESS)
         }
+        18..=19 => spoil_plus(random, text, &parts).then_some(PLUS_BYTE),
+        20 => exchange_callees(random, text, &parts).then_some(CALLEES_EXCHANGED),
         _ => None,
     };
     spoilt.unwrap_or_else(|| {
@@ -287,6 +349,20 @@ pub fn spoil_program(random: &mut Random, text: &mut Bytes) -> &'static str {
 fn places(parts: &[Placed], sort: Part) -> Vec<Range<usize>> {
     let of = parts.iter().filter(|(part, _)| *part == sort);
     of.map(|(_, place)| place.clone()).collect()
+}
+
+/// The places of the names that the calls have; those of one call are next to
+/// each other.
+pub fn names_called(text: &[u8], parts: &[Placed]) -> Vec<Range<usize>> {
+    let mut names = Vec::new();
+    for field in places(parts, Part::Callee) {
+        let mut start = field.start;
+        for name in text[field].split(|&byte| byte == b'+') {
+            names.push(start..start + name.len());
+            start += name.len() + 1;
+        }
+    }
+    names
 }
 
 /// Where the bytes stand that are in no part.
@@ -340,6 +416,38 @@ fn spoil_byte(random: &mut Random, text: &mut Bytes, parts: &[Placed], sort: Par
     true
 }
 
+/// Changes a `+` between two callees, for a byte that a name may have, too.
+fn spoil_plus(random: &mut Random, text: &mut Bytes, parts: &[Placed]) -> bool {
+    let fields = places(parts, Part::Callee).into_iter().flatten();
+    let pluses: Vec<usize> = fields.filter(|&at| text[at] == b'+').collect();
+    if pluses.is_empty() {
+        return false;
+    }
+    let at = *random.pick(&pluses);
+    text[at] = other_byte(random, text[at]);
+    true
+}
+
+/// Exchanges two names next to each other in a call that are not the same.
+fn exchange_callees(random: &mut Random, text: &mut Bytes, parts: &[Placed]) -> bool {
+    let names = names_called(text, parts);
+    let both: Vec<_> = names
+        .windows(2)
+        .filter(|two| two[0].end + 1 == two[1].start)
+        .map(|two| two[0].start..two[1].end)
+        .collect();
+    if both.is_empty() {
+        return false;
+    }
+    let both = random.pick(&both).clone();
+    let mut exchanged: Vec<&[u8]> = text[both.clone()].split(|&byte| byte == b'+').collect();
+    exchanged.reverse();
+    let exchanged = exchanged.join(&b'+');
+    let other = text[both.clone()] != exchanged[..];
+    text[both].copy_from_slice(&exchanged);
+    other
+}
+
 /// Changes one byte of a name, and of every callee that is this name.
 fn rename(random: &mut Random, text: &mut Bytes, parts: &[Placed]) -> bool {
     let names = places(parts, Part::Name);
@@ -350,7 +458,7 @@ fn rename(random: &mut Random, text: &mut Bytes, parts: &[Placed]) -> bool {
     let name = text[place.clone()].to_vec();
     let at = random.below(name.len());
     let byte = other_byte(random, name[at]);
-    for callee in places(parts, Part::Callee) {
+    for callee in names_called(text, parts) {
         if text[callee.clone()] == name {
             text[callee.start + at] = byte;
         }
@@ -368,7 +476,7 @@ fn exchange(random: &mut Random, text: &mut Bytes, parts: &[Placed], calls: bool
     let (one, other) = (text[one].to_vec(), text[other].to_vec());
     let mut changed = names;
     if calls {
-        changed.extend(places(parts, Part::Callee));
+        changed.extend(names_called(text, parts));
     }
     for place in changed {
         if text[place.clone()] == one {
@@ -380,17 +488,15 @@ fn exchange(random: &mut Random, text: &mut Bytes, parts: &[Placed], calls: bool
     true
 }
 
-/// Puts a part of one sort where another as long stands that is not the same.
+/// Puts one of these parts where another as long stands that is not the same.
 fn replace(
     random: &mut Random,
     text: &mut Bytes,
-    parts: &[Placed],
-    spoilt: Part,
-    by: Part,
+    spoilt: &[Range<usize>],
+    by: &[Range<usize>],
 ) -> bool {
-    let (spoilt, by) = (places(parts, spoilt), places(parts, by));
     for _ in 0..8 {
-        if let Some((to, from)) = as_long(random, &spoilt, &by) {
+        if let Some((to, from)) = as_long(random, spoilt, by) {
             if text[to.clone()] != text[from.clone()] {
                 text.copy_within(from, to.start);
                 return true;

@@ -145,6 +145,69 @@ pub fn deep(count: usize) -> Program {
     Program { procedures }
 }
 
+/// 64 procedures of 8 nodes and 16 edges: a ring of three equal steps, with an
+/// equal call behind each that names the next four procedures; a step in its
+/// place where there are not so many. From each step a word leads to the one
+/// `on` places further in the ring, so for two programs that differ in this
+/// each step has three partners, and each call.
+pub fn fours(on: usize) -> Program {
+    let name = |at: usize| format!("procedure_{at:0>2}").into_bytes();
+    let procedures = (0..64)
+        .map(|at| {
+            let mut made = Procedure::new(&name(at));
+            let entry = made.node(b'E', b"", b"");
+            let names: Vec<Bytes> = (at + 1..64).take(4).map(name).collect();
+            let calls = names.len() == 4;
+            for _ in 0..3 {
+                made.node(b'S', &label(at), b"");
+                match calls {
+                    true => made.node(b'C', &label(100 + at), &names.join(&b'+')),
+                    false => made.node(b'S', &label(100 + at), b""),
+                };
+            }
+            let exit = made.node(b'X', b"", b"");
+            made.edge(entry, b"-", 1);
+            // The steps are the nodes 1, 3 and 5.
+            let step = |place: usize| 1 + 2 * (place % 3);
+            for place in 0..3 {
+                made.edge(step(place), b"go", step(place) + 1);
+                made.edge(step(place) + 1, b"-", step(place + 1));
+                made.edge(step(place), b"skip", step(place + on));
+                made.edge(step(place), b"stay", step(place));
+                made.edge(step(place), b"out", exit);
+            }
+            made
+        })
+        .collect();
+    Program { procedures }
+}
+
+/// A program of this length, all its lines right: 510 calls of four names, one
+/// after another.
+pub fn long_calls(length: usize) -> Program {
+    let name = b"twelve_bytes".to_vec();
+    let mut made = Procedure::new(&name);
+    made.node(b'E', b"", b"");
+    for call in 0..510 {
+        made.node(b'C', &label(call), &vec![name.clone(); 4].join(&b'+'));
+    }
+    made.node(b'X', b"", b"");
+    for from in 0..511 {
+        made.edge(from, b"-", from + 1);
+    }
+    let mut made = Program {
+        procedures: vec![made],
+    };
+    // Labels are made shorter from the first on, to one byte each.
+    let mut over = made.text().len() - length;
+    for node in labelled(&mut made) {
+        let cut = over.min(LABEL_LIMIT - 1);
+        node.label.drain(..cut);
+        over -= cut;
+    }
+    made
+}
+
 /// `count` procedures of an entry and an exit; the first also calls the last.
 fn many(count: usize) -> Program {
     let name = |at: usize| format!("p{at}").into_bytes();
@@ -224,7 +287,7 @@ impl Texts {
 /// A job with many lines or pairs.
 pub fn heavy(random: &mut Random) -> Texts {
     let over = random.below(2);
-    match random.below(9) {
+    match random.below(10) {
         0 => {
             let mut program = many(64 + over);
             match random.below(4) {
@@ -353,8 +416,37 @@ pub fn heavy(random: &mut Random) -> Texts {
             texts
         }
         7 => many_pairs(random),
+        8 => many_callees(random),
         _ => long_text(random),
     }
+}
+
+/// 64 procedures whose calls name four each. In some new ones a procedure does
+/// not return, or calls have their names in another order.
+fn many_callees(random: &mut Random) -> Texts {
+    let old = fours(1);
+    let mut new = fours(random.within(1, 2));
+    if random.percent(30) {
+        new.procedures[1..].reverse();
+    }
+    let at = random.within(1, 63);
+    match random.below(4) {
+        0 => {
+            // From its first step on nothing is alike.
+            new.procedures[at].nodes[1].label[0] = b'x';
+        }
+        1 => {
+            for node in labelled(&mut new).filter(|node| node.kind == b'C').take(9) {
+                let mut names = node.callees();
+                names.rotate_left(1);
+                node.call(&names);
+            }
+        }
+        _ => (),
+    }
+    let mut texts = Texts::both(&old, &new);
+    texts.tests = many_tests(random, 20, 1_024, 3);
+    texts
 }
 
 /// Sheets of 4,096 and 4,097 M lines for rings with 4,097 pairs.
@@ -408,6 +500,10 @@ fn long_text(random: &mut Random) -> Texts {
     let usual = Program {
         procedures: vec![fan(4)],
     };
+    if random.percent(30) {
+        let long = long_calls(65_536 + random.below(2));
+        return Texts::one_of(random, &usual, long.text());
+    }
     let mut texts = Texts::both(&usual, &usual);
     texts.tests = many_tests(random, 3, 5, 50);
     let mut sheet = b"sheet,1\nM,0,0\nM,1,1\nM,2,2\n".to_vec();
@@ -464,9 +560,16 @@ pub fn light(random: &mut Random) -> Texts {
             fan_of.edges[1].word = vec![b'w'; 8 + over];
         }
         4 => {
-            let name = vec![b'c'; 12 + over];
-            program.procedures[1].name = name.clone();
-            program.procedures[1].nodes[1].callee = name;
+            let name = vec![b'c'; 12];
+            let mut called = vec![name.clone(); random.within(1, 4)];
+            let at = random.below(called.len());
+            match random.below(3) {
+                0 => called[at].extend(vec![b'c'; over]),
+                1 if over == 1 => called = vec![name.clone(); 5],
+                _ => (),
+            }
+            program.procedures[1].name = name;
+            program.procedures[1].nodes[1].call(&called);
         }
         5 => {
             let mut texts = Texts::both(&usual, &usual);

@@ -1,5 +1,6 @@
 //! Jobs to compare implementations on. A job is fixed by seed and number.
 
+pub mod calling;
 pub mod damage;
 pub mod labels;
 pub mod limits;
@@ -32,6 +33,7 @@ fn texts(random: &mut Random) -> Texts {
     match random.below(1_000) {
         0..=5 => limits::heavy(random),
         6..=39 => limits::light(random),
+        40..=189 => calling(random),
         _ => small(random),
     }
 }
@@ -55,6 +57,13 @@ pub fn job(random: &mut Random) -> Generated {
             damage::damage(random, text);
         }
     }
+    if random.percent(5) {
+        let text = match random.percent(50) {
+            true => &mut texts.old,
+            false => &mut texts.new,
+        };
+        damage::damage_callees(random, text);
+    }
     finish(random, texts)
 }
 
@@ -67,6 +76,13 @@ fn small(random: &mut Random) -> Texts {
         1 => old.clone(),
         _ => programs::version(random, &pools, &old),
     };
+    with_tests(random, &old, &new)
+}
+
+/// Programs whose calls name several procedures, and tests.
+fn calling(random: &mut Random) -> Texts {
+    let pools = programs::Pools::new(random);
+    let (old, new) = calling::versions(random, &pools);
     with_tests(random, &old, &new)
 }
 

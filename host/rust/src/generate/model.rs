@@ -9,6 +9,7 @@ pub struct Node {
     /// E, S, C or X.
     pub kind: u8,
     pub label: Bytes,
+    /// The callee field: names joined by `+`.
     pub callee: Bytes,
 }
 
@@ -19,6 +20,16 @@ impl Node {
             label: label.to_vec(),
             callee: callee.to_vec(),
         }
+    }
+
+    /// The names that a call has.
+    pub fn callees(&self) -> Vec<Bytes> {
+        let names = self.callee.split(|&byte| byte == b'+');
+        names.map(<[u8]>::to_vec).collect()
+    }
+
+    pub fn call(&mut self, names: &[Bytes]) {
+        self.callee = names.join(&b'+');
     }
 }
 

@@ -63,6 +63,8 @@ pub struct Pools {
     /// others only nearly match.
     moved: usize,
     near: usize,
+    /// How many in a hundred calls name several procedures.
+    several: usize,
 }
 
 fn some(random: &mut Random, all: &[&[u8]], count: usize) -> Vec<Bytes> {
@@ -81,6 +83,7 @@ impl Pools {
             words: some(random, &WORDS, words),
             moved: *random.pick(&[0, 0, 0, 10, 60]),
             near: *random.pick(&[0, 0, 0, 5, 12]),
+            several: *random.pick(&[0, 0, 20, 70]),
         };
         if random.one_in(8) {
             pools.labels[0] = labels::long(random);
@@ -100,7 +103,7 @@ impl Pools {
         pools
     }
 
-    fn label(&self, random: &mut Random) -> Bytes {
+    pub fn label(&self, random: &mut Random) -> Bytes {
         let label = random.pick(&self.labels);
         if random.percent(self.moved) {
             return formatted(random, label);
@@ -112,6 +115,11 @@ impl Pools {
     }
 }
 
+/// Names of so many procedures.
+pub fn names(random: &mut Random, count: usize) -> Vec<Bytes> {
+    some(random, &NAMES, count)
+}
+
 /// A well-formed program of a few procedures.
 pub fn program(random: &mut Random, pools: &Pools) -> Program {
     let count = match random.below(10) {
@@ -119,19 +127,53 @@ pub fn program(random: &mut Random, pools: &Pools) -> Program {
         3..=6 => random.within(2, 3),
         _ => random.within(3, 6),
     };
-    let names = some(random, &NAMES, count);
-    let procedures = (0..count)
+    let names = names(random, count);
+    let mut procedures: Vec<Procedure> = (0..count)
         .map(|at| procedure(random, pools, &names, at))
         .collect();
+    if count > 1 && random.one_in(12) {
+        let at = random.within(1, count - 1);
+        never_return(random, &mut procedures[at]);
+    }
     Program { procedures }
 }
 
-/// Any callee, later procedures first, so that most calls return.
-fn callee(random: &mut Random, names: &[Bytes], own: usize) -> Bytes {
-    if own + 1 < names.len() && random.percent(80) {
+/// A name to call: in so many of a hundred a later procedure, if there is one.
+/// Most calls of these return.
+fn callee(random: &mut Random, names: &[Bytes], own: usize, later: usize) -> Bytes {
+    if own + 1 < names.len() && random.percent(later) {
         return names[random.within(own + 1, names.len() - 1)].clone();
     }
     random.pick(names).clone()
+}
+
+/// The names of a call: one, or up to four. A later one may be there already,
+/// or be the calling procedure.
+fn callees(random: &mut Random, pools: &Pools, names: &[Bytes], own: usize) -> Vec<Bytes> {
+    if !random.percent(pools.several) {
+        return vec![callee(random, names, own, 80)];
+    }
+    let mut called = vec![callee(random, names, own, 92)];
+    for _ in 0..random.within(1, 3) {
+        let name = match random.below(24) {
+            0..=4 => random.pick(&called).clone(),
+            5 => names[own].clone(),
+            _ => callee(random, names, own, 92),
+        };
+        called.push(name);
+    }
+    called
+}
+
+/// Leads every edge to the exit elsewhere.
+pub fn never_return(random: &mut Random, procedure: &mut Procedure) {
+    let exit = procedure.find(b'X');
+    let others: Vec<usize> = (0..procedure.nodes.len())
+        .filter(|&node| node != exit)
+        .collect();
+    for edge in procedure.edges.iter_mut().filter(|edge| edge.to == exit) {
+        edge.to = *random.pick(&others);
+    }
 }
 
 fn procedure(random: &mut Random, pools: &Pools, names: &[Bytes], own: usize) -> Procedure {
@@ -143,8 +185,8 @@ fn procedure(random: &mut Random, pools: &Pools, names: &[Bytes], own: usize) ->
         let label = pools.label(random);
         // Without a later procedure a call is recursive, and seldom returns.
         if random.percent(if later { 40 } else { 4 }) {
-            let callee = callee(random, names, own);
-            made.node(b'C', &label, &callee);
+            let called = callees(random, pools, names, own);
+            made.node(b'C', &label, &called.join(&b'+'));
         } else {
             made.node(b'S', &label, b"");
         }
@@ -212,15 +254,7 @@ pub fn version(random: &mut Random, pools: &Pools, old: &Program) -> Program {
         5..=7 => random.within(2, 3),
         _ => random.within(3, 6),
     };
-    if random.percent(75) {
-        for _ in 0..random.within(1, 4) {
-            let own = match random.percent(50) {
-                true => 0,
-                false => random.below(new.procedures.len()),
-            };
-            let _ = double_node(random, &mut new.procedures[own]);
-        }
-    }
+    double_nodes(random, &mut new);
     for _ in 0..changes {
         change(random, pools, &mut new);
     }
@@ -228,9 +262,22 @@ pub fn version(random: &mut Random, pools: &Pools, old: &Program) -> Program {
     new
 }
 
+/// Doubles nodes of most programs.
+pub fn double_nodes(random: &mut Random, program: &mut Program) {
+    if random.percent(75) {
+        for _ in 0..random.within(1, 4) {
+            let own = match random.percent(50) {
+                true => 0,
+                false => random.below(program.procedures.len()),
+            };
+            let _ = double_node(random, &mut program.procedures[own]);
+        }
+    }
+}
+
 /// Blanks moved in every label or in some, then some labels made such that
 /// they only nearly match.
-fn reformat(random: &mut Random, program: &mut Program) {
+pub fn reformat(random: &mut Random, program: &mut Program) {
     match random.below(12) {
         0..=2 => format_some(random, program, 100),
         3 => format_some(random, program, 30),
@@ -256,7 +303,7 @@ fn nodes_of(procedure: &Procedure, kinds: &[u8]) -> Vec<usize> {
         .collect()
 }
 
-fn any_node(random: &mut Random, procedure: &Procedure, kinds: &[u8]) -> Option<usize> {
+pub fn any_node(random: &mut Random, procedure: &Procedure, kinds: &[u8]) -> Option<usize> {
     let nodes = nodes_of(procedure, kinds);
     (!nodes.is_empty()).then(|| *random.pick(&nodes))
 }
@@ -268,17 +315,18 @@ fn edges_of(procedure: &Procedure, node: usize) -> Vec<usize> {
         .collect()
 }
 
-fn change(random: &mut Random, pools: &Pools, program: &mut Program) {
+pub fn change(random: &mut Random, pools: &Pools, program: &mut Program) {
     match random.below(30) {
         0 => return reorder(random, program),
         1 => return rename(random, program),
         2 => return add_procedure(random, program),
+        3 => return strand(random, pools, program),
         _ => (),
     }
     let names: Vec<Bytes> = program.procedures.iter().map(|p| p.name.clone()).collect();
     let own = random.below(names.len());
     let procedure = &mut program.procedures[own];
-    let _ = match random.below(20) {
+    let _ = match random.below(21) {
         0..=2 => relabel(random, pools, procedure),
         3..=4 => redirect(random, procedure),
         5 => rename_word(random, pools, procedure),
@@ -288,9 +336,9 @@ fn change(random: &mut Random, pools: &Pools, program: &mut Program) {
         9..=13 => double_node(random, procedure),
         14 => remove_node(random, procedure),
         15 => insert_node(random, pools, procedure),
-        16 => change_callee(random, &names, own, procedure),
-        17 => change_kind(random, &names, own, procedure),
-        18 => {
+        16..=17 => change_callees(random, pools, &names, own, procedure),
+        18 => change_kind(random, pools, &names, own, procedure),
+        19 => {
             shuffle_nodes(random, procedure);
             Some(())
         }
@@ -315,9 +363,11 @@ fn rename(random: &mut Random, program: &mut Program) {
     let before = std::mem::replace(&mut program.procedures[at].name, name.clone());
     if random.percent(95) {
         for node in program.procedures.iter_mut().flat_map(|p| &mut p.nodes) {
-            if node.callee == before {
-                node.callee = name.clone();
+            let mut names = node.callees();
+            for called in names.iter_mut().filter(|called| **called == before) {
+                *called = name.clone();
             }
+            node.call(&names);
         }
     }
 }
@@ -327,6 +377,28 @@ fn add_procedure(random: &mut Random, program: &mut Program) {
     copy.name = random.pick(&NAMES).to_vec();
     if program.find(&copy.name).is_none() {
         program.procedures.push(copy);
+    }
+}
+
+/// Changes a procedure that stands among the callees of a call such that its
+/// exits may no longer meet.
+fn strand(random: &mut Random, pools: &Pools, program: &mut Program) {
+    let nodes = program.procedures.iter().flat_map(|p| &p.nodes);
+    let several = nodes.filter(|node| node.callee.contains(&b'+'));
+    let called: Vec<Bytes> = several.flat_map(Node::callees).collect();
+    if called.is_empty() {
+        return;
+    }
+    let name = random.pick(&called);
+    let Some(at) = program.find(name) else {
+        return;
+    };
+    let procedure = &mut program.procedures[at];
+    match random.percent(50) {
+        true => never_return(random, procedure),
+        false => {
+            let _ = relabel(random, pools, procedure);
+        }
     }
 }
 
@@ -494,22 +566,40 @@ fn insert_node(random: &mut Random, pools: &Pools, procedure: &mut Procedure) ->
     Some(())
 }
 
-fn change_callee(
+/// Changes the names of a call: other ones, their order, one of them, one more
+/// or less. Seldom there is a name that no procedure has, or a fifth one.
+fn change_callees(
     random: &mut Random,
+    pools: &Pools,
     names: &[Bytes],
     own: usize,
     procedure: &mut Procedure,
 ) -> Option<()> {
     let node = any_node(random, procedure, b"C")?;
-    procedure.nodes[node].callee = match random.one_in(20) {
+    let mut called = procedure.nodes[node].callees();
+    let count = called.len();
+    let at = random.below(count);
+    let name = match random.one_in(20) {
         true => random.pick(&NAMES).to_vec(),
-        false => callee(random, names, own),
+        false => callee(random, names, own, 80),
     };
+    match random.below(8) {
+        0..=1 if count > 1 => called.swap(at, (at + 1) % count),
+        2 if count > 1 => called.rotate_left(1),
+        3..=4 => called[at] = name,
+        5 if count > 1 => {
+            called.remove(at);
+        }
+        6 if count < 4 || random.one_in(4) => called.insert(random.below(count + 1), name),
+        _ => called = callees(random, pools, names, own),
+    }
+    procedure.nodes[node].call(&called);
     Some(())
 }
 
 fn change_kind(
     random: &mut Random,
+    pools: &Pools,
     names: &[Bytes],
     own: usize,
     procedure: &mut Procedure,
@@ -525,7 +615,8 @@ fn change_kind(
         return None;
     }
     procedure.nodes[node].kind = b'C';
-    procedure.nodes[node].callee = callee(random, names, own);
+    let called = callees(random, pools, names, own);
+    procedure.nodes[node].call(&called);
     procedure.edges[edges[0]].word = b"-".to_vec();
     Some(())
 }

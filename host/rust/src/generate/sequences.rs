@@ -2,13 +2,14 @@
 //! and ask for several things at stage 3; before some calls a text, a table,
 //! the job or a length is spoilt, and made right again afterwards.
 
-use super::damage::{self, damage, parts, spoil_program, twin, Part};
+use super::damage::{self, damage, names_called, parts, spoil_program, twin, Part};
 use super::limits::{self, formatted_ring, many_tests, ring};
 use super::random::Random;
 use super::{finish, mostly_right, Generated};
 use crate::answer::Answer;
 use crate::drive::{Bytes, Call, Driver, Table, Text, OUTPUT};
-use crate::records::{self, CHECK, LABEL, PROGRAM, RECORD, SHEET};
+use crate::records::{self, joined_callees, CHECK, LABEL, PROGRAM, RECORD, SHEET};
+use std::ops::Range;
 
 /// What was spoilt before a call, and the number that the call answered.
 pub type Spoilt = (&'static str, u32);
@@ -24,7 +25,7 @@ const TWIN: &str = "another text of the same parts";
 /// The numbers due for what is spoilt before a program is written back: 0
 /// where there may be a text that leaves the tables and has the parts of the
 /// one lent, 14 where there may be none.
-pub const WRITTEN_BACK: [Spoilt; 20] = [
+pub const WRITTEN_BACK: [Spoilt; 22] = [
     (MENDED, 0),
     (damage::OTHER_BYTES, 0),
     (damage::LABEL_BYTE, 0),
@@ -32,6 +33,8 @@ pub const WRITTEN_BACK: [Spoilt; 20] = [
     (damage::NAME_BYTE, 0),
     (damage::NAME_BYTE, 14),
     (damage::CALLEE_BYTE, 14),
+    (damage::PLUS_BYTE, 14),
+    (damage::CALLEES_EXCHANGED, 14),
     (damage::WORD_BYTE, 14),
     (damage::RENAMED, 0),
     (damage::RENAMED, 14),
@@ -211,7 +214,7 @@ impl Maker<'_> {
 
     /// Lends a plain text in place of the one that this stage refuses.
     fn plain_text(&mut self, stage: usize) {
-        let program: &[u8] = b"P,up\nN,E,,\nN,C,wind,in\nN,X,,\nB,0,-,1\nB,1,-,2\n\
+        let program: &[u8] = b"P,up\nN,E,,\nN,C,wind,in+in\nN,X,,\nB,0,-,1\nB,1,-,2\n\
             P,in\nN,E,,\nN,S,turn,\nN,X,,\nB,3,-,4\nB,4,go,5\n";
         match stage {
             0 => self.driver.lend_text(Text::Old, program),
@@ -406,32 +409,40 @@ impl Maker<'_> {
     }
 
     /// Leads a call to another procedure whose name is as long, in text and
-    /// tables.
+    /// tables; where it names several, one of them.
     fn lead_call(&mut self, side: usize, mends: &mut Vec<Mend>) -> Option<&'static str> {
-        let mut bytes = self.driver.text(PROGRAMS[side]).to_vec();
+        let bytes = self.driver.text(PROGRAMS[side]).to_vec();
         let all = parts(&bytes);
-        let of = |part: Part| all.iter().filter(move |(kind, _)| *kind == part);
-        let callees: Vec<_> = of(Part::Callee).collect();
-        if callees.is_empty() {
+        let called = names_called(&bytes, &all);
+        if called.is_empty() {
             return None;
         }
-        let place = self.random.pick(&callees).1.clone();
-        let names = of(Part::Name).enumerate();
-        let others: Vec<_> = names
-            .filter(|(_, (_, name))| {
-                name.len() == place.len() && bytes[name.clone()] != bytes[place.clone()]
-            })
-            .collect();
+        let place = self.random.pick(&called).clone();
+        let names = all.iter().filter(|(part, _)| *part == Part::Name);
+        let names: Vec<_> = names.map(|(_, name)| name.clone()).collect();
+        let other = |name: &&Range<usize>| {
+            name.len() == place.len() && bytes[(*name).clone()] != bytes[place.clone()]
+        };
+        let others: Vec<_> = names.iter().filter(other).cloned().collect();
         if others.is_empty() {
             return None;
         }
-        let (procedure, (_, name)) = *self.random.pick(&others);
-        let lines = bytes[..place.start].split(|&byte| byte == b'\n');
-        let node = lines.filter(|line| line.first() == Some(&b'N')).count() - 1;
-        mends.push(Mend::Text(PROGRAMS[side], bytes.clone()));
-        bytes.copy_within(name.clone(), place.start);
-        self.driver.lend_text(PROGRAMS[side], &bytes);
-        self.exactly(NODES[side], 4 * node + 3, procedure as u64, mends)?;
+        let mut led = bytes.clone();
+        led.copy_within(self.random.pick(&others).clone(), place.start);
+        let mut nodes = led
+            .split(|&byte| byte == b'\n')
+            .filter(|line| line.starts_with(b"N"));
+        let lines = led[..place.start].split(|&byte| byte == b'\n');
+        let node = lines.filter(|line| line.starts_with(b"N")).count() - 1;
+        let field = nodes.nth(node)?.rsplit(|&byte| byte == b',').next()?;
+        let callees = field.split(|&byte| byte == b'+').map(|callee| {
+            let procedure = names.iter().position(|name| led[name.clone()] == *callee);
+            procedure.map(|number| number as u16)
+        });
+        let number = joined_callees(&callees.collect::<Option<Vec<u16>>>()?);
+        mends.push(Mend::Text(PROGRAMS[side], bytes));
+        self.driver.lend_text(PROGRAMS[side], &led);
+        self.exactly(NODES[side], 4 * node + 3, number as u64, mends)?;
         Some(CALL_LED)
     }
 

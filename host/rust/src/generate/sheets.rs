@@ -2,9 +2,8 @@
 
 use super::model::{joined, Bytes, Sheet};
 use super::random::Random;
-use crate::independent::closing::Graph;
+use crate::independent::closing::{called, Graph};
 use crate::independent::job::Job;
-use crate::independent::program::Kind;
 use crate::independent::suite::holds;
 use std::collections::BTreeSet;
 
@@ -17,8 +16,9 @@ pub struct Made {
 }
 
 /// A stranger's sheet that passes. Its list may hold more pairs than the
-/// closing rules give, or fewer where it cuts at an edge. Some sheets were
-/// stored when labels matched only if their bytes were equal; they still pass.
+/// closing rules give, or fewer where it cuts at an edge; some cut only at the
+/// exits of one callee. Some sheets were stored when labels matched only if
+/// their bytes were equal; they still pass.
 pub fn stranger(random: &mut Random, job: &Job) -> Sheet {
     let (old, new) = job.graphs();
     let mut sheet = Sheet::default();
@@ -26,7 +26,14 @@ pub fn stranger(random: &mut Random, job: &Job) -> Sheet {
         .pairs
         .insert((old.ends(0).0 as usize, new.ends(0).0 as usize));
     let stored = random.one_in(4);
-    let listed = |n: u16, m: u16| !stored || label(&old, n) == label(&new, m);
+    let cut = match random.percent(30) {
+        true => exit_called(random, &old),
+        false => None,
+    };
+    let listed = |n: u16, m: u16| {
+        let stored_so = !stored || label(&old, n) == label(&new, m);
+        stored_so && Some(n) != cut
+    };
     let mut alike = all_alike(&old, &new);
     alike.retain(|&(n, m)| listed(n as u16, m as u16));
     match random.below(4) {
@@ -38,8 +45,12 @@ pub fn stranger(random: &mut Random, job: &Job) -> Sheet {
         }
         _ => (),
     }
-    let kept = *random.pick(&[0, 60, 90, 100]);
-    close(&old, &new, &mut sheet.pairs, |n, m| {
+    let kept = match cut {
+        Some(_) => 100,
+        None => *random.pick(&[0, 60, 90, 100]),
+    };
+    let all_entries = random.one_in(3);
+    close(&old, &new, &mut sheet.pairs, all_entries, |n, m| {
         random.percent(kept) && listed(n, m)
     });
     complete(job, &old, &new, &mut sheet);
@@ -73,35 +84,57 @@ pub fn label<'p>(graph: &Graph<'p>, node: u16) -> &'p [u8] {
     graph.program.nodes[node as usize].label
 }
 
-/// Adds the entries of callees, and of the ends that rule 3 gives those that
-/// are kept.
+/// The exit of a procedure that some call names, one of several names if
+/// there is such a call.
+fn exit_called(random: &mut Random, graph: &Graph) -> Option<u16> {
+    let calls = graph.program.calls.iter();
+    let most = calls.clone().map(|call| call.callees().len()).max()?;
+    let several: Vec<_> = calls
+        .filter(|call| call.callees().len() > 1 || most == 1)
+        .collect();
+    let call = *random.pick(&several);
+    let callee = *random.pick(call.callees());
+    Some(graph.ends(callee).1)
+}
+
+/// Adds the ends that rule 3 of the closing gives, of those that are kept, and
+/// the entries of callees: those that the list asks for, or all.
 fn close(
     old: &Graph,
     new: &Graph,
     pairs: &mut BTreeSet<(usize, usize)>,
+    all_entries: bool,
     mut kept: impl FnMut(u16, u16) -> bool,
 ) {
+    let wide = |(n, m): (u16, u16)| (n as usize, m as usize);
     let mut work: Vec<(usize, usize)> = pairs.iter().copied().collect();
-    while let Some((n, m)) = work.pop() {
-        let (n, m) = (n as u16, m as u16);
-        let mut found = Vec::new();
-        if old.kind(n) == Kind::Call {
-            let entries = (old.ends(old.callee(n)).0, new.ends(new.callee(m)).0);
-            found.push(entries);
-        }
-        for edge in old.leaving(n) {
-            for other in new.leaving(m) {
-                let (n, m) = (edge.end, other.end);
-                if edge.word == other.word && edge.class == other.class && kept(n, m) {
-                    found.push((n, m));
+    let mut calls = Vec::new();
+    while !work.is_empty() {
+        while let Some((n, m)) = work.pop() {
+            let (n, m) = (n as u16, m as u16);
+            if !old.callees(n).is_empty() {
+                calls.push((n, m));
+            }
+            for edge in old.leaving(n) {
+                for other in new.leaving(m) {
+                    let ends = (edge.end, other.end);
+                    let joined = edge.word == other.word && edge.class == other.class;
+                    // Also above the limit: whoever made the list asks how long
+                    // it is.
+                    if joined && kept(ends.0, ends.1) && pairs.insert(wide(ends)) {
+                        work.push(wide(ends));
+                    }
                 }
             }
         }
-        for (n, m) in found {
-            let pair = (n as usize, m as usize);
-            // Also above the limit: whoever made the list asks how long it is.
-            if pairs.insert(pair) {
-                work.push(pair);
+        for &call in &calls {
+            for (entries, exits) in called(old, new, call) {
+                if pairs.insert(wide(entries)) {
+                    work.push(wide(entries));
+                }
+                if !all_entries && !pairs.contains(&wide(exits)) {
+                    break;
+                }
             }
         }
     }
@@ -111,11 +144,9 @@ fn close(
 fn complete(job: &Job, old: &Graph, new: &Graph, sheet: &mut Sheet) {
     for &(n, m) in &sheet.pairs {
         let (n, m) = (n as u16, m as u16);
-        if old.kind(n) == Kind::Call {
-            let exits = (old.ends(old.callee(n)).1, new.ends(new.callee(m)).1);
-            if !sheet.pairs.contains(&(exits.0 as usize, exits.1 as usize)) {
-                continue;
-            }
+        let met = |(n, m): (u16, u16)| sheet.pairs.contains(&(n as usize, m as usize));
+        if !called(old, new, (n, m)).all(|(_, exits)| met(exits)) {
+            continue;
         }
         for edge in old.leaving(n) {
             let listed = new.leaving(m).iter().any(|other| {
@@ -200,6 +231,9 @@ fn change_lists(random: &mut Random, job: &Job, sheet: &mut Sheet) {
         }
     }
     let (old, new) = (job.old.nodes.len(), job.new.nodes.len());
+    if random.percent(60) && drop_called(random, job, sheet) {
+        return;
+    }
     match random.below(9) {
         0..=2 => drop_one(random, &mut sheet.pairs),
         3 => drop_one(random, &mut sheet.dangers),
@@ -222,6 +256,43 @@ fn change_lists(random: &mut Random, job: &Job, sheet: &mut Sheet) {
             sheet.pairs.remove(&(old as usize, new as usize));
         }
     }
+}
+
+/// Drops the entries or the exits of one callee, or both, that a listed pair
+/// of calls has; of calls with several names where there are such, and then
+/// mostly of a later one.
+fn drop_called(random: &mut Random, job: &Job, sheet: &mut Sheet) -> bool {
+    let callees = |&(n, m): &(usize, usize)| {
+        let (old, new) = (job.old.callees(n as u16), job.new.callees(m as u16));
+        old.iter().zip(new).collect::<Vec<_>>()
+    };
+    let most = sheet.pairs.iter().map(|pair| callees(pair).len()).max();
+    let several = most > Some(1);
+    let calls: Vec<_> = sheet
+        .pairs
+        .iter()
+        .map(callees)
+        .filter(|callees| callees.len() > usize::from(several))
+        .collect();
+    if calls.is_empty() || !several && random.percent(60) {
+        return false;
+    }
+    let call = random.pick(&calls);
+    let from = usize::from(several && random.percent(80));
+    let (&old, &new) = call[random.within(from, call.len() - 1)];
+    let (old, new) = (
+        job.old.procedures[old as usize],
+        job.new.procedures[new as usize],
+    );
+    let entries = (old.entry as usize, new.entry as usize);
+    let exits = (old.exit as usize, new.exit as usize);
+    let dropped = match random.below(5) {
+        0..=1 => vec![entries],
+        2..=3 => vec![exits],
+        _ => vec![entries, exits],
+    };
+    sheet.pairs.retain(|pair| !dropped.contains(pair));
+    true
 }
 
 /// Changes the lines: order, numbers, counts, lines more and less.

@@ -20,44 +20,77 @@ const NAMES: [&[u8]; 14] = [
     b"t5",
 ];
 
-/// The edges that a random run of the program crosses.
-fn walk(random: &mut Random, program: &Program, crossed: &mut [bool]) {
+/// The edges that a random run of the program crosses, in so many steps and
+/// with so many calls open at most.
+fn walk(random: &mut Random, program: &Program, steps: usize, deep: usize) -> Vec<bool> {
+    let mut crossed = vec![false; program.edges()];
     let mut first = vec![0; program.procedures.len()];
     for at in 1..first.len() {
         first[at] = first[at - 1] + program.procedures[at - 1].edges.len();
     }
-    let mut calls: Vec<(usize, usize)> = Vec::new();
+    // Each open call: where it stands, and how many of its callees were entered.
+    let mut calls: Vec<(usize, usize, usize)> = Vec::new();
     let (mut own, mut node) = (0, program.procedures[0].find(b'E'));
-    for _ in 0..60 {
-        let procedure = &program.procedures[own];
-        match procedure.nodes[node].kind {
-            b'C' if calls.len() < 8 => {
-                let Some(callee) = program.find(&procedure.nodes[node].callee) else {
-                    return;
+    for _ in 0..steps {
+        let kind = program.procedures[own].nodes[node].kind;
+        if kind == b'C' {
+            if calls.len() == deep {
+                return crossed;
+            }
+            calls.push((own, node, 0));
+        }
+        if matches!(kind, b'C' | b'X') {
+            let Some((caller, call, entered)) = calls.pop() else {
+                return crossed;
+            };
+            let names = program.procedures[caller].nodes[call].callees();
+            if let Some(name) = names.get(entered) {
+                let Some(callee) = program.find(name) else {
+                    return crossed;
                 };
-                calls.push((own, node));
-                own = callee;
-                node = program.procedures[own].find(b'E');
+                calls.push((caller, call, entered + 1));
+                (own, node) = (callee, program.procedures[callee].find(b'E'));
                 continue;
             }
-            b'C' => return,
-            b'X' => match calls.pop() {
-                Some(call) => (own, node) = call,
-                None => return,
-            },
-            _ => (),
+            // After the last callee the call's edge is crossed.
+            (own, node) = (caller, call);
         }
         let procedure = &program.procedures[own];
         let leaving: Vec<usize> = (0..procedure.edges.len())
             .filter(|&edge| procedure.edges[edge].from == node)
             .collect();
         if leaving.is_empty() {
-            return;
+            return crossed;
         }
         let edge = *random.pick(&leaving);
         crossed[first[own] + edge] = true;
         node = procedure.edges[edge].to;
     }
+    crossed
+}
+
+/// `count` tests with names of 12 bytes, each with the edges that a random run
+/// of up to so many steps crosses; runs that cross fewer than so many are left
+/// out.
+pub fn runs(
+    random: &mut Random,
+    program: &Program,
+    count: usize,
+    steps: usize,
+    fewest: usize,
+) -> Bytes {
+    let mut text = Bytes::new();
+    let mut test = 0;
+    while test < count {
+        let crossed = walk(random, program, steps, usize::MAX);
+        if crossed.iter().filter(|&&bit| bit).count() < fewest {
+            continue;
+        }
+        let name = format!("test_{test:0>7}").into_bytes();
+        put_line(&mut text, &[b"T", &name, &row(&crossed)]);
+        test += 1;
+    }
+    text
 }
 
 /// A test file whose lines are right but for one in some files. Rows hold
@@ -75,7 +108,7 @@ pub fn tests(random: &mut Random, old: &Program, dangers: &[usize]) -> Bytes {
     for (at, name) in names.iter().take(count).enumerate() {
         let mut crossed = vec![false; old.edges()];
         match random.below(10) {
-            0..=5 => walk(random, old, &mut crossed),
+            0..=5 => crossed = walk(random, old, 80, 8),
             6 => crossed.fill(true),
             7 => (),
             _ => crossed.fill_with(|| random.percent(40)),

@@ -5,7 +5,7 @@ use super::job::UNNAMED;
 use super::program::{EDGE_LIMIT, NODE_LIMIT, PROCEDURE_LIMIT};
 use super::tables::{self, EDGES};
 use crate::answer::Answer;
-use crate::records::Version;
+use crate::records::{parted_callees, Version};
 
 /// Writes the text of a side, or answers 6 or 16.
 pub fn write(texts: &[&[u8]; 2], side: usize, out: &mut [u8]) -> Answer {
@@ -100,9 +100,13 @@ fn laid_out(lent: &Version, [procedures, nodes, edges]: [usize; 3]) -> Option<Ve
         page.put(part(lent.text, node.start, node.length)?)?;
         page.put(b",")?;
         if node.kind == 2 {
-            // As long as the name that it is.
-            let called = lent.links[..7 * procedures].chunks(7).nth(node.callee)?;
-            page.put(part(lent.text, page.at, called[1])?)?;
+            // As long as the names that it joins, with a `+` between two.
+            let mut length: usize = 0;
+            for callee in parted_callees(node.callees)? {
+                let called = lent.links[..7 * procedures].chunks(7).nth(callee)?;
+                length = length.checked_add(called[1])?.checked_add(1)?;
+            }
+            page.put(part(lent.text, page.at, length.checked_sub(1)?)?)?;
         }
         page.put(b"\n")?;
     }

@@ -1,8 +1,7 @@
 //! The sheet checker: reads a sheet's layout, then judges its claims.
 
-use super::closing::{Graph, Pairs, PAIR_LIMIT};
+use super::closing::{called, Graph, Pairs, PAIR_LIMIT};
 use super::job::Job;
-use super::program::Kind;
 use super::sheet::FIRST_LINE;
 use super::suite::{holds, meet, place_of, ROW_WORDS};
 use super::text::{limited, Cursor, Name};
@@ -207,11 +206,7 @@ fn first_broken(job: &Job, old: &Graph, new: &Graph, listed: &Listed) -> Option<
     if !all(&|n, m| old.class(n) == new.class(m)) {
         return Some(2);
     }
-    let entries_listed = |n: u16, m: u16| {
-        old.kind(n) != Kind::Call
-            || pairs.contains(old.ends(old.callee(n)).0, new.ends(new.callee(m)).0)
-    };
-    if !all(&entries_listed) {
+    if !all(&|n, m| entered(old, new, pairs, n, m)) {
         return Some(3);
     }
     if !all(&|n, m| covered(old, new, listed, n, m)) {
@@ -224,12 +219,26 @@ fn first_broken(job: &Job, old: &Graph, new: &Graph, listed: &Listed) -> Option<
     None
 }
 
-/// Rule 4 for one listed pair.
+/// Rule 3 for one listed pair: the entries of a callee are listed if the exits
+/// of all before it are.
+fn entered(old: &Graph, new: &Graph, pairs: &Pairs, n: u16, m: u16) -> bool {
+    for (entries, exits) in called(old, new, (n, m)) {
+        if !pairs.contains(entries.0, entries.1) {
+            return false;
+        }
+        if !pairs.contains(exits.0, exits.1) {
+            break;
+        }
+    }
+    true
+}
+
+/// Rule 4 for one listed pair: it may go on if the exits of all its callees are
+/// listed.
 fn covered(old: &Graph, new: &Graph, listed: &Listed, n: u16, m: u16) -> bool {
     let pairs = &listed.pairs;
-    if old.kind(n) == Kind::Call
-        && !pairs.contains(old.ends(old.callee(n)).1, new.ends(new.callee(m)).1)
-    {
+    let mut callees = called(old, new, (n, m));
+    if !callees.all(|(_, exits)| pairs.contains(exits.0, exits.1)) {
         return true;
     }
     let others = new.leaving(m);

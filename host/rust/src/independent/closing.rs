@@ -2,7 +2,7 @@
 
 use super::program::{Kind, Node, Program, NODE_LIMIT};
 use super::suite::{place_of, ROW_WORDS};
-use super::text::{Name, Word};
+use super::text::Word;
 
 pub const PAIR_LIMIT: usize = 4_096;
 
@@ -80,8 +80,13 @@ impl<'p> Graph<'p> {
         &self.leaving[self.first[node] as usize..self.first[node + 1] as usize]
     }
 
-    /// The number of the procedure that a C node calls.
-    pub fn callee(&self, node: u16) -> u16 {
+    /// The numbers of the procedures that a node calls.
+    pub fn callees(&self, node: u16) -> &[u16] {
+        self.program.callees(node)
+    }
+
+    /// The number of the procedure that a node is of.
+    pub fn procedure(&self, node: u16) -> u16 {
         self.program.nodes[node as usize].procedure
     }
 
@@ -90,6 +95,20 @@ impl<'p> Graph<'p> {
         let procedure = &self.program.procedures[procedure as usize];
         (procedure.entry, procedure.exit)
     }
+}
+
+/// The pairs of entries and of exits of the procedures that two alike nodes
+/// call, from left to right: alike calls name the same procedures.
+pub fn called<'g>(
+    old: &'g Graph,
+    new: &'g Graph,
+    (n, m): (u16, u16),
+) -> impl Iterator<Item = ((u16, u16), (u16, u16))> + 'g {
+    let callees = old.callees(n).iter().zip(new.callees(m));
+    callees.map(|(&callee, &partner)| {
+        let ((entry, exit), (new_entry, new_exit)) = (old.ends(callee), new.ends(partner));
+        ((entry, new_entry), (exit, new_exit))
+    })
 }
 
 /// Lays out both programs with classes in common.
@@ -103,7 +122,8 @@ pub fn graphs<'p>(old: &'p Program<'p>, new: &'p Program<'p>) -> (Graph<'p>, Gra
 /// Classes of nodes by open addressing, numbered as they are first met.
 struct Classes<'p> {
     slots: Vec<u16>,
-    keys: Vec<(Kind, Label<'p>, Name)>,
+    /// Kind, label and callee field, which only a C has.
+    keys: Vec<(Kind, Label<'p>, Option<&'p [u8]>)>,
     /// The labels of keys that are no part of their text, one after another.
     squeezed: Vec<u8>,
 }
@@ -136,9 +156,9 @@ impl<'p> Classes<'p> {
     }
 
     fn of_node(&mut self, program: &'p Program<'p>, node: &Node<'p>) -> u16 {
-        let callee = match node.kind {
-            Kind::Call => program.procedures[node.procedure as usize].name,
-            _ => 0,
+        let field = match node.kind {
+            Kind::Call => Some(program.calls[node.call as usize].field),
+            _ => None,
         };
         let start = self.squeezed.len();
         let part = within_blanks(node.label);
@@ -155,17 +175,17 @@ impl<'p> Classes<'p> {
         };
         let own = bytes(label);
         let mask = self.slots.len() - 1;
-        let mut slot = hash(node.kind, own, callee) as usize & mask;
+        let mut slot = hash(node.kind, own, field) as usize & mask;
         loop {
             let class = self.slots[slot];
             if class == FREE {
                 let class = self.keys.len() as u16;
                 self.slots[slot] = class;
-                self.keys.push((node.kind, label, callee));
+                self.keys.push((node.kind, label, field));
                 return class;
             }
-            let (kind, label, name) = self.keys[class as usize];
-            if (kind, bytes(label), name) == (node.kind, own, callee) {
+            let (kind, label, other) = self.keys[class as usize];
+            if (kind, bytes(label), other) == (node.kind, own, field) {
                 self.squeezed.truncate(start);
                 return class;
             }
@@ -208,11 +228,17 @@ fn squeeze(label: &[u8], squeezed: &mut Vec<u8>) {
     squeezed.truncate(end);
 }
 
-fn hash(kind: Kind, label: &[u8], callee: Name) -> u64 {
+fn hash(kind: Kind, label: &[u8], field: Option<&[u8]>) -> u64 {
+    let state = mixed(kind as u64, label);
+    field.map_or(state, |field| mixed(state, field)) >> 32
+}
+
+/// A state of the hash with these bytes and their number mixed in.
+fn mixed(state: u64, bytes: &[u8]) -> u64 {
     const FACTOR: u64 = 0x9e37_79b9_7f4a_7c15;
     let mix = |state: u64, word: u64| (state.rotate_left(23) ^ word).wrapping_mul(FACTOR);
-    let mut state = mix(kind as u64, label.len() as u64);
-    let mut chunks = label.chunks_exact(8);
+    let mut state = mix(state, bytes.len() as u64);
+    let mut chunks = bytes.chunks_exact(8);
     for chunk in &mut chunks {
         let mut word = [0; 8];
         word.copy_from_slice(chunk);
@@ -222,10 +248,7 @@ fn hash(kind: Kind, label: &[u8], callee: Name) -> u64 {
         .remainder()
         .iter()
         .fold(0, |word: u64, &byte| word << 8 | u64::from(byte));
-    state = mix(state, rest);
-    state = mix(state, callee as u64);
-    state = mix(state, (callee >> 64) as u64);
-    state >> 32
+    mix(state, rest)
 }
 
 /// A set of pairs: a bit for each, and a list in order of adding.
@@ -297,96 +320,128 @@ pub struct Closing {
     pub danger: [u64; ROW_WORDS],
 }
 
-/// C pairs whose callee's exits have not met, by the old callee.
+/// C pairs that wait for the exits of a callee to meet, by the old callee.
 struct Waiting {
     newest: Vec<u16>,
-    /// A waiting pair, and the one before it in its list.
-    entries: Vec<((u16, u16), u16)>,
+    /// A waiting pair, the place of the callee in its call, and the entry
+    /// before it in its list.
+    entries: Vec<((u16, u16), u16, u16)>,
 }
 
 const NONE: u16 = u16::MAX;
 
+impl Waiting {
+    fn add(&mut self, procedure: usize, pair: (u16, u16), place: u16) {
+        let newest = &mut self.newest[procedure];
+        self.entries.push((pair, place, *newest));
+        *newest = self.entries.len() as u16 - 1;
+    }
+}
+
 /// Closes the rules; `join` is told each old edge and its new counterpart
 /// once. `None` if there are more pairs than the limit.
-pub fn close(old: &Graph, new: &Graph, mut join: impl FnMut(u16, u16)) -> Option<Closing> {
-    let mut pairs = Pairs::new(old.class.len(), new.class.len());
-    let mut danger = [0; ROW_WORDS];
-    let mut waiting = Waiting {
-        newest: vec![NONE; old.program.procedures.len()],
-        entries: Vec::new(),
+pub fn close(old: &Graph, new: &Graph, join: impl FnMut(u16, u16)) -> Option<Closing> {
+    let mut search = Search {
+        old,
+        new,
+        pairs: Pairs::new(old.class.len(), new.class.len()),
+        danger: [0; ROW_WORDS],
+        waiting: Waiting {
+            newest: vec![NONE; old.program.procedures.len()],
+            entries: Vec::new(),
+        },
+        join,
     };
-    let mut within = pairs.add(old.ends(0).0, new.ends(0).0);
+    let mut within = search.pairs.add(old.ends(0).0, new.ends(0).0);
     let mut at = 0;
-    while within && at < pairs.list.len() {
-        let (n, m) = pairs.list[at];
+    while within && at < search.pairs.list.len() {
+        let (n, m) = search.pairs.list[at];
         at += 1;
-        match old.kind(n) {
-            Kind::Entry | Kind::Step => {
-                within = go_on(old, new, (n, m), &mut pairs, &mut danger, &mut join);
-            }
-            Kind::Call => {
-                let (callee, partner) = (old.callee(n), new.callee(m));
-                let ((entry, exit), (new_entry, new_exit)) = (old.ends(callee), new.ends(partner));
-                within = pairs.add(entry, new_entry);
-                if pairs.contains(exit, new_exit) {
-                    within &= go_on(old, new, (n, m), &mut pairs, &mut danger, &mut join);
-                } else {
-                    let newest = &mut waiting.newest[callee as usize];
-                    waiting.entries.push(((n, m), *newest));
-                    *newest = waiting.entries.len() as u16 - 1;
-                }
-            }
-            Kind::Exit => {
-                let procedure = old.callee(n) as usize;
-                let mut entry = waiting.newest[procedure];
-                if entry == NONE {
-                    continue;
-                }
-                // Every pair of the list calls procedures of one name.
-                let call = waiting.entries[entry as usize].0;
-                if new.ends(new.callee(call.1)).1 != m {
-                    continue;
-                }
-                waiting.newest[procedure] = NONE;
-                while within && entry != NONE {
-                    let (pair, before) = waiting.entries[entry as usize];
-                    within = go_on(old, new, pair, &mut pairs, &mut danger, &mut join);
-                    entry = before;
-                }
-            }
-        }
+        within = match old.kind(n) {
+            Kind::Entry | Kind::Step => search.go_on((n, m)),
+            Kind::Call => search.call((n, m), 0),
+            Kind::Exit => search.exits_met((n, m)),
+        };
     }
+    let Search { pairs, danger, .. } = search;
     within.then_some(Closing { pairs, danger })
 }
 
-/// Rule 3 for one pair that may go on; false if there are too many pairs.
-#[inline]
-fn go_on(
-    old: &Graph,
-    new: &Graph,
-    (n, m): (u16, u16),
-    pairs: &mut Pairs,
-    danger: &mut [u64; ROW_WORDS],
-    join: &mut impl FnMut(u16, u16),
-) -> bool {
-    let others = new.leaving(m);
-    let mut at = 0;
-    for edge in old.leaving(n) {
-        while at < others.len() && others[at].word < edge.word {
-            at += 1;
-        }
-        match others.get(at) {
-            Some(other) if other.word == edge.word && other.class == edge.class => {
-                if !pairs.add(edge.end, other.end) {
-                    return false;
-                }
-                join(edge.edge, other.edge);
+struct Search<'g, J> {
+    old: &'g Graph<'g>,
+    new: &'g Graph<'g>,
+    pairs: Pairs,
+    danger: [u64; ROW_WORDS],
+    waiting: Waiting,
+    join: J,
+}
+
+/// Each answers false if there are too many pairs.
+impl<J: FnMut(u16, u16)> Search<'_, J> {
+    /// Enters the callees of a pair of calls from this place on, each after the
+    /// exits of the one before have met; the pair waits where they have not,
+    /// and goes on after the last.
+    fn call(&mut self, pair: (u16, u16), place: usize) -> bool {
+        let callees = called(self.old, self.new, pair).enumerate();
+        for (place, (entries, exits)) in callees.skip(place) {
+            if !self.pairs.add(entries.0, entries.1) {
+                return false;
             }
-            _ => {
-                let (word, bit) = place_of(edge.edge as usize);
-                danger[word] |= bit;
+            if !self.pairs.contains(exits.0, exits.1) {
+                let procedure = self.old.procedure(exits.0) as usize;
+                self.waiting.add(procedure, pair, place as u16);
+                return true;
             }
         }
+        self.go_on(pair)
     }
-    true
+
+    /// Leads the pairs of calls on that wait for these exits.
+    fn exits_met(&mut self, (n, m): (u16, u16)) -> bool {
+        let procedure = self.old.procedure(n) as usize;
+        let mut entry = self.waiting.newest[procedure];
+        if entry == NONE {
+            return true;
+        }
+        // Every pair of the list waits for procedures of one name.
+        let ((_, call), place, _) = self.waiting.entries[entry as usize];
+        let partner = self.new.callees(call)[place as usize];
+        if self.new.ends(partner).1 != m {
+            return true;
+        }
+        self.waiting.newest[procedure] = NONE;
+        while entry != NONE {
+            let (pair, place, before) = self.waiting.entries[entry as usize];
+            if !self.call(pair, place as usize + 1) {
+                return false;
+            }
+            entry = before;
+        }
+        true
+    }
+
+    /// Rule 3 for one pair that may go on.
+    #[inline]
+    fn go_on(&mut self, (n, m): (u16, u16)) -> bool {
+        let others = self.new.leaving(m);
+        let mut at = 0;
+        for edge in self.old.leaving(n) {
+            while at < others.len() && others[at].word < edge.word {
+                at += 1;
+            }
+            match others.get(at) {
+                Some(other) if other.word == edge.word && other.class == edge.class => {
+                    if !self.pairs.add(edge.end, other.end) {
+                        return false;
+                    }
+                    (self.join)(edge.edge, other.edge);
+                }
+                _ => {
+                    let (word, bit) = place_of(edge.edge as usize);
+                    self.danger[word] |= bit;
+                }
+            }
+        }
+        true
+    }
 }

@@ -128,6 +128,33 @@ fn blanks_in_labels() {
     assert_eq!(dangers(&sheet_of(&blank, P2_OLD, "")), ["D,2"]);
 }
 
+/// A call of two procedures: both are met; with the second changed only its
+/// entry is, and nothing behind the call; in another order the calls are not
+/// alike.
+#[test]
+fn several_callees() {
+    let old = "P,up N,E,, N,C,x,a+b N,X,, B,0,-,1 B,1,-,2 \
+               P,a N,E,, N,S,s, N,X,, B,3,-,4 B,4,ok,5 \
+               P,b N,E,, N,S,s, N,X,, B,6,-,7 B,7,ok,8";
+    let tests = "T,a,b0 T,b,7c";
+    assert_eq!(
+        sheet_of(old, old, tests),
+        text("sheet,1 M,0,0 M,1,1 M,2,2 M,3,3 M,4,4 M,5,5 M,6,6 M,7,7 M,8,8 end,9,0,0")
+    );
+    assert_eq!(record_of(old, old, tests, 1), text("V,b,5,011111"));
+    let changed = old.replace("P,b N,E,, N,S,s,", "P,b N,E,, N,S,t,");
+    assert_eq!(
+        sheet_of(old, &changed, tests),
+        text("sheet,1 M,0,0 M,1,1 M,3,3 M,4,4 M,5,5 M,6,6 D,4 R,b end,6,1,1")
+    );
+    assert_eq!(record_of(old, &changed, tests, 0), text("V,a,3,101100"));
+    let exchanged = old.replace("a+b", "b+a");
+    assert_eq!(
+        sheet_of(old, &exchanged, ""),
+        text("sheet,1 M,0,0 D,0 end,1,1,0")
+    );
+}
+
 #[track_caller]
 fn program(lines: &str, number: u32, place: u32) {
     assert_eq!(
@@ -156,6 +183,10 @@ fn refusals_of_programs() {
     program("P,a N,E,, N,X,, B,0,x,1", 8, 1);
     program("P,a N,E,, N,C,l,b N,X,, B,0,-,1 B,1,-,2", 9, 3);
     program("P,a N,E,, N,C,l,b N,X,, B,0,-,1 B,1,-,2 P,c", 8, 7);
+    program("P,a N,E,, N,C,l,a+a+a+a N,X,, B,0,-,1 B,1,-,2", 0, 0);
+    program("P,a N,E,, N,C,l,a+a+a+b N,X,, B,0,-,1 B,1,-,2", 9, 3);
+    program("P,a N,E,, N,C,l,a+a+a+a+b N,X,, B,0,-,1 B,1,-,2", 2, 3);
+    program("P,a N,E,, N,C,l,a+ N,X,, B,0,-,1 B,1,-,2", 2, 3);
     program("P,a N,X,, N,E,, B,1,-,1", 0, 0);
 }
 

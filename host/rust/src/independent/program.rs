@@ -1,11 +1,13 @@
 //! The reader of program files.
 
-use super::text::{limited, Cursor, Name, Names, Word};
+use super::text::{limited, packed, Cursor, Name, Names, Word};
 use crate::answer::{Answer, Outcome};
 
 pub const PROCEDURE_LIMIT: usize = 64;
 pub const NODE_LIMIT: usize = 512;
 pub const EDGE_LIMIT: usize = 1_024;
+/// The most procedures that a call names.
+pub const CALLEE_LIMIT: usize = 4;
 
 /// The word `-` as it is packed.
 const DASH: Word = b'-' as Word;
@@ -26,8 +28,25 @@ pub struct Node<'a> {
     pub kind: Kind,
     /// Empty at an entry or exit.
     pub label: &'a [u8],
-    /// The number of the callee's procedure; at another kind, of its own.
+    /// The number of its procedure.
     pub procedure: u16,
+    /// At a C node the number of its call.
+    pub call: u16,
+}
+
+/// A call: the callee field of a C node, and the procedures that it names.
+#[derive(Clone, Copy)]
+pub struct Call<'a> {
+    pub field: &'a [u8],
+    callees: [u16; CALLEE_LIMIT],
+    count: usize,
+}
+
+impl Call<'_> {
+    /// The numbers of the callees from left to right.
+    pub fn callees(&self) -> &[u16] {
+        &self.callees[..self.count]
+    }
 }
 
 #[derive(Clone, Copy)]
@@ -48,12 +67,26 @@ pub struct Program<'a> {
     pub procedures: Vec<Procedure>,
     pub nodes: Vec<Node<'a>>,
     pub edges: Vec<Edge>,
+    pub calls: Vec<Call<'a>>,
+}
+
+impl Program<'_> {
+    /// The numbers of the procedures that a node calls, from left to right;
+    /// none where it is no C.
+    pub fn callees(&self, node: u16) -> &[u16] {
+        let node = &self.nodes[node as usize];
+        match node.kind {
+            Kind::Call => self.calls[node.call as usize].callees(),
+            _ => &[],
+        }
+    }
 }
 
 /// A line of one of the three kinds.
 enum Line<'a> {
     Procedure(Name),
-    Node(Kind, &'a [u8], Name),
+    /// Kind, label and callee field.
+    Node(Kind, &'a [u8], &'a [u8]),
     Edge(u32, Word, u32),
 }
 
@@ -90,11 +123,25 @@ fn node<'a>(cursor: &mut Cursor<'a>) -> Option<Line<'a>> {
         Kind::Entry | Kind::Exit => &[],
     };
     cursor.eat(b',')?;
-    let callee = match kind {
-        Kind::Call => cursor.name()?.0,
-        _ => 0,
+    let field = match kind {
+        Kind::Call => callee_field(cursor)?,
+        _ => &[],
     };
-    Some(Line::Node(kind, label, callee))
+    Some(Line::Node(kind, label, field))
+}
+
+/// One to four names joined by `+`. What follows a fourth one is left, so a
+/// fifth is refused where the line should end.
+fn callee_field<'a>(cursor: &mut Cursor<'a>) -> Option<&'a [u8]> {
+    let rest = cursor.rest();
+    let mut length = cursor.name()?.1.len();
+    for _ in 1..CALLEE_LIMIT {
+        if cursor.eat(b'+').is_none() {
+            break;
+        }
+        length += 1 + cursor.name()?.1.len();
+    }
+    Some(&rest[..length])
 }
 
 /// The end of a node's list of edges.
@@ -117,8 +164,8 @@ struct Reader<'a> {
     program: Program<'a>,
     names: Names,
     open: Option<Open>,
-    /// Each C node with its line and callee's name.
-    calls: Vec<(u16, u32, Name)>,
+    /// The line of each call.
+    call_lines: Vec<u32>,
     /// The number of edges leaving each node.
     leaving: Vec<u16>,
     /// The newest edge of each node, and the one before each edge.
@@ -140,10 +187,11 @@ pub fn read(text: &[u8]) -> Outcome<Program<'_>> {
             procedures: Vec::new(),
             nodes: Vec::with_capacity(nodes),
             edges: Vec::with_capacity(edges),
+            calls: Vec::new(),
         },
         names: Names::with_limit(PROCEDURE_LIMIT),
         open: None,
-        calls: Vec::new(),
+        call_lines: Vec::new(),
         leaving: Vec::with_capacity(nodes),
         newest: Vec::with_capacity(nodes),
         before: Vec::with_capacity(edges),
@@ -155,7 +203,7 @@ pub fn read(text: &[u8]) -> Outcome<Program<'_>> {
         match line(&mut cursor) {
             None => return Err(Answer::new(2, number)),
             Some(Line::Procedure(name)) => reader.procedure(name, number)?,
-            Some(Line::Node(kind, label, callee)) => reader.node(kind, label, callee, number)?,
+            Some(Line::Node(kind, label, field)) => reader.node(kind, label, field, number)?,
             Some(Line::Edge(from, word, to)) => reader.edge(from, word, to, number)?,
         }
     }
@@ -189,7 +237,7 @@ impl<'a> Reader<'a> {
         Ok(())
     }
 
-    fn node(&mut self, kind: Kind, label: &'a [u8], callee: Name, line: u32) -> Outcome<()> {
+    fn node(&mut self, kind: Kind, label: &'a [u8], field: &'a [u8], line: u32) -> Outcome<()> {
         let number = self.program.nodes.len();
         let open = match &mut self.open {
             Some(open) if open.first_edge == self.program.edges.len() => open,
@@ -207,14 +255,22 @@ impl<'a> Reader<'a> {
                 open.exits += 1;
                 open.exit = number as u16;
             }
-            Kind::Call => self.calls.push((number as u16, line, callee)),
-            Kind::Step => (),
+            Kind::Call | Kind::Step => (),
         }
         self.program.nodes.push(Node {
             kind,
             label,
             procedure: self.program.procedures.len() as u16 - 1,
+            call: self.program.calls.len() as u16,
         });
+        if kind == Kind::Call {
+            self.program.calls.push(Call {
+                field,
+                callees: [0; CALLEE_LIMIT],
+                count: 0,
+            });
+            self.call_lines.push(line);
+        }
         self.leaving.push(0);
         self.newest.push(NONE);
         Ok(())
@@ -279,11 +335,14 @@ impl<'a> Reader<'a> {
 
     fn finish(mut self) -> Outcome<Program<'a>> {
         self.close()?;
-        for &(node, line, callee) in &self.calls {
-            let Some(procedure) = self.names.find(callee) else {
-                return Err(Answer::new(9, line));
-            };
-            self.program.nodes[node as usize].procedure = procedure as u16;
+        for (call, &line) in self.program.calls.iter_mut().zip(&self.call_lines) {
+            for name in call.field.split(|&byte| byte == b'+') {
+                let Some(procedure) = self.names.find(packed(name)) else {
+                    return Err(Answer::new(9, line));
+                };
+                call.callees[call.count] = procedure as u16;
+                call.count += 1;
+            }
         }
         Ok(self.program)
     }

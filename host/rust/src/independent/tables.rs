@@ -5,7 +5,7 @@
 use super::program::{self, Program};
 use super::suite::{self, Suite};
 use crate::answer::Outcome;
-use crate::records::Node;
+use crate::records::{joined_callees, Node};
 
 /// Where edges and heads of chains begin in the links.
 pub const EDGES: usize = 448;
@@ -94,17 +94,18 @@ impl Tables<'_> {
     }
 
     fn node(&mut self, start: usize, kind: &[u8], label: &[u8]) {
-        let (kind, callee) = match kind {
-            b"E" => (0, 0),
-            b"S" => (1, 0),
-            b"C" => (2, self.program.nodes[self.nodes.len()].procedure),
-            _ => (3, 0),
+        let kind = match kind {
+            b"E" => 0,
+            b"S" => 1,
+            b"C" => 2,
+            _ => 3,
         };
+        let callees = self.program.callees(self.nodes.len() as u16);
         self.nodes.push(Node {
             kind,
             start: start + 4,
             length: label.len(),
-            callee: usize::from(callee),
+            callees: joined_callees(callees),
         });
         self.heads.push(0);
     }

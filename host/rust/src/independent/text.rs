@@ -53,6 +53,12 @@ pub fn limited(text: &[u8]) -> Outcome<()> {
     Ok(())
 }
 
+/// A name's bytes as one number.
+pub fn packed(name: &[u8]) -> Name {
+    name.iter()
+        .fold(0, |packed, &byte| packed << 8 | Name::from(byte))
+}
+
 /// A place in a text. Each reading function answers `None` where the form
 /// does not go on so.
 pub struct Cursor<'a> {
@@ -142,10 +148,7 @@ impl<'a> Cursor<'a> {
         if part.is_empty() || part.len() > NAME_LIMIT {
             return None;
         }
-        let packed = part
-            .iter()
-            .fold(0, |packed: Name, &byte| packed << 8 | Name::from(byte));
-        Some((packed, part))
+        Some((packed(part), part))
     }
 
     pub fn word(&mut self) -> Option<Word> {
