@@ -1,18 +1,17 @@
 -- The callees of a call, name by name, and what the number of all of them says of a node.
 use mathlib.Core.Path.{_≡_, refl, sym, ap, _∙_, subst}
 use mathlib.Core.Bool.{Bool, true, false}
-use mathlib.Core.Option.{Option, none, some}
 use mathlib.Core.List.{List, [], _∷_}
 use Prim.Native.Nat.{ℕ, zero, suc, _+_, _-_, _*_, _%_, _^_, _≤_, _<_}
 use native.Mathlib.Omega.{arith}
 use lib.ListN.{length, getD, take, drop}
 use Rattle.laws.specs.Digits.{number}
-use Rattle.laws.specs.Tests.{isnt, first, found}
+use Rattle.laws.specs.Tests.{isnt, found}
 use Rattle.laws.specs.TestLaws.{and-left, and-right, and-both, fails, both-ways, true-isnt, isnt-true, any-of, any-at, first-at, found-some}
 use Rattle.rules.specs.Text.{Bytes, same, split, namesIn, nameCount, nameIn, isCallees}
 use Rattle.rules.specs.Graph.{Kind, E, S, C, X, Program, nameAt, kindAt, labelAt, calleeAt, calleeCount, calleeName, procCount, nodeCount, kindNumber}
 use Rattle.rules.specs.ProgramFile.{Listing, isNode, named, lost}
-use Rattle.rules.specs.Proofs.TextLaws.{same-true, empty-true, name-sized}
+use Rattle.rules.specs.Proofs.TextLaws.{empty-true}
 use Rattle.rules.specs.Proofs.GraphLaws.{nameless, sameKind-of, sameKind-true, some-name}
 use Rattle.text.specs.Scans.{span}
 use Rattle.text.specs.SplitLaws.{first-last, first-more}
