@@ -79,7 +79,8 @@ fn edges_kept(
     true
 }
 
-// Whether the pair (n, k) keeps the rule: 2, its nodes are alike; 3, the entries of its callees are listed; 4.
+// Whether the pair (n, k) keeps the rule: 2, its nodes are alike; 3, the entries of its callees are listed, up to the first whose exits are not; 4,
+// its edges are kept.
 fn pair_keeps(
     rule: usize,
     ot: &[u8],

@@ -27,7 +27,7 @@ use Rattle.versions.specs.Memory.{InMemory, Memory, memory}
 use Rattle.versions.specs.MemoryLaws.{callees-are, edges-chained, kind-is}
 use Rattle.versions.specs.Called.{CalleesAt, at-end, at-here, at-next, callee-is, fewer-callees}
 use Rattle.versions.specs.Groups.{Groups, InGroups, Regrouped, grouped-none}
-use Rattle.closure.specs.State.{AllDone, AllEntered, CallDone, CalleeDone, Claim, EachDone, EdgeDone, EdgesDone, Entered, Lasts, MetTo, OnDone, PairDone, PairFollowed, State, Step, Turn}
+use Rattle.closure.specs.State.{AllDone, AllEntered, CallDone, CalleeDone, Claim, EachDone, EdgeDone, EdgesDone, Entered, Lasts, MetAt, MetTo, OnDone, PairDone, PairFollowed, State, Step, Turn}
 use Rattle.closure.specs.Step.{done-lasts, edge-lasts, entered-done, entered-lasts, entries-lasts, followed-lasts, met-lasts, pair-inside, state-none, step-lasts, step-map, step-none, step-same, step-shows, step-then}
 use Rattle.closure.specs.Full.{all-counted, all-dangers, all-same}
 use Rattle.closure.specs.Claims.{AddsEntries, Closes, Enters, EntersCallee, EntersCallees, Finds, Follows, Passes, Sized, TriesEdge, Visits}
@@ -171,8 +171,7 @@ module _ (ol nl : List ℕ) (limit : ℕ) (w₀ : List ℕ) (c₀ k l : ℕ) whe
                   step = step-then (met-lasts (o .program) (p .program) n m (e .first)) (e .step) (entered-one ot on nt nn o p h g n m y e)
                       (λ met new j u.
                       ⊎-elim (λ (i : j < e .first). met j i)
-                      (λ (i : j ≡ e .first). subst (λ (i : ℕ). (listed (pairsIn v r) (entry (o .program) (called (o .program) n i)) (entry (p .program) (called (p .program) m i)) ≡ true) × (listed (pairsIn v r) (exit (o .program) (called (o .program) n i)) (exit (p .program) (called (p .program) m i)) ≡ true)) (sym i)
-                      (new .0, sym (new .1) ∙ not-false t z))
+                      (λ (i : j ≡ e .first). subst (MetAt (o .program) (p .program) n m (pairsIn v r)) (sym i) (new .0, sym (new .1) ∙ not-false t z))
                       (below-suc j (e .first) u));
                 };
           }

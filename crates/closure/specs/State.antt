@@ -111,10 +111,12 @@ module _ (old new : Program) where
   unfoldable pub CalleeDone : ℕ → ℕ → Bool → Claim
   CalleeDone q k settled M S = (listed M (entry old q) (entry new k) ≡ true) × (settled ≡ listed M (exit old q) (exit new k))
 
-  -- Entries and exits of the first i callees of the pair (n, m).
+  -- Entries and exits of the callees i of the pair (n, m); of its first i callees.
+  abbrev pub MetAt : ℕ → ℕ → List (ℕ × ℕ) → ℕ → Type 0
+  MetAt n m M i = (listed M (entry old (called old n i)) (entry new (called new m i)) ≡ true) × (listed M (exit old (called old n i)) (exit new (called new m i)) ≡ true)
+
   unfoldable pub MetTo : ℕ → ℕ → ℕ → Claim
-  MetTo n m i M S =
-      (j : ℕ) → j < i → (listed M (entry old (called old n j)) (entry new (called new m j)) ≡ true) × (listed M (exit old (called old n j)) (exit new (called new m j)) ≡ true)
+  MetTo n m i M S = (j : ℕ) → j < i → MetAt n m M j
 
   -- Rules 2 and 3 for each listed pair.
   unfoldable pub EachDone : Claim

@@ -60,7 +60,7 @@ fn add_entries(
     grow(limit, w, count, a, b)
 }
 
-// Rule 2 for the callees q and k of a pair: adds their entries. It is settled if their exits are a pair.
+// Rule 2 for the callees q and p of a pair: adds their entries. It is settled if their exits are a pair.
 fn enter_callee(
     ol: &[usize],
     nl: &[usize],
@@ -68,15 +68,15 @@ fn enter_callee(
     w: &mut [usize],
     had: usize,
     q: usize,
-    k: usize,
+    p: usize,
 ) -> Growth
     requires { ⌜ limit ≤ 4096 ⌝ }
     ensures { λ r. ⌜ Sized (now (w .entry)) (now (w .exit))
         (EntersCallee (now (ol .entry)) (now (nl .entry))
-        limit (now (w .entry)) had q k (now (w .exit)) (r .count) (r .settled)) ⌝ }
+        limit (now (w .entry)) had q p (now (w .exit)) (r .count) (r .settled)) ⌝ }
 {
-    let count = add_entries(ol, nl, limit, w, had, q, k);
-    let settled = versions::exits_paired(ol, nl, w, q, k);
+    let count = add_entries(ol, nl, limit, w, had, q, p);
+    let settled = versions::exits_paired(ol, nl, w, q, p);
     Growth { count, settled }
 }
 

@@ -27,7 +27,7 @@ fn is_step(label: &[u8], callee: &[u8]) -> bool
     false
 }
 
-// Whether the bytes are at most `most` names joined by `+`; one name, as most callee fields are, is told at once.
+// Whether the bytes are 1 to `most` names joined by `+`. One name, which nearly every callee field is, is told at once.
 fn names_up_to(field: &[u8], most: usize) -> bool
     ensures { λ r. ⌜ r ≡ namesUpTo most (namesIn (now (field .entry))) ⌝ }
 {

@@ -14,7 +14,7 @@ unfoldable pub sameCallee : Bytes → Bytes → Bool
 sameCallee c c′ = same c c′
 
 module _ (old new : Program) where
-  -- An old node and a new one are alike: kind and callee have equal bytes, and the labels match.
+  -- An old node and a new one are alike: kind and callee field have equal bytes, and the labels match.
   unfoldable pub alike : ℕ → ℕ → Bool
   alike n n′ = sameKind (kindAt old n) (kindAt new n′) and sameLabel (labelAt old n) (labelAt new n′) and sameCallee (calleeAt old n) (calleeAt new n′)
 
@@ -31,7 +31,7 @@ module _ (old new : Program) where
   ExitsMet R n n′ i = (j : ℕ) → j < i → R (exit old (called old n j)) (exit new (called new n′ j))
 
   -- The pairs, as the smallest relation with rules 1, 2 and 3. Of a C pair the first callee's entries are a pair, each later one's only if the exits of every callee before it are; and
-  -- it may go on only if the exits of all its callees are pairs.
+  -- it may go on only if the exits of all its callees are pairs. (`ExitsMet` of the relation itself is written out.)
   pub data Pair : ℕ → ℕ → Type 0 where
     first-entries : Pair (entry old 0) (entry new 0)
     callee-entries : {n n′ : ℕ} → Pair n n′ → kindAt old n ≡ C → kindAt new n′ ≡ C → (i : ℕ) → i < calleeCount old n

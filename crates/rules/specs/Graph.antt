@@ -153,7 +153,7 @@ fewest k = getD degrees (kindNumber k) (0, 0) .0
 abbrev pub most : Kind → ℕ
 most k = getD degrees (kindNumber k) (0, 0) .1
 
--- Label and callee are filled as the kind asks.
+-- Label and callee field are filled as the kind asks.
 unfoldable pub filled : Kind → Bytes → Bytes → Bool
 filled E l c = empty l and empty c
 filled S l c = isnt (empty l) and empty c

@@ -28,7 +28,7 @@ pub record OnLines {A : Type 0} (lines : List Bytes) (d : A) (line-of : A → By
   pub lines-are : (n : ℕ) → n < length values → getD lines (getD numbers n 0 - 1) [] ≡ line-of (getD values n d)
   pub ascend : (m n : ℕ) → m < n → n < length values → getD numbers m 0 < getD numbers n 0
 
--- The names, labels and words of a program that was read stand at their offsets in the text, a callee behind its label and a comma; its P and N lines at their numbers.
+-- The names, labels and words of a program that was read stand at their offsets in the text, a callee field behind its label and a comma; its P and N lines at their numbers.
 pub record Placed (text : Bytes) (s : Listing) : Type 0 where
   pub names : Starts text [] (λ (n : Bytes). n) (s .program .procs) (s .places .nameStarts)
   pub labels : Starts text noNode (λ (v : Node). v .label) (s .program .nodes) (s .places .labelStarts)

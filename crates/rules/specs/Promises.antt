@@ -269,7 +269,7 @@ pub record SqueezedExact (s t : Bytes) : Type 0 where
 abbrev pub LabelsMatch : Type 0
 LabelsMatch = (l l′ : Bytes) → (sameLabel l l′ ≡ true) ↔ (squeezed l ≡ squeezed l′)
 
--- Two nodes are alike exactly if kind and callee have equal bytes and the labels match; an old edge and a new one fit exactly if their words are equal and their ends alike.
+-- Two nodes are alike exactly if kind and callee field have equal bytes and the labels match; an old edge and a new one fit exactly if their words are equal and their ends alike.
 pub record AlikeExact (old new : Program) : Type 0 where
   pub alike-are : (n n′ : ℕ) → (alike old new n n′ ≡ true) ↔ ((kindAt old n ≡ kindAt new n′) × (squeezed (labelAt old n) ≡ squeezed (labelAt new n′)) × (calleeAt old n ≡ calleeAt new n′))
   pub fits-are : (e e′ : ℕ) → (fits old new e e′ ≡ true) ↔ ((wordAt old e ≡ wordAt new e′) × (alike old new (targetAt old e) (targetAt new e′) ≡ true))

@@ -15,7 +15,7 @@ use Rattle.rules.specs.ProgramFile.{Listing}
 unfoldable pub inPart : ℕ → Bytes → ℕ → Bool
 inPart start w i = leb start i and ltb i (start + length w)
 
--- Where the name of a procedure, the label and the callee of a node, and the word of an edge stand, in the text that was read. A callee stands behind its label and a comma.
+-- Where the name of a procedure, the label and the callee of a node, and the word of an edge stand, in the text that was read. A callee field stands behind its label and a comma.
 abbrev pub nameStart : Listing → ℕ → ℕ
 nameStart s q = getD (s .places .nameStarts) q 0
 

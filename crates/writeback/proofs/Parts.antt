@@ -56,7 +56,9 @@ module _ (v n rest : ℕ) (inv : digitsOf 8 v ≡ n + digitsOf (8 - n) rest) whe
   unfolding digitsOf
   digits-done h l = let k : 8 - n ≡ 0 = omega arith in let z : digitsOf (8 - n) rest ≡ 0 = ap (λ (k : ℕ). digitsOf k rest) k in omega arith
 
--- `name_long`, `names_long`
+pub ruleset numbers = (node-past, proc-past, word-past, digits-start, digits-end, digits-on, digits-done)
+
+-- ---- `name_long`, `names_long`
 
 module _ (l : List ℕ) (q len : ℕ) (e : len ≡ getD l (procBase q + 1) 0) where
   pub long-cut : 12 < len → 12 ≡ nameLong l q
@@ -76,7 +78,7 @@ long-more : (k : ℕ) (l : List ℕ) (v : ℕ) → (v ≡ 0 → ⊥) → namesLo
 unfolding namesLong
 long-more k l v h = choose-no _ _ (ne-eqb v 0 h)
 
--- Of at most i names the length is known; those left are called by the number rest.
+-- Of at most i names the length is known; those left are the digits of rest.
 pub record LongTo (l : List ℕ) (v rest len i : ℕ) : Type 0 where
   pub few : len ≤ 13 * i
   pub is : namesLong 4 l v ≡ len + namesLong (4 - i) l rest
@@ -104,8 +106,6 @@ module _ (l : List ℕ) (v rest len i : ℕ) (inv : LongTo l v rest len i) where
         record { few = omega (arith, inv .few); is = omega (arith, inv .is) }
 
 pub ruleset longs = (long-cut, long-whole, long-start, long-end, long-done, long-room, long-on)
-
-pub ruleset numbers = (node-past, proc-past, word-past, digits-start, digits-end, digits-on, digits-done)
 
 -- ---- parts
 

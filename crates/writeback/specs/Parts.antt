@@ -26,7 +26,7 @@ behindLabel t n m = drop (getD n (nodeBase m + 2) 0) (drop (getD n (nodeBase m +
 unfoldable pub nameLong : List ℕ → ℕ → ℕ
 nameLong l q = min 12 (getD l (procBase q + 1) 0)
 
--- How long the names are of the procedures that are called by the number v, each with the byte before it, for at most k callees.
+-- How many bytes the names take of the procedures that are the digits of v, at most k of them, each with the byte before it.
 unfoldable pub namesLong : ℕ → List ℕ → ℕ → ℕ
 namesLong zero l v = 0
 namesLong (suc k) l v = choose (eqb v 0) 0 (nameLong l (v % 256 - 1) + 1 + namesLong k l (v / 256))

@@ -116,7 +116,7 @@ fn name_long(links: &[usize], q: usize) -> usize
     len
 }
 
-// How long the names are of the procedures that are called by this number, each with the byte before it; at most four.
+// How many bytes the names take of the procedures that are the digits of this number, at most four, each with the byte before it.
 fn names_long(links: &[usize], callees: usize) -> usize
     ensures { λ r. ⌜ r ≡ namesLong 4 (now (links .entry)) callees ⌝ }
 {

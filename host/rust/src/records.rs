@@ -28,13 +28,13 @@ pub struct Node {
     pub callees: usize,
 }
 
-/// The number of these callees.
+/// The number that has these callees as its digits.
 pub fn joined_callees(callees: &[u16]) -> usize {
     let from_last = callees.iter().rev();
     from_last.fold(0, |number, &callee| 256 * number + 1 + usize::from(callee))
 }
 
-/// The callees of a number, if it is one of callees: no digit is 0.
+/// The callees that are the digits of a number; none if one of its digits is 0.
 pub fn parted_callees(mut number: usize) -> Option<Vec<usize>> {
     let mut callees = Vec::new();
     while number > 0 {

@@ -4,9 +4,9 @@
 //! right; for a pair of calls the entries of the first callee are a pair, those
 //! of a later one if the exits of every callee before it are, and the pair goes
 //! on after all exits met, in the checker too; a fifth name is malformed, an
-//! unknown one is refused like a single one. The fields and changes are those of
-//! outside cases, and more. The library, where it is linked, must do as the
-//! independent implementation.
+//! unknown one is refused like a single one. Among the fields and changes are
+//! those of the given cases (`given.rs`). The library, where it is linked, must
+//! do as the independent implementation.
 
 mod driving;
 mod whole;
@@ -749,8 +749,8 @@ fn lists_that_lack_one_thing() {
 
 // ---- the lent job
 
-/// The number of callees in a node's record, by docs/MEMORY.md: digits to the
-/// base 256, 1 + each procedure, the first the lowest.
+/// The number that has these procedures as callees in a node's record, by
+/// docs/MEMORY.md: digits to the base 256, 1 + each, the first the lowest.
 fn number(procedures: &[u64]) -> u64 {
     let from_last = procedures.iter().rev();
     from_last.fold(0, |number, procedure| 256 * number + 1 + procedure)
@@ -781,7 +781,7 @@ fn tables() {
     }
 }
 
-/// A number of callees that is another one: 14, at every stage.
+/// A node's callees put as another number: 14, at every stage.
 #[test]
 fn other_numbers() {
     let text = program("a+b+a");
@@ -864,7 +864,7 @@ fn requests() {
     drive.refused(ASK_CHECK, 12, 4);
 }
 
-/// A text with the names in another order has another number of callees: 14.
+/// A text with the names in another order leaves another number there: 14.
 /// One with other names for two procedures leaves the same tables, and the
 /// calls go by the text that is lent: the callee fields are not the same.
 #[test]

@@ -5,6 +5,7 @@
 //! untouched. The library, where it is linked, and the independent
 //! implementation must each do so.
 
+// `whole` uses it.
 mod driving;
 mod whole;
 

@@ -63,7 +63,7 @@ taken-at p n w e h =
     let s = leaves-true p n w e (r .1) in
     (r .0, s .0, s .1)
 
--- Where names are names, no procedure has an empty one; so for a number that names no callee 0 is taken.
+-- Where all procedures have names that are names, none is empty; so past the last callee the procedure 0 is taken.
 pub nameless : (p : Program) → ((q : ℕ) → q < procCount p → isName (nameAt p q) ≡ true) → first (procCount p) (λ q. same (nameAt p q) []) ≡ none
 unfolding isName between _and_
 nameless p names = go (first (procCount p) (λ q. same (nameAt p q) [])) refl
@@ -107,7 +107,7 @@ module _ (p : Program) (wf : WellFormed p) where
       let r = first-found (nodeCount p) (isOf p q X) (wf .exits q h) in
       rw (r .4) (r .3 n l (isOf-of p q X n a b))
 
-  -- The procedure that is looked up for a name exists, also where no procedure has it; that of a call's name has that name.
+  -- The procedure that is looked up for a name exists, also where no procedure has it; that of a callee of a call has the callee's name.
   procOf-below : (name : Bytes) → procOf p name < procCount p
   unfolding procOf orZero
   procOf-below name = go (first (procCount p) (λ q. same (nameAt p q) name)) refl
