@@ -18,8 +18,8 @@ use Rattle.rules.specs.Job.{judged, outcome, passed, refusal}
 use Rattle.rules.specs.Proofs.SheetLayout.{accepted-orderly}
 use Rattle.answer.specs.declared.Answer.{Answer}
 use Rattle.answer.specs.Outcomes.{Answered}
-use Rattle.suite.specs.Rows.{Holds}
-use Rattle.suite.specs.RowLaws.{name-read, suite-read}
+use Rattle.suite.specs.Tables.{Holds}
+use Rattle.suite.specs.TableLaws.{name-read, suite-read}
 use Rattle.versions.specs.Memory.{InMemory, Memory, memory}
 use Rattle.sheet_reader.specs.declared.SheetRead.{SheetRead}
 use Rattle.sheet_reader.specs.Claims.{ClaimsHeld, Reads, Told}

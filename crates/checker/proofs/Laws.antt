@@ -22,8 +22,8 @@ use Rattle.graph.specs.Reads.{upTo}
 use Rattle.graph.proofs.Laws.{before-less}
 use Rattle.pairset.specs.Store.{Has, newAt, oldAt}
 use Rattle.pairset.specs.StoreLaws.{all-pairs, listed-of}
-use Rattle.suite.specs.Rows.{rowMeets}
-use Rattle.suite.specs.RowLaws.{common-meets}
+use Rattle.coverage.specs.Rows.{rowMeets}
+use Rattle.coverage.specs.RowLaws.{meets-are}
 use Rattle.versions.specs.Memory.{Memory, memory}
 use Rattle.versions.specs.MemoryLaws.{edges-chained, entry-is, sound, target-is, well-formed}
 use Rattle.versions.specs.Found.{found-none}
@@ -243,7 +243,7 @@ module _ (rows sets : List ℕ) (i : ℕ) (x : Bool) (ex : x ≡ rowMeets rows s
   meets-is v v′ w m count o p s coverages c d l =
       let few : edgeCount (o .program) ≤ 1024 = sound v o (c .old-in) .fewEdges in
       sym (ex
-      ∙ common-meets (edgeCount (o .program)) rows i (getD coverages i []) few (d .row i l) sets (s .D) (λ e h. c .held .edges-are e (omega arith)) (c .edges))
+      ∙ meets-are (edgeCount (o .program)) rows i (getD coverages i []) few (d .row i l) sets (s .D) (λ e h. c .held .edges-are e (omega arith)) (c .edges))
 
   pub test-free : x ≡ false → TestKept rows sets i true
   unfolding TestKept _⇒_

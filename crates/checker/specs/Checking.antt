@@ -11,7 +11,7 @@ use Rattle.rules.specs.SuiteFile.{TestListing, readTests}
 use Rattle.rules.specs.Job.{checking, givenOf, passed, refusal}
 use Rattle.answer.specs.declared.Answer.{Answer}
 use Rattle.answer.specs.Outcomes.{Answered}
-use Rattle.suite.specs.Rows.{Holds}
+use Rattle.suite.specs.Tables.{Holds}
 use Rattle.versions.specs.Memory.{InMemory, Memory}
 
 -- `verdict`: the answer by the first broken rule, or 0.

@@ -12,7 +12,7 @@ use Rattle.rules.specs.ProgramFile.{Listing}
 use Rattle.rules.specs.Closing.{Coverage, alike, meets}
 use Rattle.rules.specs.Sheet.{Sheet}
 use Rattle.rules.specs.Check.{broken, edgeKept, edgesKept, entered, keeps, rule1, rule5}
-use Rattle.suite.specs.Rows.{Row}
+use Rattle.coverage.specs.Rows.{Row}
 use Rattle.versions.specs.Memory.{InMemory, Memory, memory}
 use Rattle.sheet_reader.specs.Claims.{ClaimsHeld}
 

@@ -32,7 +32,7 @@ fn rule1(ol: &[usize], nl: &[usize], w: &[usize]) -> bool
 fn edge_kept(ol: &[usize], nl: &[usize], w: &[usize], sets: &[u64], e: usize, k: usize) -> bool
     ensures { λ r. ⌜ EdgeKept (now (ol .entry)) (now (nl .entry)) (now (w .entry)) (now (sets .entry)) e k r ⌝ }
 {
-    if suite::in_set(sets, e) {
+    if coverage::in_set(sets, e) {
         return true;
     }
     let t = versions::taken(ol, nl, e, k);
@@ -138,8 +138,8 @@ fn test_kept(rows: &[u64], sets: &[u64], i: usize) -> bool
     requires { ⌜ i < 200 ⌝ }
     ensures { λ r. ⌜ TestKept (now (rows .entry)) (now (sets .entry)) i r ⌝ }
 {
-    if suite::row_meets(rows, i, sets) {
-        return suite::in_set(sets, 1024 + i);
+    if coverage::row_meets(rows, i, sets) {
+        return coverage::in_set(sets, 1024 + i);
     }
     true
 }

@@ -12,7 +12,7 @@ use Rattle.rules.specs.Proofs.TextLaws.{then-passes}
 use Rattle.reader.specs.declared.Count.{Count}
 use Rattle.reader.specs.Result.{InTable, ReadInto, Told}
 use Rattle.suite.specs.declared.Read.{Read}
-use Rattle.suite.specs.Rows.{Holds}
+use Rattle.suite.specs.Tables.{Holds}
 use Rattle.suite.specs.Reading.{Reads, TestsRead, accepted-of, refused-of}
 use Rattle.versions.specs.MemoryLaws.{in-memory}
 use Rattle.intake.specs.declared.Counts.{Counts}

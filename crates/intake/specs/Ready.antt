@@ -8,7 +8,7 @@ use Rattle.rules.specs.ProgramFile.{Listing}
 use Rattle.rules.specs.SuiteFile.{TestListing, readTests}
 use Rattle.rules.specs.Job.{Given, givenOf, readJob}
 use Rattle.reader.specs.Result.{linksOf}
-use Rattle.suite.specs.Rows.{Holds}
+use Rattle.suite.specs.Tables.{Holds}
 use Rattle.versions.specs.Memory.{InMemory, Memory, memory}
 use Rattle.intake.specs.declared.Counts.{Counts}
 

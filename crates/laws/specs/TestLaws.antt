@@ -189,6 +189,17 @@ module _ (f : ℕ → Bool) where
       go none k false q r (inr l) = true≢false (let z : true ≡ false = cc in z)
       go (some j) k b q r l = true≢false (let z : true ≡ false = cc in z)
 
+  -- Below what `first` finds none passes.
+  pub first-low : (n i : ℕ) → first n f ≡ some i → (j : ℕ) → j < i → f j ≡ true → ⊥
+  unfolding first orElse ifTrue
+  first-low zero i e j h p = absurd (true≢false (let z : true ≡ false = cc in z))
+  first-low (suc n) i e j h p = go (first n f) refl (first-low n i) (f n) e
+    where
+      go : (o : Option ℕ) → first n f ≡ o → (o ≡ some i → (k : ℕ) → k < i → f k ≡ true → ⊥) → (b : Bool) → orElse o (ifTrue b n) ≡ some i → ⊥
+      go none q l true r = let t : n ≡ i = cc in first-none n q j (omega arith) p
+      go none q l false r = true≢false (let z : true ≡ false = cc in z)
+      go (some k) q l b r = l r j h p
+
   -- `first` finds the only number that passes.
   pub first-only : (n i : ℕ) → i < n → f i ≡ true → ((j : ℕ) → j < n → f j ≡ true → j ≡ i) → first n f ≡ some i
   first-only n i h p only = go (first n f) refl

@@ -21,8 +21,8 @@ use Rattle.rules.specs.SuiteFile.{TestListing, readSuite, readTests, testCount}
 use Rattle.rules.specs.Job.{readJob, givenOf}
 use Rattle.graph.specs.Table.{At, nodeBase, procBase, edgeBase, headBase, nodeRow, procRow, edgeRow, headOf, nodesAfter, linksAfter}
 use Rattle.graph.specs.Lookups.{in-table}
-use Rattle.suite.specs.Rows.{Holds}
-use Rattle.suite.specs.RowLaws.{suite-read}
+use Rattle.suite.specs.Tables.{Holds}
+use Rattle.suite.specs.TableLaws.{suite-read}
 use Rattle.versions.specs.Memory.{InMemory, memory}
 use Rattle.program.specs.Lent.{isLeft}
 use Rattle.lent_tests.specs.Lent.{isLeft as testsLeft}

@@ -12,7 +12,7 @@ use Rattle.laws.specs.Bits.{words-length}
 use Rattle.rules.specs.Text.{same, Reading, refused, accepted}
 use Rattle.rules.specs.SuiteFile.{TestListing, coverageAt, readTests}
 use Rattle.suite.specs.declared.Read.{Read}
-use Rattle.suite.specs.Rows.{Holds}
+use Rattle.suite.specs.Tables.{Holds}
 use Rattle.suite.specs.Reading.{After, Reads, TestsRead}
 use Rattle.lent_tests.specs.Lent.{testRow, coverageRow, testsAfter, rowsAfter, copiedTests, copiedRows, Leaves, ReadLent, isLeft, leftNumber, leftCount, TestsLeft}
 

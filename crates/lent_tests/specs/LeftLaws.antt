@@ -13,8 +13,9 @@ use Rattle.rules.specs.Text.{Bytes, accepted}
 use Rattle.rules.specs.SuiteFile.{TestListing, coverageAt, readTests, testCount}
 use Rattle.rules.specs.Proofs.TextLaws.{same-of}
 use Rattle.rules.specs.Proofs.SuiteLaws.{SoundSuite}
-use Rattle.suite.specs.Rows.{Holds, edgeBit}
-use Rattle.suite.specs.RowLaws.{suite-read}
+use Rattle.coverage.specs.Rows.{edgeBit}
+use Rattle.suite.specs.Tables.{Holds}
+use Rattle.suite.specs.TableLaws.{suite-read}
 use Rattle.lent_tests.specs.Lent.{testRow, coverageRow, testsAfter, rowsAfter, isLeft}
 
 -- Tables of the fixed lengths, or longer, hold what reading leaves in them.

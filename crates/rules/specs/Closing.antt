@@ -1,11 +1,12 @@
 -- The closing rules: which nodes are alike and which are pairs, which old edges are dangerous, which tests are repeated, which edges are counterparts, and a test's marks.
 use mathlib.Core.Path.{_≡_}
 use mathlib.Core.Bool.{Bool, true, false}
+use mathlib.Core.Option.{Option}
 use mathlib.Core.List.{List, []}
 use Prim.Native.Nat.{ℕ, zero, suc, _<_}
 use lib.Dec.{eqb}
 use lib.ListN.{length, getD}
-use Rattle.laws.specs.Tests.{_and_, _or_, _⇒_, choose, isnt, every, any, those, anyOf, listed, anyPair, pick, grid}
+use Rattle.laws.specs.Tests.{_and_, _or_, _⇒_, choose, isnt, every, any, first, those, has, anyOf, listed, anyPair, pick, grid}
 use Rattle.rules.specs.Text.{same, sameLabel, Bytes}
 use Rattle.rules.specs.Graph.{C, Program, nodeCount, edgeCount, kindAt, labelAt, calleeAt, sourceAt, wordAt, targetAt, entry, exit, calleeCount, called, sameKind}
 
@@ -134,6 +135,10 @@ holds coverage e = getD coverage e false
 -- The coverage holds an edge of the list.
 unfoldable pub meets : List ℕ → Coverage → Bool
 meets D coverage = anyOf (holds coverage) D
+
+-- The search for a dangerous edge in a row (document 02, job 4): the lowest edge below m that the coverage holds and the list has, or none.
+unfoldable pub firstDanger : ℕ → List ℕ → Coverage → Option ℕ
+firstDanger m D coverage = first m (λ e. holds coverage e and has D e)
 
 -- The repeated tests ("repeated lifts"), ascending: those whose coverage holds a dangerous edge.
 unfoldable pub repeated : Program → Program → List Coverage → List ℕ

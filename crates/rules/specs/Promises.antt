@@ -2,7 +2,7 @@
 use mathlib.Core.Path.{_≡_}
 use mathlib.Core.Logic.{_↔_, _⊎_}
 use mathlib.Core.Bool.{Bool, true, false}
-use mathlib.Core.Option.{some}
+use mathlib.Core.Option.{none, some}
 use mathlib.Core.List.{List, [], _∷_, _++_}
 use Prim.Native.Nat.{ℕ, suc, _≤_, _<_, _/_, _%_}
 use lib.ListN.{length, getD, take, drop}
@@ -14,7 +14,7 @@ use Rattle.rules.specs.Graph.{C, E, Program, WellFormed, X, called, call
 use Rattle.rules.specs.ProgramFile.{Listing, readListing, readProgram}
 use Rattle.rules.specs.SuiteFile.{Suite, TestListing, coverageAt, readSuite, readTests, testCount, testName}
 use Rattle.rules.specs.Run.{Config, Meaning, ended, run, start, trail}
-use Rattle.rules.specs.Closing.{Counterparts, Coverage, Dangerous, ExitsMet, Pair, alike, dangers, fits, holds, joined, pairs, repeated}
+use Rattle.rules.specs.Closing.{Counterparts, Coverage, Dangerous, ExitsMet, Pair, alike, dangers, firstDanger, fits, holds, joined, pairs, repeated}
 use Rattle.rules.specs.Sheet.{Sheet, SheetLine, crossed, d-line, end-line, head-line, leftOff, m-line, no-form, r-line, rLine, sheetForm, sheetLines, sheetText, vLine}
 use Rattle.rules.specs.Check.{rule1, rule2, rule3, rule4, rule5}
 use Rattle.rules.specs.Job.{Given, Outcome, Request, Version, answering, check-sheet, checkAnswer, givenOf, labelPart, labelShown, labelSpan, lastNumber, no-request, numberOf, outputAfter, packed, packedSpan, passed, placeOf, programAnswer, readJob, readNewAnswer, readOldAnswer, readTestsAnswer, recordAnswer, recordBytes, refusal, requestBy, serving, sheetAnswer, sheetBytes, show-label, spanShown, success, write-program, write-record, write-sheet, written, wrote}
@@ -331,6 +331,18 @@ pub record Demand2 (old new tests : Bytes) : Type 0 where
   pub sheet-exact : (room : ℕ) (sheet : Bytes) → sheetAnswer old new tests room ≡ wrote sheet → (g : Given) × (readJob old new tests ≡ accepted g) × SheetExact g sheet
   pub line-exact : (i room : ℕ) (line : Bytes) → recordAnswer old new tests i room ≡ wrote line
       → (g : Given) × (readJob old new tests ≡ accepted g) × (i < testCount (g .suite)) × LineExact (g .old) (g .new) (testName (g .suite) i) (coverageAt (g .suite) i) line
+
+-- ---- the search for a dangerous edge in a row (document 02, job 4)
+
+-- An edge is answered exactly if it is the lowest dangerous one that the coverage holds, and none exactly if the test is not repeated.
+pub record SearchExact (old new : Program) (coverage : Coverage) : Type 0 where
+  pub found-is : (e : ℕ) → (firstDanger (edgeCount old) (dangers old new) coverage ≡ some e)
+      ↔ (Dangerous old new e × (holds coverage e ≡ true) × ((f : ℕ) → f < e → Dangerous old new f → holds coverage f ≡ true → ⊥))
+  pub none-is : (firstDanger (edgeCount old) (dangers old new) coverage ≡ none) ↔ (Repeated old new coverage → ⊥)
+
+-- Of the programs that texts give.
+abbrev pub SearchesExact : Type 0
+SearchesExact = (old new : Bytes) (p p′ : Program) → readProgram old ≡ accepted p → readProgram new ≡ accepted p′ → (coverage : Coverage) → SearchExact p p′ coverage
 
 -- ---- programs written back (document 02, job 1)
 

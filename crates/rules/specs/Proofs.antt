@@ -20,6 +20,7 @@ pub mod StoredSheets
 pub mod Places
 pub mod BackLaws
 pub mod Answers
+pub mod Search
 pub mod Selection
 pub mod Written
 pub mod Exported

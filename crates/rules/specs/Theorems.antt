@@ -36,6 +36,7 @@ use Rattle.rules.specs.Promises.{
   RecordUnnamed,
   RequestsNumbered,
   RulesExact,
+  SearchesExact,
   SqueezedExact,
   StoredSheetsPass,
   SuiteLayout,
@@ -60,6 +61,7 @@ use Rattle.rules.specs.Proofs.Places.{listing-placed, label-part, tests-
 use Rattle.rules.specs.Proofs.ProgramLaws.{read-well-formed}
 use Rattle.rules.specs.Proofs.ReadBack.{written-passes}
 use Rattle.rules.specs.Proofs.Refused as Refused
+use Rattle.rules.specs.Proofs.Search.{search-exact}
 use Rattle.rules.specs.Proofs.Selection.{selection-exact}
 use Rattle.rules.specs.Proofs.SheetLayout.{check-exact}
 use Rattle.rules.specs.Proofs.StoredSheets.{former-is}
@@ -155,6 +157,9 @@ closing-rules-exact old new p p′ e e′ = exact p p′ (read-well-formed old p
 
 pub demand2 : (old new tests : Bytes) → Demand2 old new tests
 demand2 = selection-exact
+
+pub searches-exact : SearchesExact
+searches-exact old new p p′ e e′ = search-exact p p′ (closing-rules-exact old new p p′ e e′)
 
 pub written-unchanged : WrittenUnchanged
 written-unchanged = back-unchanged

@@ -21,7 +21,7 @@ use Rattle.rules.specs.ProgramFile.{Listing}
 use Rattle.graph.specs.Table.{edgeBase}
 use Rattle.pairset.specs.Store.{lastPair, newAt, oldAt, pairBefore, pairsIn}
 use Rattle.pairset.specs.StoreLaws.{walked}
-use Rattle.suite.specs.Rows.{edgeBit}
+use Rattle.coverage.specs.Rows.{edgeBit}
 use Rattle.versions.specs.Found.{found-at, found-none}
 use Rattle.laws.specs.Those.{any-more, any-skip}
 use Rattle.selection.specs.Compared.{Compared, counterpart, joins-lead, leads-any}

@@ -14,7 +14,7 @@ use Rattle.rules.specs.Closing.{Coverage, carries, carriesOnly, dangers, joined
 use Rattle.rules.specs.Sheet.{marksOf}
 use Rattle.rules.specs.ProgramFile.{Listing}
 use Rattle.pairset.specs.Store.{pairsIn}
-use Rattle.suite.specs.Rows.{Row}
+use Rattle.coverage.specs.Rows.{Row}
 use Rattle.selection.specs.Compared.{Compared, counterpart}
 
 -- `joins`: 1 + the edge of the new node m that is joined with the old edge e, which leaves the node n, for the pair of n and m, or 0.

@@ -185,7 +185,7 @@ fn carry(
     requires { ⌜ test ≤ 200 ⌝ }
     ensures { λ _. ⌜ Carried (now (on .entry)) (now (ol .entry)) (now (nn .entry)) (now (nl .entry)) (now (w .entry)) (now (rows .entry)) test e (now (marks .entry)) (now (marks .exit)) ⌝ }
 {
-    if suite::covers(rows, test, e) {
+    if coverage::covers(rows, test, e) {
         let f = only_counterpart(on, ol, nn, nl, w, e);
         if f == 0 {
             raise_all(on, ol, nn, nl, w, e, marks);

@@ -19,7 +19,7 @@ use Rattle.laws.specs.Bits.{odd-plus, wordOf}
 use Rattle.rules.specs.Text.{Bytes, allBytes, between}
 use Rattle.rules.specs.SuiteFile.{bitsOf, hexByte, hexValue}
 use Rattle.laws.specs.Digits.{itself, number}
-use Rattle.suite.specs.Rows.{turn}
+use Rattle.suite.specs.Tables.{turn}
 use Rattle.suite.proofs.Laws.{all-drop, digit-before, digits-part}
 
 -- ---- the value of a digit: one test at each byte, which antt computes

@@ -24,7 +24,8 @@ use Rattle.text.specs.Scans.{span}
 use Rattle.text.specs.SplitLaws.{uncut}
 use Rattle.text.specs.Hash.{hashOf, hash-small}
 use Rattle.suite.specs.declared.Read.{Read}
-use Rattle.suite.specs.Rows.{Holds, Row, edgeBit, storedRow, storedTest}
+use Rattle.coverage.specs.Rows.{Row, edgeBit}
+use Rattle.suite.specs.Tables.{Holds, storedRow, storedTest}
 use Rattle.suite.specs.Reading.{Adds, Known, Marked, Steps, beginsTest, commaIn, nameAt, nameIn, nameMet}
 use Rattle.suite.proofs.Forms.{none-set, begins-form, begins-four, begins-none, fine-free}
 

@@ -19,7 +19,7 @@ use Rattle.rules.specs.Proofs.SuiteLaws.{TestFormed, test-formed}
 use Rattle.text.specs.Scans.{span}
 use Rattle.text.specs.SplitLaws.{cut-at, uncut-at}
 use Rattle.suite.specs.declared.Read.{Read}
-use Rattle.suite.specs.Rows.{Holds}
+use Rattle.suite.specs.Tables.{Holds}
 use Rattle.suite.specs.Reading.{After, Known, Lines, Marked, MarkedAfter, Reads, Stepped, Steps, accepted-of, refused-of}
 use Rattle.suite.proofs.Stores.{known-more}
 

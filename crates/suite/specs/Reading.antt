@@ -13,7 +13,7 @@ use Rattle.rules.specs.SuiteFile.{TestListing, finishSuite, noTests, readTests,
 use Rattle.text.specs.Scans.{span}
 use Rattle.text.specs.Hash.{hashOf}
 use Rattle.suite.specs.declared.Read.{Read}
-use Rattle.suite.specs.Rows.{Holds}
+use Rattle.suite.specs.Tables.{Holds}
 
 -- ---- a line
 

@@ -3,16 +3,15 @@ ghost use mathlib.Core.Path.{_≡_};
 ghost use mathlib.Core.Bool.{true};
 ghost use mathlib.Core.List.{_∷_, []};
 ghost use Prim.Native.Nat.{_+_, _*_, _/_, _%_, _≤_, _<_};
-ghost use lib.Count.{ones as onesOf, trailingZeros};
-ghost use lib.ListN.{drop, getD, length, set as setAt, take};
+ghost use lib.ListN.{drop, length, set as setAt, take};
 ghost use Rattle.laws.specs.Digits.{itself, number};
-ghost use Rattle.laws.specs.Bits.{bitIn, wordOf};
+ghost use Rattle.laws.specs.Bits.{wordOf};
 ghost use Rattle.laws.specs.BitSets.{withBit};
 ghost use Rattle.rules.specs.Text.{allBytes};
 ghost use Rattle.rules.specs.SuiteFile.{bitsOf, hexByte, hexValue, noneSet, rowFine};
 ghost use Rattle.text.specs.Hash.{hashOf};
 ghost use Rattle.suite.specs.Reading.{Added, LinesRead, Stepped, TestsRead, beginsTest, commaIn, nameAt, nameIn, nameMet};
-ghost use Rattle.suite.specs.Rows.{edgeBit, rowCommon, rowMeets, rowOnes, storedRow, storedTest, turn};
+ghost use Rattle.suite.specs.Tables.{storedRow, storedTest, turn};
 
 // What was read: a refusal by number and place, where the number is not 0, or how many tests there are.
 pub struct Read {
@@ -34,16 +33,6 @@ pub fn refused(number: usize, place: usize) -> Read
 
 // ---- words and bits
 
-// The word at i, or 0 past the end.
-fn word_at(rows: &[u64], i: usize) -> u64
-    ensures { λ r. ⌜ r ≡ getD (now (rows .entry)) i 0 ⌝ }
-{
-    if i < rows.len() {
-        return rows[i];
-    }
-    0
-}
-
 // Puts the word w at i; past the end, nothing.
 fn put_word(rows: &mut [u64], i: usize, w: u64)
     ensures { λ _. ⌜ now (rows .exit) ≡ setAt (now (rows .entry)) i w ⌝ }
@@ -51,20 +40,6 @@ fn put_word(rows: &mut [u64], i: usize, w: u64)
     if i < rows.len() {
         rows[i] = w;
     }
-}
-
-// How many bits of a word are 1.
-fn ones_of(w: u64) -> usize
-    ensures { λ r. ⌜ r ≡ onesOf w ⌝ }
-{
-    u64::count_ones(w) as usize
-}
-
-// How many bits of a word stand below its lowest 1.
-fn zeros_below(w: u64) -> usize
-    ensures { λ r. ⌜ r ≡ trailingZeros 64 w ⌝ }
-{
-    u64::trailing_zeros(w) as usize
 }
 
 // The number of eight bytes, the first lowest.
@@ -402,62 +377,4 @@ pub fn read_tests(text: &[u8], edges: usize, tests: &mut [usize], rows: &mut [u6
     }
     let mut filter = [0usize; 64];
     read_lines(text, edges, &mut filter, tests, rows)
-}
-
-// ---- what the row of a test says
-
-// Whether the test covers the edge e.
-pub fn covers(rows: &[u64], test: usize, e: usize) -> bool
-    requires { ⌜ test ≤ 200 ⌝ }
-    ensures { λ r. ⌜ r ≡ edgeBit (now (rows .entry)) test e ⌝ }
-{
-    let w = word_at(rows, 16 * test + e / 64);
-    let shift = e % 64;
-    (w >> shift) % 2 == 1
-}
-
-// Whether the set has the bit i.
-pub fn in_set(set: &[u64], i: usize) -> bool
-    ensures { λ r. ⌜ r ≡ bitIn (now (set .entry)) i ⌝ }
-{
-    covers(set, 0, i)
-}
-
-// How many edges the test covers.
-pub fn ones(rows: &[u64], test: usize) -> usize
-    requires { ⌜ test ≤ 200 ⌝ }
-    ensures { λ r. ⌜ r ≡ rowOnes (now (rows .entry)) test ⌝ }
-{
-    let mut sum = 0;
-    let mut k = 0;
-    while k < 16 {
-        let w = word_at(rows, 16 * test + k);
-        sum += ones_of(w);
-        k += 1;
-    }
-    sum
-}
-
-// 1 + the lowest edge that the test covers and the set has, or 0.
-fn first_common(rows: &[u64], test: usize, set: &[u64]) -> usize
-    requires { ⌜ test ≤ 200 ⌝ }
-    ensures { λ r. ⌜ r ≡ rowCommon (now (rows .entry)) test (now (set .entry)) ⌝ }
-{
-    let mut k = 0;
-    while k < 16 {
-        let w = word_at(rows, 16 * test + k) & word_at(set, k);
-        if w != 0 {
-            return 64 * k + zeros_below(w) + 1;
-        }
-        k += 1;
-    }
-    0
-}
-
-// Whether the test covers an edge of the set.
-pub fn row_meets(rows: &[u64], test: usize, set: &[u64]) -> bool
-    requires { ⌜ test ≤ 200 ⌝ }
-    ensures { λ r. ⌜ r ≡ rowMeets (now (rows .entry)) (now (set .entry)) test ⌝ }
-{
-    0 < first_common(rows, test, set)
 }

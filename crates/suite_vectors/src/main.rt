@@ -12,7 +12,7 @@ fn covered(rows: &[u64], count: usize) {
     }
     let mut i = 0;
     while i < count {
-        files::print_field(suite::ones(rows, i));
+        files::print_field(coverage::ones(rows, i));
         i += 1;
     }
 }

@@ -25,8 +25,9 @@ use Rattle.selection.specs.Dangers.{Copies, DangersCopied}
 use Rattle.selection.specs.DangerLaws.{row-meets}
 use Rattle.selection.specs.Marks.{Finds, MarksFound}
 use Rattle.selection.specs.MarkLaws.{marks-front}
-use Rattle.suite.specs.Rows.{Holds, rowMeets}
-use Rattle.suite.specs.RowLaws.{suite-read}
+use Rattle.coverage.specs.Rows.{rowMeets}
+use Rattle.suite.specs.Tables.{Holds}
+use Rattle.suite.specs.TableLaws.{suite-read}
 use Rattle.writer.specs.Sheets.{RecordWrites, RecordWritten, SheetWrites, SheetWritten, selection, writing-written}
 use Rattle.intake.specs.declared.Counts.{Counts}
 use Rattle.intake.specs.Ready.{Few, Ready}

@@ -95,7 +95,7 @@ pub fn record_from(
     let mut marks = [0u8; 1024];
     let old_edges = had.old_edges;
     let new_edges = had.new_edges;
-    let again = suite::row_meets(rows, i, set);
+    let again = coverage::row_meets(rows, i, set);
     selection::find_marks(
         on,
         ol,

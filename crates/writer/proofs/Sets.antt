@@ -11,7 +11,7 @@ use Rattle.laws.specs.TestLaws.{count-skip, count-more}
 use Rattle.laws.specs.Bits.{bitIn}
 use Rattle.rules.specs.Text.{Bytes, textOf}
 use Rattle.rules.specs.Sheet.{dLine, rLine}
-use Rattle.suite.specs.Rows.{rowMeets}
+use Rattle.coverage.specs.Rows.{rowMeets}
 use Rattle.suite.specs.Reading.{nameAt}
 use Rattle.writer.specs.Writes.{Writes, writes-none, writes-then}
 use Rattle.writer.specs.Laws.{text-append, those-more, those-skip}

@@ -23,8 +23,10 @@ use Rattle.answer.specs.Outcomes.{Told, refusal-told, told-as}
 use Rattle.text.specs.Puts.{Puts, puts-front, puts-length, puts-measure, puts-then}
 use Rattle.pairset.specs.Store.{newAt, oldAt, pairsIn}
 use Rattle.pairset.specs.StoreLaws.{listed-of}
-use Rattle.suite.specs.Rows.{Holds, rowMeets, rowOnes}
-use Rattle.suite.specs.RowLaws.{common-meets, name-read, ones-are, suite-read}
+use Rattle.coverage.specs.Rows.{rowMeets, rowOnes}
+use Rattle.suite.specs.Tables.{Holds}
+use Rattle.coverage.specs.RowLaws.{meets-are, ones-are}
+use Rattle.suite.specs.TableLaws.{name-read, suite-read}
 use Rattle.versions.specs.PairsHeld.{PairsHeld}
 use Rattle.writer.specs.Laws.{asc-same, text-append, text-more, those-map, those-self}
 use Rattle.writer.specs.Writes.{Writes, writes-length}
@@ -91,7 +93,7 @@ module _ (old new : Program) (set : List ℕ) (few : edgeCount old ≤ 1024) (is
         let q : n ≡ length (l .suite .coverages) = hold .counted ∙ sym (suite-read (edgeCount old) text l e .paired) in
         those-agree (rowMeets rows set) (λ i. meets (dangers old new) (coverageAt (l .suite) i)) n
         (λ i h.
-        common-meets (edgeCount old) rows i (coverageAt (l .suite) i) few (hold .row i (omega (arith, hold .counted))) set (dangers old new)
+        meets-are (edgeCount old) rows i (coverageAt (l .suite) i) few (hold .row i (omega (arith, hold .counted))) set (dangers old new)
         (λ e h. is e (omega arith)) (dangers-inside old new))
         ∙ ap (λ (k : ℕ). those k (λ i. meets (dangers old new) (coverageAt (l .suite) i))) q
 

@@ -16,7 +16,8 @@ use Rattle.rules.specs.Job.{Given, writing, written}
 use Rattle.answer.specs.declared.Answer.{Answer}
 use Rattle.answer.specs.Outcomes.{Told}
 use Rattle.text.specs.Puts.{Puts}
-use Rattle.suite.specs.Rows.{Holds, rowOnes}
+use Rattle.coverage.specs.Rows.{rowOnes}
+use Rattle.suite.specs.Tables.{Holds}
 use Rattle.versions.specs.PairsHeld.{PairsHeld}
 use Rattle.writer.specs.Texts.{shortName}
 

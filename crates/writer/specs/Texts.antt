@@ -7,7 +7,7 @@ use Rattle.laws.specs.Bits.{bitIn}
 use Rattle.rules.specs.Text.{Bytes, textOf}
 use Rattle.rules.specs.Sheet.{dLine, mLine, rLine}
 use Rattle.pairset.specs.Store.{pairsIn}
-use Rattle.suite.specs.Rows.{rowMeets}
+use Rattle.coverage.specs.Rows.{rowMeets}
 use Rattle.suite.specs.Reading.{nameAt}
 
 -- The M lines of pairs.

@@ -10,7 +10,7 @@ ghost use Rattle.laws.specs.Bits.{bitIn};
 ghost use Rattle.laws.specs.Tests.{count as countOf};
 ghost use Rattle.rules.specs.Text.{decimal, textOf};
 ghost use Rattle.rules.specs.Sheet.{dLine, endLine, headLine, mLine, rLine, vLine};
-ghost use Rattle.suite.specs.Rows.{rowMeets};
+ghost use Rattle.coverage.specs.Rows.{rowMeets};
 ghost use Rattle.writer.specs.Claims.{PairsPut, PartnersPut};
 ghost use Rattle.writer.specs.Sheets.{RecordWritten, SheetPut, SheetWritten, TextWritten, selection};
 ghost use Rattle.writer.specs.Texts.{dangerText, repeatText, shortName};
@@ -147,7 +147,7 @@ fn count_dangers(set: &[u64], edges: usize) -> usize
     let mut sum = 0;
     let mut e = 0;
     while e < edges {
-        if suite::in_set(set, e) {
+        if coverage::in_set(set, e) {
             sum += 1;
             e += 1;
         } else {
@@ -165,7 +165,7 @@ fn put_dangers(out: &mut [u8], at: usize, set: &[u64], edges: usize) -> usize
     let mut k = at;
     let mut e = 0;
     while e < edges {
-        if suite::in_set(set, e) {
+        if coverage::in_set(set, e) {
             k = put_danger(out, k, e);
             e += 1;
         } else {
@@ -193,7 +193,7 @@ fn count_repeats(rows: &[u64], count: usize, set: &[u64]) -> usize
     let mut n = 0;
     let mut i = 0;
     while i < count {
-        if suite::row_meets(rows, i, set) {
+        if coverage::row_meets(rows, i, set) {
             n += 1;
             i += 1;
         } else {
@@ -219,7 +219,7 @@ fn put_repeats(
     let mut k = at;
     let mut i = 0;
     while i < count {
-        if suite::row_meets(rows, i, set) {
+        if coverage::row_meets(rows, i, set) {
             k = put_repeat(out, k, test_name(text, tests, i));
             i += 1;
         } else {
@@ -318,7 +318,7 @@ pub fn write_record(
     ensures { λ r. ⌜ RecordWritten (now (text .entry)) (now (tests .entry)) (now (rows .entry)) i (now (marks .entry)) edges (now (out .entry)) r (now (out .exit)) ⌝ }
 {
     let name = test_name(text, tests, i);
-    let crossed = suite::ones(rows, i);
+    let crossed = coverage::ones(rows, i);
     let line = text::front(marks, edges);
     let len = put_record(&mut out[..0], 0, name, crossed, line);
     if out.len() < len {

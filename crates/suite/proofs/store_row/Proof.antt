@@ -3,7 +3,7 @@ use Rattle.suite.proofs.All.{all}
 use Prim.Native.Nat.{_≤_, _-_}
 use mathlib.Core.Path.{_≡_}
 use lib.ListN.{length}
-use Rattle.suite.specs.Rows.{storedRow}
+use Rattle.suite.specs.Tables.{storedRow}
 use Rattle.suite.proofs.Laws.{storedFrom}
 use Rattle.suite.proofs.store_row.Statement.{statement}
 use Rattle.suite.proofs.store_row.Tie as tie

@@ -3,7 +3,7 @@ use Rattle.writer.proofs.All.{all}
 use Prim.Native.Nat.{_≤_, _-_}
 use mathlib.Core.Path.{_≡_}
 use Rattle.laws.specs.Tests.{count as countOf}
-use Rattle.suite.specs.Rows.{rowMeets}
+use Rattle.coverage.specs.Rows.{rowMeets}
 use Rattle.writer.proofs.count_repeats.Statement.{statement}
 use Rattle.writer.proofs.count_repeats.Tie as tie
 

@@ -1,7 +1,7 @@
 use borrow.Author.Needs.{needs}
-use Rattle.suite.proofs.All.{all}
-use Rattle.suite.proofs.covers.Statement.{statement}
-use Rattle.suite.proofs.covers.Tie as tie
+use Rattle.coverage.proofs.Laws.{all}
+use Rattle.coverage.proofs.covers.Statement.{statement}
+use Rattle.coverage.proofs.covers.Tie as tie
 
 mul-word-at : tie.Need-mul-word-at
 mul-word-at c = search needs

@@ -1,7 +1,7 @@
 use borrow.Author.Needs.{needs}
-use Rattle.suite.proofs.All.{all}
-use Rattle.suite.proofs.word_at.Statement.{statement}
-use Rattle.suite.proofs.word_at.Tie as tie
+use Rattle.coverage.proofs.Laws.{all}
+use Rattle.coverage.proofs.word_at.Statement.{statement}
+use Rattle.coverage.proofs.word_at.Tie as tie
 
 mul-result : tie.Need-mul-result
 mul-result c = search needs

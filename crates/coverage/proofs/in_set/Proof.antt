@@ -1,7 +1,7 @@
 use borrow.Author.Needs.{needs}
-use Rattle.suite.proofs.All.{all}
-use Rattle.suite.proofs.in_set.Statement.{statement}
-use Rattle.suite.proofs.in_set.Tie as tie
+use Rattle.coverage.proofs.Laws.{all}
+use Rattle.coverage.proofs.in_set.Statement.{statement}
+use Rattle.coverage.proofs.in_set.Tie as tie
 
 covers-requires : tie.Need-covers-requires
 covers-requires c κs = search needs

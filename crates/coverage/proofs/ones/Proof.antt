@@ -1,11 +1,11 @@
 use borrow.Author.Needs.{needs}
-use Rattle.suite.proofs.All.{all}
+use Rattle.coverage.proofs.Laws.{all}
 use Prim.Native.Nat.{_≤_, _-_, _*_}
 use mathlib.Core.Path.{_≡_}
 use Rattle.laws.specs.Tests.{count}
-use Rattle.suite.specs.Rows.{edgeBit}
-use Rattle.suite.proofs.ones.Statement.{statement}
-use Rattle.suite.proofs.ones.Tie as tie
+use Rattle.coverage.specs.Rows.{edgeBit}
+use Rattle.coverage.proofs.ones.Statement.{statement}
+use Rattle.coverage.proofs.ones.Tie as tie
 
 abbrev Inv-loop : tie.InvT-loop
 Inv-loop rows test sum₀ k₀ sum k = (k ≤ 16) × (sum ≡ count (64 * k) (edgeBit rows test))

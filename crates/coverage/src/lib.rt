@@ -1,0 +1,143 @@
+// Coverage in memory: the row of a test as words of 64 bits, lowest edge first. Which edges it has, how many, and the lowest dangerous one.
+ghost use mathlib.Core.Path.{_≡_};
+ghost use Prim.Native.Nat.{_≤_, _<_, min};
+ghost use lib.Bits.{bitAnd};
+ghost use lib.Count.{ones as onesOf, trailingZeros};
+ghost use lib.ListN.{getD, length};
+ghost use Rattle.laws.specs.Bits.{bitIn};
+ghost use Rattle.coverage.specs.Rows.{edgeBit, edgeFound, firstCommon, rowMeets, rowOf, rowOnes};
+
+// What a search for an edge answers: the edge, or that there is none.
+pub enum Found {
+    At(usize),
+    Nothing,
+}
+
+// ---- words
+
+// The word at i, or 0 past the end.
+fn word_at(rows: &[u64], i: usize) -> u64
+    ensures { λ r. ⌜ r ≡ getD (now (rows .entry)) i 0 ⌝ }
+{
+    if i < rows.len() {
+        return rows[i];
+    }
+    0
+}
+
+// How many bits of a word are 1.
+fn ones_of(w: u64) -> usize
+    ensures { λ r. ⌜ r ≡ onesOf w ⌝ }
+{
+    u64::count_ones(w) as usize
+}
+
+// How many bits of a word stand below its lowest 1.
+fn zeros_below(w: u64) -> usize
+    ensures { λ r. ⌜ r ≡ trailingZeros 64 w ⌝ }
+{
+    u64::trailing_zeros(w) as usize
+}
+
+// The smaller of two numbers.
+fn fewer(a: usize, b: usize) -> usize
+    ensures { λ r. ⌜ r ≡ min a b ⌝ }
+{
+    if a < b {
+        return a;
+    }
+    b
+}
+
+// ---- what the row of a test says
+
+// Whether the test covers the edge e.
+pub fn covers(rows: &[u64], test: usize, e: usize) -> bool
+    requires { ⌜ test ≤ 200 ⌝ }
+    ensures { λ r. ⌜ r ≡ edgeBit (now (rows .entry)) test e ⌝ }
+{
+    let w = word_at(rows, 16 * test + e / 64);
+    let shift = e % 64;
+    (w >> shift) % 2 == 1
+}
+
+// Whether the set has the bit i.
+pub fn in_set(set: &[u64], i: usize) -> bool
+    ensures { λ r. ⌜ r ≡ bitIn (now (set .entry)) i ⌝ }
+{
+    covers(set, 0, i)
+}
+
+// How many edges the test covers.
+pub fn ones(rows: &[u64], test: usize) -> usize
+    requires { ⌜ test ≤ 200 ⌝ }
+    ensures { λ r. ⌜ r ≡ rowOnes (now (rows .entry)) test ⌝ }
+{
+    let mut sum = 0;
+    let mut k = 0;
+    while k < 16 {
+        let w = word_at(rows, 16 * test + k);
+        sum += ones_of(w);
+        k += 1;
+    }
+    sum
+}
+
+// ---- the search for a dangerous edge
+
+// The words of the row of a test, as far as the table has them.
+fn row_of(rows: &[u64], test: usize) -> &[u64]
+    requires { ⌜ test ≤ 200 ⌝ }
+    ensures { λ r. ⌜ now r ≡ rowOf (now (rows .entry)) test ⌝ }
+{
+    let start = 16 * test;
+    if rows.len() < start {
+        return &rows[..0];
+    }
+    if rows.len() - start < 16 {
+        return &rows[start..];
+    }
+    let end = start + 16;
+    &rows[start..end]
+}
+
+// What the word k of a row and that of a set have in common.
+fn common_word(row: &[u64], set: &[u64], k: usize) -> u64
+    requires { ⌜ (k < length (now row)) × (k < length (now set)) ⌝ }
+    ensures { λ r. ⌜ r ≡ bitAnd (getD (now (row .entry)) k 0) (getD (now (set .entry)) k 0) ⌝ }
+{
+    row[k] & set[k]
+}
+
+// The lowest edge that the row and the set both have, or that there is none: the lowest bit of the first word that they have in common.
+pub fn first_danger(row: &[u64], dangers: &[u64]) -> Found
+    ensures { λ r. ⌜ edgeFound r ≡ firstCommon (now (row .entry)) (now (dangers .entry)) ⌝ }
+{
+    let words = fewer(row.len(), dangers.len());
+    let n = fewer(words, 16);
+    let mut k = 0usize;
+    while k < n {
+        let w = common_word(row, dangers, k);
+        if w != 0 {
+            return Found::At(64 * k + zeros_below(w));
+        }
+        k += 1;
+    }
+    Found::Nothing
+}
+
+// Whether the test covers an edge of the set: the search finds one.
+pub fn row_meets(rows: &[u64], test: usize, set: &[u64]) -> bool
+    requires { ⌜ test ≤ 200 ⌝ }
+    ensures { λ r. ⌜ r ≡ rowMeets (now (rows .entry)) (now (set .entry)) test ⌝ }
+{
+    let found = first_danger(row_of(rows, test), set);
+    match found {
+        Found::At(_) => {
+            return true;
+        }
+        Found::Nothing => {
+            return false;
+        }
+    }
+}

@@ -1,0 +1,2 @@
+-- What the exported search returns.
+pub mod Numbers
