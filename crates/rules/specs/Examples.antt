@@ -3,16 +3,16 @@ use mathlib.Core.Path.{_≡_, refl}
 use mathlib.Core.Bool.{Bool, true, false}
 use mathlib.Core.Option.{Option, none, some}
 use lib.Dec.{eqb}
-use mathlib.Core.List.{List, [], _∷_, _++_}
+use mathlib.Core.List.{List, [], _∷_, _++_, map}
 use Prim.Native.Nat.{ℕ, zero, suc}
 use Prim.Native.String.{String}
 use Rattle.laws.specs.Tests.{_and_, _or_, _⇒_, isnt, every, any, orElse, ifTrue, first, plus, count, those, has, anyOf, listed, allPairs, anyPair, pick, gridRow, grid, firstFailed, choose, none?, after}
 use Rattle.rules.specs.Text.{Bytes, same, empty, bytes, maxBytes, then, unless, onto, split, joinBy, textOf, between, allBytes, nameByte, labelByte, wordByte, digitByte, isName, nameCount, nameIn, isCallees, isLabel, isWord, isNumber, nonEmpty, squeezed, sameLabel, valueFrom, digits, decimal, readLines, readText, Reading, accepted, refused}
-use Rattle.rules.specs.Graph.{sameKind, orZero, isOf, entry, exit, procOf, leaves, edgeTaken, degree, worded, Program, called}
+use Rattle.rules.specs.Graph.{sameKind, orZero, isOf, entry, exit, procOf, leaves, edgeTaken, degree, worded, Program, edgeCount, called}
 use Rattle.rules.specs.ProgramFile.{Listing, kindOf, isNode, isEdge, formOf, hasEdge, named, isNodeOf, hasWord, degreeFine, complete, lost, takeLine, stepProgram, finishProgram, readListing, readProgram}
 use Rattle.rules.specs.SuiteFile.{testForm, hexByte, hexValue, bitsOf, noneSet, rowFine, tested, takeTest, stepSuite, readTests, readSuite}
 use Rattle.rules.specs.Run.{Meaning, another, crossing, edgeAhead, ended, endedAt, listOf, run, start, step, stepAt, trail}
-use Rattle.rules.specs.Closing.{alike, fits, bothCall, fitted, exitsMet, goesOn, joined, byStart, byCall, byEdge, follows, grown, dangerousAt, dangerous, closed, pairs, dangers, meets, repeated, carries, carriesOnly, mark, sameCallee, sameWord}
+use Rattle.rules.specs.Closing.{alike, fits, bothCall, fitted, exitsMet, goesOn, joined, byStart, byCall, byEdge, follows, grown, dangerousAt, dangerous, closed, pairs, dangers, firstDanger, meets, repeated, carries, carriesOnly, mark, sameCallee, sameWord}
 use Rattle.rules.specs.Sheet.{selected, mLine, dLine, rLine, endLine, sheetLines, sheetText, markByte, marksOf, crossed, vLine, recordText, sheetForm, before, allBelow, testOf, takeSheetLine, stepSheet, finishSheet, readSheet}
 use Rattle.rules.specs.Check.{entered, keeps, edgeKept, edgesKept, rule1, rule2, rule3, rule4, rule5, broken}
 use Rattle.rules.specs.Job.{Outcome, wrote, refusal, passed, outcome, readJob, written, writing, sheetBytes, recordBytes, sheetAnswer, recordAnswer, judged, checkAnswer, labelPart, bySide, writingBack, programAnswer, serving, answering}
@@ -64,6 +64,9 @@ layers = "P,up\nN,E,,\nN,S,read layer,\nN,S,set speed,\nN,S,hold,\nN,X,,\nB,0,-,
 
 by-layer : String
 by-layer = "P,up\nN,E,,\nN,S,read layer,\nN,S,set speed by layer,\nN,S,hold,\nN,X,,\nB,0,-,1\nB,1,up,2\nB,1,stop,3\nB,2,ok,1\nB,3,ok,4\n"
+
+two-changes : String
+two-changes = "P,up\nN,E,,\nN,S,read layer,\nN,S,set speed by layer,\nN,S,hold on,\nN,X,,\nB,0,-,1\nB,1,up,2\nB,1,stop,3\nB,2,ok,1\nB,3,ok,4\n"
 
 halting : String
 halting = "P,up\nN,E,,\nN,S,read layer,\nN,S,set speed,\nN,S,hold,\nN,X,,\nB,0,-,1\nB,1,up,2\nB,1,halt,3\nB,2,ok,1\nB,3,ok,4\n"
@@ -211,6 +214,29 @@ labels-compared : (sameLabel (bytes " set   speed") (bytes "set speed  ") ≡ tr
 unfolding sameLabel squeezed nonEmpty split onto joinBy same empty choose _and_
 labels-compared = (refl, refl, refl, refl, refl, refl)
 
+-- ---- the search for a dangerous edge in a row (document 02, job 4)
+
+-- What is found in the row of each test, a line each.
+foundText : Option ℕ → Bytes
+foundText none = bytes "none"
+foundText (some e) = decimal e
+
+finds : Job → String → Example
+unfolding foundText
+finds j lines = (
+  outcome (readJob (j .old) (j .new) (j .tests))
+      (λ g. wrote (textOf (map (λ c. foundText (firstDanger (edgeCount (g .old)) (dangers (g .old) (g .new)) c)) (g .suite .coverages)))),
+  wrote (bytes lines),
+)
+
+-- P2, whose only dangerous edge is 1; and with 1 and 2 dangerous: a row that holds 2 alone, both, 1 alone, and neither.
+pub searches : List Example
+unfolding finds p2 job layers by-layer two-changes two-tests
+searches =
+    finds p2 "none\n1\n"
+    ∷ finds (job layers two-changes "T,t1,a8\nT,t2,f8\nT,t3,c0\nT,t4,80\n") "2\n1\n1\nnone\n"
+    ∷ []
+
 -- ---- refusals
 
 -- The text t, n times.
@@ -280,14 +306,14 @@ refusals =
 -- ---- the statement
 
 -- The definitions answer P1 to P8, and the refusals, as document 01 says, and the change requests as document 02 does: one statement over their list, by computation.
-pub examples-answered : answered (examples ++ (backs ++ (blanks ++ (severals ++ refusals)))) ≡ true
-unfolding answered sameOutcome examples backs blanks severals refusals
+pub examples-answered : answered (examples ++ (backs ++ (blanks ++ (severals ++ (searches ++ refusals))))) ≡ true
+unfolding answered sameOutcome examples backs blanks severals searches refusals
     _and_ _or_ _⇒_ isnt choose every any orElse ifTrue first plus count those has anyOf listed allPairs anyPair pick gridRow grid firstFailed none?
     same empty onto split joinBy textOf between allBytes nameByte labelByte wordByte digitByte isName nameCount nameIn isCallees isLabel isWord isNumber valueFrom digits decimal then unless readLines readText
     sameKind orZero isOf entry exit procOf called leaves edgeTaken degree worded
     kindOf isNode isEdge formOf hasEdge named isNodeOf hasWord degreeFine complete lost takeLine stepProgram finishProgram readListing readProgram
     testForm hexByte hexValue bitsOf noneSet rowFine tested takeTest stepSuite readTests readSuite nonEmpty squeezed
-    sameLabel sameCallee sameWord alike fits bothCall fitted exitsMet goesOn joined byStart byCall byEdge follows grown dangerousAt dangerous closed pairs dangers meets repeated carries carriesOnly mark
+    sameLabel sameCallee sameWord alike fits bothCall fitted exitsMet goesOn joined byStart byCall byEdge follows grown dangerousAt dangerous closed pairs dangers meets firstDanger repeated carries carriesOnly mark
     selected mLine dLine rLine endLine sheetLines sheetText markByte marksOf crossed vLine recordText sheetForm before allBelow testOf takeSheetLine stepSheet finishSheet readSheet
     entered keeps edgeKept edgesKept rule1 rule2 rule3 rule4 rule5 broken formerAlike formerRule2 formerBroken formerCheckAnswer
     outcome readJob written writing sheetBytes recordBytes judged serving answering
