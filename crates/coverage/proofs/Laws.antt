@@ -112,10 +112,10 @@ module _ (row set : List ℕ) (k w : ℕ) (inv : NoneTo row set k) (is : w ≡ b
       ∙ sym (bit-and (getD row k 0) (getD set k 0) j)
       ∙ ap (λ (x : ℕ). bitAt x j) (sym is)
 
-  pub danger-found : (z many n : ℕ) → n ≡ min many 16 → k < n → (w ≡ 0 → ⊥) → z ≡ trailingZeros 64 w → edgeFound (At (64 * k + z)) ≡ firstCommon row set
+  pub danger-found : (z many most n : ℕ) → n ≡ min many most → most ≤ 16 → k < n → (w ≡ 0 → ⊥) → z ≡ trailingZeros 64 w → edgeFound (At (64 * k + z)) ≡ firstCommon row set
   unfolding NoneTo firstCommon edgeFound
-  danger-found z many n l h some-bit e =
-      ap (λ (y : ℕ). some (64 * k + y)) e ∙ sym (first-word (both row set) k w fits both-word 16 (omega (arith, min-le-right many 16)) (omega arith) inv)
+  danger-found z many most n l m h some-bit e =
+      ap (λ (y : ℕ). some (64 * k + y)) e ∙ sym (first-word (both row set) k w fits both-word 16 (omega (arith, min-le-right many most)) (omega arith) inv)
 
   pub danger-on : w ≡ 0 → NoneTo row set (k + 1)
   unfolding NoneTo
@@ -135,8 +135,8 @@ past row set e (inr h) = ap (λ (w : ℕ). bitIn row e and bitAt w (e % 64)) (sy
 one-few : (a b k : ℕ) → min a b ≤ k → (a ≤ k) ⊎ (b ≤ k)
 one-few a b k h = below-or a b (λ l. inl (omega (arith, fewer-first a b l))) (λ l. inr (omega (arith, fewer-second a b l)))
 
-pub danger-room : (many n k z w : ℕ) → n ≡ min many 16 → k < n → z ≡ trailingZeros 64 w → 64 * k + z < 2 ^ 64
-danger-room many n k z w l h e = omega (arith, min-le-right many 16, trailing-le 64 w)
+pub danger-room : (many most n k z w : ℕ) → n ≡ min many most → most ≤ 16 → k < n → z ≡ trailingZeros 64 w → 64 * k + z < 2 ^ 64
+danger-room many most n k z w l m h e = omega (arith, min-le-right many most, trailing-le 64 w)
 
 pub danger-none : (row set : List ℕ) (k many n : ℕ) → NoneTo row set k → many ≡ min (length row) (length set) → n ≡ min many 16 → k ≤ n → n ≤ k → edgeFound Nothing ≡ firstCommon row set
 unfolding NoneTo firstCommon edgeFound
