@@ -1,39 +1,30 @@
 -- The turns and the returns of this crate's functions, as `search` finds them: the premises are what the code holds there.
 use mathlib.Core.Path.{_≡_, refl, sym, ap, ap₂, _∙_}
-use mathlib.Core.Logic.{_⊎_, inl, inr, ⊎-elim}
 use mathlib.Core.Bool.{Bool, true, false}
 use mathlib.Core.Option.{Option, none, some}
-use mathlib.Core.List.{List}
-use Prim.Native.Nat.{ℕ, suc, _+_, _-_, _*_, _/_, _%_, _^_, _≤_, _<_, min}
-use native.Mathlib.Nat.{min-eq-left, min-eq-right, min-le-left, min-le-right}
+use mathlib.Core.List.{List, []}
+use Prim.Native.Nat.{ℕ, suc, _+_, _-_, _*_, _/_, _%_, _^_, _≤_, _<_}
 use native.Mathlib.Omega.{arith}
-use lib.Bits.{bitAnd}
+use lib.Bits.{bitAnd, and-le-l}
 use lib.Count.{ones, ones-le, trailingZeros, trailing-le}
 use lib.Dec.{eqb, ltb}
 use lib.ListN.{length, getD, take, drop}
 use borrow.Author.Tests.{lt-ltb}
 use Rattle.laws.specs.Tests.{_and_, count, first, found}
 use Rattle.laws.specs.Counting.{count-few}
-use Rattle.laws.specs.Slices.{below-or}
-use Rattle.laws.specs.Bits.{bitAt, bitIn, bit-and, bit-none, count-word, first-within, first-word, first-no-word, zeros-fit}
+use Rattle.laws.specs.Bits.{bitAt, bitIn, bit-and, count-word, first-word, first-no-word, zeros-fit}
 use Rattle.laws.specs.BitSets.{word-bit}
-use Rattle.text.proofs.Laws.{get-out, part-in, part-out, part-rest}
+use Rattle.text.proofs.Laws.{after-in, after-out, get-out}
 use Rattle.coverage.specs.declared.Found.{Found}
 use Rattle.coverage.specs.declared.Found.the-variants.{At, Nothing}
 use Rattle.coverage.specs.Rows.{edgeBit, edgeFound, firstCommon, rowMeets, rowOf, rowOnes}
 
--- ---- `word_at`, `ones_of`, `zeros_below`, `fewer`
+-- ---- `word_at`, `ones_of`, `zeros_below`
 
 pub ones-fit : (w : ℕ) → w < 2 ^ 64 → ones w < 2 ^ 64
 ones-fit w h = omega (arith, ones-le 64 w h)
 
-pub fewer-first : (a b : ℕ) → a < b → a ≡ min a b
-fewer-first a b h = let l : a ≤ b = omega arith in sym (min-eq-left l)
-
-pub fewer-second : (a b : ℕ) → b ≤ a → b ≡ min a b
-fewer-second a b h = sym (min-eq-right h)
-
-pub ruleset words = (get-out, ones-fit, zeros-fit, fewer-first, fewer-second)
+pub ruleset words = (get-out, ones-fit, zeros-fit)
 
 -- ---- `covers`, `in_set`, `ones`
 
@@ -77,19 +68,13 @@ pub ruleset counts = (covers-is, set-bit, ones-room, ones-on, ones-done, ones-st
 -- ---- `row_of`
 
 module _ (rows : List ℕ) (i : ℕ) where
-  pub row-out : length rows < 16 * i → take 0 rows ≡ rowOf rows i
+  pub row-out : length rows < 16 * i → _≡_ {A = List ℕ} [] (rowOf rows i)
   unfolding rowOf
-  row-out h = part-out rows (16 * i) 16 h
+  row-out h = after-out rows (16 * i) h
 
-  pub row-rest : length rows - 16 * i < 16 → take (length rows - 16 * i) (drop (16 * i) rows) ≡ rowOf rows i
+  pub row-in : take (length rows - 16 * i) (drop (16 * i) rows) ≡ rowOf rows i
   unfolding rowOf
-  row-rest h = part-rest rows (16 * i) 16 h
-
-  pub row-in : take (16 * i + 16 - 16 * i) (drop (16 * i) rows) ≡ rowOf rows i
-  unfolding rowOf
-  row-in = part-in rows (16 * i) 16
-
-pub ruleset parts = (row-out, row-rest, row-in)
+  row-in = after-in rows (16 * i)
 
 -- ---- `first_danger`
 
@@ -105,51 +90,31 @@ pub danger-start : (row set : List ℕ) → NoneTo row set 0
 unfolding NoneTo first
 danger-start row set = refl
 
-module _ (row set : List ℕ) (k w : ℕ) (inv : NoneTo row set k) (is : w ≡ bitAnd (getD row k 0) (getD set k 0)) (fits : w < 2 ^ 64) where
-  both-word : (j : ℕ) → j < 64 → both row set (64 * k + j) ≡ bitAt w j
+module _ (row set : List ℕ) (k a b : ℕ) (inv : NoneTo row set k) (ea : a ≡ getD row k 0) (eb : b ≡ getD set k 0) (fits : a < 2 ^ 64) where
+  both-word : (j : ℕ) → j < 64 → both row set (64 * k + j) ≡ bitAt (bitAnd a b) j
   both-word j h =
-      ap₂ (λ (x y : Bool). x and y) (word-bit row k j h) (word-bit set k j h)
-      ∙ sym (bit-and (getD row k 0) (getD set k 0) j)
-      ∙ ap (λ (x : ℕ). bitAt x j) (sym is)
+      ap₂ (λ (x y : Bool). x and y) (word-bit row k j h ∙ ap (λ (w : ℕ). bitAt w j) (sym ea)) (word-bit set k j h ∙ ap (λ (w : ℕ). bitAt w j) (sym eb))
+      ∙ sym (bit-and a b j)
 
-  pub danger-found : (z many most n : ℕ) → n ≡ min many most → most ≤ 16 → k < n → (w ≡ 0 → ⊥) → z ≡ trailingZeros 64 w → edgeFound (At (64 * k + z)) ≡ firstCommon row set
+  small : bitAnd a b < 2 ^ 64
+  small = omega (arith, and-le-l a b)
+
+  pub danger-found : (z n : ℕ) → k < n → n ≤ 16 → (bitAnd a b ≡ 0 → ⊥) → z ≡ trailingZeros 64 (bitAnd a b) → edgeFound (At (64 * k + z)) ≡ firstCommon row set
   unfolding NoneTo firstCommon edgeFound
-  danger-found z many most n l m h some-bit e =
-      ap (λ (y : ℕ). some (64 * k + y)) e ∙ sym (first-word (both row set) k w fits both-word 16 (omega (arith, min-le-right many most)) (omega arith) inv)
+  danger-found z n h l w e = ap (λ (y : ℕ). some (64 * k + y)) e ∙ sym (first-word (both row set) k (bitAnd a b) small both-word 16 (omega arith) (omega arith) inv)
 
-  pub danger-on : w ≡ 0 → NoneTo row set (k + 1)
+  pub danger-on : bitAnd a b ≡ 0 → NoneTo row set (k + 1)
   unfolding NoneTo
-  danger-on no-bit = first-no-word (both row set) k w fits both-word no-bit inv
+  danger-on z = first-no-word (both row set) k (bitAnd a b) small both-word z inv
 
--- Past the words that they both have they have nothing in common.
-past : (row set : List ℕ) (e : ℕ) → (length row ≤ e / 64) ⊎ (length set ≤ e / 64) → both row set e ≡ false
-unfolding bitIn _and_
-past row set e (inl h) = ap (λ (w : ℕ). bitAt w (e % 64) and bitIn set e) (sym (get-out row (e / 64) h)) ∙ ap (λ (t : Bool). t and bitIn set e) (bit-none (e % 64))
-past row set e (inr h) = ap (λ (w : ℕ). bitIn row e and bitAt w (e % 64)) (sym (get-out set (e / 64) h)) ∙ ap (λ (t : Bool). bitIn row e and t) (bit-none (e % 64)) ∙ no-and (bitIn row e)
-  where
-    no-and : (t : Bool) → (t and false) ≡ false
-    no-and true = refl
-    no-and false = refl
+pub danger-room : (k z n w : ℕ) → k < n → n ≤ 16 → z ≡ trailingZeros 64 w → 64 * k + z < 2 ^ 64
+danger-room k z n w h l e = omega (arith, trailing-le 64 w)
 
--- One of two numbers is at most k where the smaller is.
-one-few : (a b k : ℕ) → min a b ≤ k → (a ≤ k) ⊎ (b ≤ k)
-one-few a b k h = below-or a b (λ l. inl (omega (arith, fewer-first a b l))) (λ l. inr (omega (arith, fewer-second a b l)))
-
-pub danger-room : (many most n k z w : ℕ) → n ≡ min many most → most ≤ 16 → k < n → z ≡ trailingZeros 64 w → 64 * k + z < 2 ^ 64
-danger-room many most n k z w l m h e = omega (arith, min-le-right many most, trailing-le 64 w)
-
-pub danger-none : (row set : List ℕ) (k many n : ℕ) → NoneTo row set k → many ≡ min (length row) (length set) → n ≡ min many 16 → k ≤ n → n ≤ k → edgeFound Nothing ≡ firstCommon row set
+pub danger-none : (row set : List ℕ) (k : ℕ) → NoneTo row set k → k ≤ 16 → 16 ≤ k → edgeFound Nothing ≡ firstCommon row set
 unfolding NoneTo firstCommon edgeFound
-danger-none row set k many n inv p q on end =
-    sym (ap (λ (x : ℕ). first x (both row set)) whole ∙ first-within (both row set) (64 * k) (1024 - 64 * k) none-past ∙ inv)
-  where
-    whole : 1024 ≡ 64 * k + (1024 - 64 * k)
-    whole = omega (arith, min-le-right many 16)
-
-    none-past : (e : ℕ) → 64 * k ≤ e → e < 64 * k + (1024 - 64 * k) → both row set e ≡ false
-    none-past e a b =
-        ⊎-elim (λ (few : many ≤ e / 64). past row set e (one-few (length row) (length set) (e / 64) (omega arith))) (λ (all : 16 ≤ e / 64). absurd (omega (arith, whole)))
-        (one-few many 16 (e / 64) (omega arith))
+danger-none row set k inv h l =
+    let q : k ≡ 16 = omega arith in
+    sym (ap (λ (n : ℕ). first (64 * n) (both row set)) (sym q) ∙ inv)
 
 -- ---- `row_meets`
 
@@ -166,6 +131,6 @@ module _ (rows set row : List ℕ) (i : ℕ) (found-in : Found) (is : row ≡ ro
   unfolding edgeFound
   meets-none p = sym (ap (λ (f : Found). ltb 0 (found (edgeFound f))) p) ∙ tells
 
-pub ruleset searches = (danger-start, danger-found, danger-on, danger-room, danger-none, meets-one, meets-none)
+pub ruleset searches = (row-out, row-in, danger-start, danger-found, danger-on, danger-room, danger-none, meets-one, meets-none)
 
-pub ruleset all = (words, counts, parts, searches)
+pub ruleset all = (words, counts, searches)

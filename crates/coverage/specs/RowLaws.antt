@@ -6,19 +6,19 @@ use mathlib.Core.List.{List}
 use Prim.Native.Nat.{ℕ, _+_, _-_, _*_, _/_, _%_, _≤_, _<_}
 use native.Mathlib.Omega.{arith}
 use lib.Dec.{ltb}
+use lib.Seq.{getD-drop}
 use Rattle.laws.specs.Tests.{_and_, first, count, found, has}
 use Rattle.laws.specs.Lists.{count-agree}
 use Rattle.laws.specs.Counting.{first-agree}
-use Rattle.laws.specs.Slices.{getD-part}
 use Rattle.laws.specs.Bits.{bitAt, bitIn, count-within, first-within}
 use Rattle.rules.specs.Closing.{Coverage, firstDanger, holds, meets}
 use Rattle.rules.specs.Proofs.Search.{search-meets}
 use Rattle.coverage.specs.Rows.{Row, edgeBit, firstCommon, rowMeets, rowOf, rowOnes}
 
 -- The bit of an edge among the words of a row.
-row-bit : (rows : List ℕ) (i e : ℕ) → e < 1024 → bitIn (rowOf rows i) e ≡ edgeBit rows i e
+row-bit : (rows : List ℕ) (i e : ℕ) → bitIn (rowOf rows i) e ≡ edgeBit rows i e
 unfolding rowOf bitIn edgeBit
-row-bit rows i e h = ap (λ (w : ℕ). bitAt w (e % 64)) (getD-part rows (16 * i) 16 (e / 64) 0 (omega arith))
+row-bit rows i e = ap (λ (w : ℕ). bitAt w (e % 64)) (getD-drop (16 * i) rows (e / 64) 0)
 
 module _ (m : ℕ) (rows : List ℕ) (i : ℕ) (coverage : Coverage) (few : m ≤ 1024) (row : Row m rows i coverage) where
   all : m + (1024 - m) ≡ 1024
@@ -39,8 +39,8 @@ module _ (m : ℕ) (rows : List ℕ) (i : ℕ) (coverage : Coverage) (few : m �
     first-is =
         let f : ℕ → Bool = λ e. bitIn (rowOf rows i) e and bitIn set e in
         ap (λ (n : ℕ). first n f) (sym all)
-        ∙ first-within f m (1024 - m) (λ e a b. ap (λ (t : Bool). t and bitIn set e) (row-bit rows i e (omega arith) ∙ row .spare e a (omega arith)))
-        ∙ first-agree f (λ e. holds coverage e and has D e) m (λ e h. ap₂ (λ (t u : Bool). t and u) (row-bit rows i e (omega arith) ∙ row .edges e h) (is e h))
+        ∙ first-within f m (1024 - m) (λ e a b. ap (λ (t : Bool). t and bitIn set e) (row-bit rows i e ∙ row .spare e a (omega arith)))
+        ∙ first-agree f (λ e. holds coverage e and has D e) m (λ e h. ap₂ (λ (t u : Bool). t and u) (row-bit rows i e ∙ row .edges e h) (is e h))
 
     -- One is found exactly if the coverage holds an edge of the list.
     pub meets-are : ((e : ℕ) → has D e ≡ true → e < m) → rowMeets rows set i ≡ meets D coverage

@@ -5,7 +5,7 @@ use mathlib.Core.Option.{Option, none, some}
 use mathlib.Core.List.{List}
 use Prim.Native.Nat.{ℕ, _+_, _*_, _/_, _%_, _≤_, _<_}
 use lib.Dec.{ltb}
-use lib.ListN.{getD, take, drop}
+use lib.ListN.{getD, drop}
 use Rattle.laws.specs.Tests.{_and_, count, first, found}
 use Rattle.laws.specs.Bits.{bitAt, bitIn, wordsOf}
 use Rattle.rules.specs.Closing.{Coverage, holds}
@@ -28,9 +28,9 @@ pub record Row (m : ℕ) (rows : List ℕ) (i : ℕ) (coverage : Coverage) : Typ
 unfoldable pub rowOnes : List ℕ → ℕ → ℕ
 rowOnes rows i = count 1024 (edgeBit rows i)
 
--- `row_of`: the words of the row of the test i, as far as the table has them.
+-- `row_of`: the words of the row of the test i, and what stands behind them in the table.
 unfoldable pub rowOf : List ℕ → ℕ → List ℕ
-rowOf rows i = take 16 (drop (16 * i) rows)
+rowOf rows i = drop (16 * i) rows
 
 -- An answer of a search: the edge that it found, or none.
 unfoldable pub edgeFound : Found → Option ℕ

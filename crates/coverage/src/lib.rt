@@ -1,9 +1,8 @@
 // Coverage in memory: the row of a test as words of 64 bits, lowest edge first. Which edges it has, how many, and the lowest dangerous one.
 ghost use mathlib.Core.Path.{_≡_};
-ghost use Prim.Native.Nat.{_≤_, _<_, min};
-ghost use lib.Bits.{bitAnd};
+ghost use Prim.Native.Nat.{_≤_};
 ghost use lib.Count.{ones as onesOf, trailingZeros};
-ghost use lib.ListN.{getD, length};
+ghost use lib.ListN.{getD};
 ghost use Rattle.laws.specs.Bits.{bitIn};
 ghost use Rattle.coverage.specs.Rows.{edgeBit, edgeFound, firstCommon, rowMeets, rowOf, rowOnes};
 
@@ -37,16 +36,6 @@ fn zeros_below(w: u64) -> usize
     ensures { λ r. ⌜ r ≡ trailingZeros 64 w ⌝ }
 {
     u64::trailing_zeros(w) as usize
-}
-
-// The smaller of two numbers.
-fn fewer(a: usize, b: usize) -> usize
-    ensures { λ r. ⌜ r ≡ min a b ⌝ }
-{
-    if a < b {
-        return a;
-    }
-    b
 }
 
 // ---- what the row of a test says
@@ -85,7 +74,7 @@ pub fn ones(rows: &[u64], test: usize) -> usize
 
 // ---- the search for a dangerous edge
 
-// The words of the row of a test, as far as the table has them.
+// The words of the row of a test, and what stands behind them in the table.
 fn row_of(rows: &[u64], test: usize) -> &[u64]
     requires { ⌜ test ≤ 200 ⌝ }
     ensures { λ r. ⌜ now r ≡ rowOf (now (rows .entry)) test ⌝ }
@@ -94,34 +83,20 @@ fn row_of(rows: &[u64], test: usize) -> &[u64]
     if rows.len() < start {
         return &rows[..0];
     }
-    if rows.len() - start < 16 {
-        return &rows[start..];
-    }
-    let end = start + 16;
-    &rows[start..end]
+    &rows[start..]
 }
 
-// What the word k of a row and that of a set have in common.
-fn common_word(row: &[u64], set: &[u64], k: usize) -> u64
-    requires { ⌜ (k < length (now row)) × (k < length (now set)) ⌝ }
-    ensures { λ r. ⌜ r ≡ bitAnd (getD (now (row .entry)) k 0) (getD (now (set .entry)) k 0) ⌝ }
-{
-    row[k] & set[k]
-}
-
-// The lowest edge that the row and the set both have, or that there is none: the lowest bit of the first word that they have in common.
+// The lowest edge that the row and the set both have, or that there is none: the lowest bit of the first of 16 words that they have in common.
 pub fn first_danger(row: &[u64], dangers: &[u64]) -> Found
     ensures { λ r. ⌜ edgeFound r ≡ firstCommon (now (row .entry)) (now (dangers .entry)) ⌝ }
 {
-    let words = fewer(row.len(), dangers.len());
-    let n = fewer(words, 16);
-    let mut k = 0usize;
-    while k < n {
-        let w = common_word(row, dangers, k);
+    let mut at = 0;
+    while at < 16 {
+        let w = word_at(row, at) & word_at(dangers, at);
         if w != 0 {
-            return Found::At(64 * k + zeros_below(w));
+            return Found::At(64 * at + zeros_below(w));
         }
-        k += 1;
+        at += 1;
     }
     Found::Nothing
 }
