@@ -5,7 +5,7 @@ use mathlib.Core.Option.{Option, none, some}
 use mathlib.Core.List.{List, []}
 use Prim.Native.Nat.{ℕ, suc, _+_, _-_, _*_, _/_, _%_, _^_, _≤_, _<_}
 use native.Mathlib.Omega.{arith}
-use lib.Bits.{bitAnd, and-le-l}
+use lib.Bits.{bitAnd, and-zero-l, and-zero-r}
 use lib.Count.{ones, ones-le, trailingZeros, trailing-le}
 use lib.Dec.{eqb, ltb}
 use lib.ListN.{length, getD, take, drop}
@@ -76,6 +76,14 @@ module _ (rows : List ℕ) (i : ℕ) where
   unfolding rowOf
   row-in = after-in rows (16 * i)
 
+-- ---- `common_word`
+
+pub row-ended : (row set : List ℕ) (k : ℕ) → length row ≤ k → 0 ≡ bitAnd (getD row k 0) (getD set k 0)
+row-ended row set k h = sym (and-zero-l (getD set k 0)) ∙ ap (λ (w : ℕ). bitAnd w (getD set k 0)) (get-out row k h)
+
+pub set-ended : (row set : List ℕ) (k : ℕ) → length set ≤ k → 0 ≡ bitAnd (getD row k 0) (getD set k 0)
+set-ended row set k h = sym (and-zero-r (getD row k 0)) ∙ ap (λ (w : ℕ). bitAnd (getD row k 0) w) (get-out set k h)
+
 -- ---- `first_danger`
 
 -- The row and the set both have the edge e.
@@ -90,22 +98,20 @@ pub danger-start : (row set : List ℕ) → NoneTo row set 0
 unfolding NoneTo first
 danger-start row set = refl
 
-module _ (row set : List ℕ) (k a b : ℕ) (inv : NoneTo row set k) (ea : a ≡ getD row k 0) (eb : b ≡ getD set k 0) (fits : a < 2 ^ 64) where
-  both-word : (j : ℕ) → j < 64 → both row set (64 * k + j) ≡ bitAt (bitAnd a b) j
+module _ (row set : List ℕ) (k w : ℕ) (inv : NoneTo row set k) (is : w ≡ bitAnd (getD row k 0) (getD set k 0)) (fits : w < 2 ^ 64) where
+  both-word : (j : ℕ) → j < 64 → both row set (64 * k + j) ≡ bitAt w j
   both-word j h =
-      ap₂ (λ (x y : Bool). x and y) (word-bit row k j h ∙ ap (λ (w : ℕ). bitAt w j) (sym ea)) (word-bit set k j h ∙ ap (λ (w : ℕ). bitAt w j) (sym eb))
-      ∙ sym (bit-and a b j)
+      ap₂ (λ (x y : Bool). x and y) (word-bit row k j h) (word-bit set k j h)
+      ∙ sym (bit-and (getD row k 0) (getD set k 0) j)
+      ∙ ap (λ (x : ℕ). bitAt x j) (sym is)
 
-  small : bitAnd a b < 2 ^ 64
-  small = omega (arith, and-le-l a b)
-
-  pub danger-found : (z n : ℕ) → k < n → n ≤ 16 → (bitAnd a b ≡ 0 → ⊥) → z ≡ trailingZeros 64 (bitAnd a b) → edgeFound (At (64 * k + z)) ≡ firstCommon row set
+  pub danger-found : (z n : ℕ) → k < n → n ≤ 16 → (w ≡ 0 → ⊥) → z ≡ trailingZeros 64 w → edgeFound (At (64 * k + z)) ≡ firstCommon row set
   unfolding NoneTo firstCommon edgeFound
-  danger-found z n h l w e = ap (λ (y : ℕ). some (64 * k + y)) e ∙ sym (first-word (both row set) k (bitAnd a b) small both-word 16 (omega arith) (omega arith) inv)
+  danger-found z n h l some-bit e = ap (λ (y : ℕ). some (64 * k + y)) e ∙ sym (first-word (both row set) k w fits both-word 16 (omega arith) (omega arith) inv)
 
-  pub danger-on : bitAnd a b ≡ 0 → NoneTo row set (k + 1)
+  pub danger-on : w ≡ 0 → NoneTo row set (k + 1)
   unfolding NoneTo
-  danger-on z = first-no-word (both row set) k (bitAnd a b) small both-word z inv
+  danger-on no-bit = first-no-word (both row set) k w fits both-word no-bit inv
 
 pub danger-room : (k z n w : ℕ) → k < n → n ≤ 16 → z ≡ trailingZeros 64 w → 64 * k + z < 2 ^ 64
 danger-room k z n w h l e = omega (arith, trailing-le 64 w)
@@ -131,6 +137,6 @@ module _ (rows set row : List ℕ) (i : ℕ) (found-in : Found) (is : row ≡ ro
   unfolding edgeFound
   meets-none p = sym (ap (λ (f : Found). ltb 0 (found (edgeFound f))) p) ∙ tells
 
-pub ruleset searches = (row-out, row-in, danger-start, danger-found, danger-on, danger-room, danger-none, meets-one, meets-none)
+pub ruleset searches = (row-out, row-in, row-ended, set-ended, danger-start, danger-found, danger-on, danger-room, danger-none, meets-one, meets-none)
 
 pub ruleset all = (words, counts, searches)

@@ -1,6 +1,7 @@
 // Coverage in memory: the row of a test as words of 64 bits, lowest edge first. Which edges it has, how many, and the lowest dangerous one.
 ghost use mathlib.Core.Path.{_≡_};
 ghost use Prim.Native.Nat.{_≤_};
+ghost use lib.Bits.{bitAnd};
 ghost use lib.Count.{ones as onesOf, trailingZeros};
 ghost use lib.ListN.{getD};
 ghost use Rattle.laws.specs.Bits.{bitIn};
@@ -86,13 +87,26 @@ fn row_of(rows: &[u64], test: usize) -> &[u64]
     &rows[start..]
 }
 
+// What the words of a row and of a set at a place have in common: nothing where one of them ends before it.
+fn common_word(row: &[u64], set: &[u64], at: usize) -> u64
+    ensures { λ r. ⌜ r ≡ bitAnd (getD (now (row .entry)) at 0) (getD (now (set .entry)) at 0) ⌝ }
+{
+    if row.len() <= at {
+        return 0;
+    }
+    if set.len() <= at {
+        return 0;
+    }
+    row[at] & set[at]
+}
+
 // The lowest edge that the row and the set both have, or that there is none: the lowest bit of the first of 16 words that they have in common.
 pub fn first_danger(row: &[u64], dangers: &[u64]) -> Found
     ensures { λ r. ⌜ edgeFound r ≡ firstCommon (now (row .entry)) (now (dangers .entry)) ⌝ }
 {
     let mut at = 0;
     while at < 16 {
-        let w = word_at(row, at) & word_at(dangers, at);
+        let w = common_word(row, dangers, at);
         if w != 0 {
             return Found::At(64 * at + zeros_below(w));
         }

@@ -14,20 +14,17 @@ abbrev μ-loop : tie.MeasureT-loop
 loop-holds : tie.Need-loop-holds Inv-loop μ-loop
 loop-holds c = search (all, needs)
 
-word-at-requires : tie.Need-word-at-requires Inv-loop μ-loop
-word-at-requires c κs = search (all, needs)
+common-word-requires : tie.Need-common-word-requires Inv-loop μ-loop
+common-word-requires c κs = search (all, needs)
 
-word-at-requires-2 : tie.Need-word-at-requires-2 Inv-loop μ-loop
-word-at-requires-2 c κs = search (all, needs)
-
-mul-t8 : tie.Need-mul-t8 Inv-loop μ-loop
-mul-t8 c = search (all, needs)
+mul-t6 : tie.Need-mul-t6 Inv-loop μ-loop
+mul-t6 c = search (all, needs)
 
 zeros-below-requires : tie.Need-zeros-below-requires Inv-loop μ-loop
 zeros-below-requires c κs = search (all, needs)
 
-add-t10 : tie.Need-add-t10 Inv-loop μ-loop
-add-t10 c = search (all, needs)
+add-t8 : tie.Need-add-t8 Inv-loop μ-loop
+add-t8 c = search (all, needs)
 
 returns : tie.Need-returns Inv-loop μ-loop
 returns c = search (all, needs)
@@ -51,11 +48,10 @@ first-danger-spec =
     Inv-loop
     μ-loop
     loop-holds
-    word-at-requires
-    word-at-requires-2
-    mul-t8
+    common-word-requires
+    mul-t6
     zeros-below-requires
-    add-t10
+    add-t8
     returns
     add-at
     loop-less
