@@ -1,5 +1,6 @@
-//! Links `librivetyellow.a` from the directory that `RIVETYELLOW_LIB` names.
-//! Without it everything but the linked calls is built.
+//! Links `librivetyellow.a`, and `librow_search.a` with the search in a row
+//! alone, from the directory that `RIVETYELLOW_LIB` names; both are wanted
+//! there. Without it everything but the linked calls is built.
 
 use std::env;
 
@@ -12,8 +13,10 @@ fn main() {
     let directory = directory
         .into_string()
         .expect("RIVETYELLOW_LIB is a path in UTF-8");
-    println!("cargo:rerun-if-changed={directory}/librivetyellow.a");
     println!("cargo:rustc-link-search=native={directory}");
-    println!("cargo:rustc-link-lib=static=rivetyellow");
+    for library in ["rivetyellow", "row_search"] {
+        println!("cargo:rerun-if-changed={directory}/lib{library}.a");
+        println!("cargo:rustc-link-lib=static={library}");
+    }
     println!("cargo:rustc-cfg=linked");
 }

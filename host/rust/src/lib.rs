@@ -9,3 +9,4 @@ pub mod independent;
 pub mod lent;
 pub mod lent_calls;
 pub mod records;
+pub mod search;

@@ -1,6 +1,6 @@
 //! `bench`: the linked library and the independent implementation on the
-//! largest jobs, in turn, in one run. Prints the median time of each and how
-//! many times the library's is the other's.
+//! largest jobs, and on the search in a row alone, in turn, in one run. Prints
+//! the median time of each and how many times the library's is the other's.
 
 use rivetyellow_host::calls::{Calls, INDEPENDENT, LINKED};
 use rivetyellow_host::generate::labels::format_some;
@@ -12,6 +12,8 @@ use rivetyellow_host::generate::random::Random;
 use rivetyellow_host::generate::sheets::all_alike;
 use rivetyellow_host::generate::tests::runs;
 use rivetyellow_host::independent::job::Job;
+use rivetyellow_host::independent::suite::{place_of, ROW_WORDS};
+use rivetyellow_host::search::{self, Search};
 use std::hint::black_box;
 use std::time::{Duration, Instant};
 
@@ -19,6 +21,8 @@ use std::time::{Duration, Instant};
 const FEWEST: usize = 200;
 const MOST: usize = 2_000;
 const TIME: Duration = Duration::from_millis(1_000);
+
+// ---- jobs
 
 struct Texts {
     old: Vec<u8>,
@@ -56,6 +60,8 @@ fn own_sheet(texts: &Texts) -> Vec<u8> {
     out
 }
 
+// ---- cases of jobs
+
 /// A case is run by one implementation at the given turn.
 type Run<'t> = Box<dyn Fn(&Calls, usize) -> u64 + 't>;
 
@@ -81,142 +87,309 @@ fn write_records(texts: &Texts, count: usize) -> Run<'_> {
     })
 }
 
-fn check<'t>(texts: &'t Texts, sheet: &'t [u8]) -> Run<'t> {
-    Box::new(|calls, _| {
-        let answer = (calls.check)(&texts.old, &texts.new, &texts.tests, sheet);
+/// Checks a sheet.
+fn check(texts: &Texts, sheet: Vec<u8>) -> Run<'_> {
+    Box::new(move |calls, _| {
+        let answer = (calls.check)(&texts.old, &texts.new, &texts.tests, &sheet);
         assert!(answer.is_success(), "{} refuses: {answer}", calls.name);
         answer.packed()
     })
 }
 
-fn median(mut times: Vec<Duration>) -> Duration {
-    times.sort();
-    times[times.len() / 2]
+/// The jobs of the cases.
+struct Jobs {
+    full: Texts,
+    groups: Texts,
+    rings: Texts,
+    deep: Texts,
+    formatted: Texts,
+    rings_formatted: Texts,
+    calls_of_four: Texts,
 }
 
-fn micro(time: Duration) -> f64 {
-    time.as_secs_f64() * 1e6
+impl Jobs {
+    fn new(random: &mut Random) -> Jobs {
+        let distinct = wide(random, 512, 1_024, 1);
+        let tests = many_tests(random, 200, 1_024, 30);
+        let grouped = [groups(random, 8), groups(random, 8)];
+        Jobs {
+            full: Texts::new(&distinct, &distinct, tests.clone()),
+            groups: Texts::new(&grouped[0], &grouped[1], tests.clone()),
+            rings: Texts::new(&ring(46), &ring(89), Vec::new()),
+            deep: Texts::new(&deep(64), &deep(64), Vec::new()),
+            formatted: formatted(random, distinct, tests),
+            rings_formatted: rings_formatted(random),
+            calls_of_four: calls_of_four(random),
+        }
+    }
 }
 
-fn main() {
-    let mut random = Random::new(1, 1);
-    let distinct = wide(&mut random, 512, 1_024, 1);
-    let tests = many_tests(&mut random, 200, 1_024, 30);
-    let full = Texts::new(&distinct, &distinct, tests.clone());
-    let grouped = [groups(&mut random, 8), groups(&mut random, 8)];
-    let groups = Texts::new(&grouped[0], &grouped[1], tests.clone());
-    let rings = Texts::new(&ring(46), &ring(89), Vec::new());
-    let calls_deep = Texts::new(&deep(64), &deep(64), Vec::new());
-    let largest = largest_sheet(&groups);
-
-    // Blanks moved in every label.
-    let mut blanks = distinct;
+/// Blanks moved in every label.
+fn formatted(random: &mut Random, mut blanks: Program, tests: Vec<u8>) -> Texts {
     put_blanks(&mut blanks);
     let mut moved = blanks.clone();
-    format_some(&mut random, &mut moved, 100);
-    let formatted = Texts::new(&blanks, &moved, tests);
-    let formatted_sheet = own_sheet(&formatted);
-    let label = b"turn the drum until one layer of rope is on";
-    let rings_formatted = Texts::new(
-        &formatted_ring(&mut random, 46, label),
-        &formatted_ring(&mut random, 89, label),
-        Vec::new(),
-    );
+    format_some(random, &mut moved, 100);
+    Texts::new(&blanks, &moved, tests)
+}
 
-    // Each step and each call has three partners. In one procedure a word is
-    // renamed, so a part of the tests is repeated.
+fn rings_formatted(random: &mut Random) -> Texts {
+    let label = b"turn the drum until one layer of rope is on";
+    let rings = [46, 89].map(|steps| formatted_ring(random, steps, label));
+    Texts::new(&rings[0], &rings[1], Vec::new())
+}
+
+/// Each step and each call has three partners. In one procedure a word is
+/// renamed, so a part of the tests is repeated.
+fn calls_of_four(random: &mut Random) -> Texts {
     let old = fours(1);
     let mut new = fours(2);
     let changed = &mut new.procedures[20];
     for edge in changed.edges.iter_mut().filter(|edge| edge.word == b"stay") {
         edge.word = b"wait".to_vec();
     }
-    let rows = runs(&mut random, &old, 200, 2_000, 40);
-    let calls_of_four = Texts::new(&old, &new, rows);
-    let calls_of_four_sheet = own_sheet(&calls_of_four);
+    let rows = runs(random, &old, 200, 2_000, 40);
+    Texts::new(&old, &new, rows)
+}
 
-    let cases: Vec<(&str, Run)> = vec![
+type Cases<'t> = Vec<(&'static str, Run<'t>)>;
+
+fn largest_cases(jobs: &Jobs) -> Cases<'_> {
+    let full = &jobs.full;
+    vec![
         (
             "read: 512 nodes, 1,024 edges, 200 tests",
             Box::new(|calls, _| (calls.read_tests)(&full.old, &full.new, &full.tests).packed()),
         ),
         (
             "sheet: 512 nodes, 1,024 edges, 200 tests",
-            write_sheet(&full),
+            write_sheet(full),
         ),
         (
             "sheet: the same, 8 partners of each step",
-            write_sheet(&groups),
+            write_sheet(&jobs.groups),
         ),
-        ("sheet: rings 46 x 89, 4,096 pairs", write_sheet(&rings)),
+        (
+            "sheet: rings 46 x 89, 4,096 pairs",
+            write_sheet(&jobs.rings),
+        ),
         (
             "sheet: 64 procedures deep in calls",
-            write_sheet(&calls_deep),
+            write_sheet(&jobs.deep),
         ),
-        ("check: the largest sheet", check(&groups, &largest)),
-        ("record: one line of 200", write_records(&full, 200)),
+        (
+            "check: the largest sheet",
+            check(&jobs.groups, largest_sheet(&jobs.groups)),
+        ),
+        ("record: one line of 200", write_records(full, 200)),
         (
             "record: the same, 8 partners of each step",
-            write_records(&groups, 200),
+            write_records(&jobs.groups, 200),
         ),
+    ]
+}
+
+fn formatted_cases(jobs: &Jobs) -> Cases<'_> {
+    vec![
         (
             "sheet: 512 nodes, blanks moved in labels",
-            write_sheet(&formatted),
-        ),
-        ("check: this sheet", check(&formatted, &formatted_sheet)),
-        (
-            "sheet: rings 46 x 89, blanks moved in labels",
-            write_sheet(&rings_formatted),
-        ),
-        (
-            "sheet: 64 procedures, calls of four each",
-            write_sheet(&calls_of_four),
+            write_sheet(&jobs.formatted),
         ),
         (
             "check: this sheet",
-            check(&calls_of_four, &calls_of_four_sheet),
+            check(&jobs.formatted, own_sheet(&jobs.formatted)),
         ),
         (
-            "record: one line of 200, calls of four each",
-            write_records(&calls_of_four, 200),
+            "sheet: rings 46 x 89, blanks moved in labels",
+            write_sheet(&jobs.rings_formatted),
         ),
-    ];
+    ]
+}
 
-    println!(
-        "{:<44}{:>14}{:>16}{:>9}{:>7}",
-        "case", "linked us", "independent us", "ratio", "runs"
-    );
-    let linked = LINKED;
-    for (name, run) in &cases {
-        let mut times: [Vec<Duration>; 2] = Default::default();
-        let start = Instant::now();
-        while times[0].len() < FEWEST || start.elapsed() < TIME && times[0].len() < MOST {
-            let turn = times[0].len();
-            let all = [Some(&INDEPENDENT), linked.as_ref()];
-            let mut answers = Vec::new();
-            for (at, calls) in all.into_iter().enumerate() {
-                if let Some(calls) = calls {
-                    let begin = Instant::now();
-                    answers.push(black_box(run(black_box(calls), turn)));
-                    times[at].push(begin.elapsed());
-                }
-            }
-            assert!(
-                answers.iter().all(|&answer| answer == answers[0]),
-                "{name}: answers differ"
-            );
-        }
-        let runs = times[0].len();
-        let [independent, linked_times] = times;
-        let own = micro(median(independent));
-        if linked_times.is_empty() {
-            println!("{name:<44}{:>14}{own:>16.1}{:>9}{runs:>7}", "-", "-");
-        } else {
-            let other = micro(median(linked_times));
-            let ratio = other / own;
-            println!("{name:<44}{other:>14.1}{own:>16.1}{ratio:>9.2}{runs:>7}");
+fn calling_cases(jobs: &Jobs) -> Cases<'_> {
+    let fours = &jobs.calls_of_four;
+    vec![
+        (
+            "sheet: 64 procedures, calls of four each",
+            write_sheet(fours),
+        ),
+        ("check: this sheet", check(fours, own_sheet(fours))),
+        (
+            "record: one line of 200, calls of four each",
+            write_records(fours, 200),
+        ),
+    ]
+}
+
+// ---- cases of the search
+
+type Row = [u64; ROW_WORDS];
+
+/// The rows that are searched, and how many times a run searches them all: one
+/// search takes some nanoseconds.
+const ROWS: usize = 200;
+const PASSES: usize = 20;
+
+/// The dangerous edges.
+const DANGERS: [usize; 8] = [0, 70, 191, 320, 517, 700, 901, 1_023];
+
+fn set(edges: &[usize]) -> Row {
+    let mut row = [0; ROW_WORDS];
+    for (word, bit) in edges.iter().map(|&edge| place_of(edge)) {
+        row[word] |= bit;
+    }
+    row
+}
+
+/// Rows that hold about half of the edges that are not dangerous, and these.
+fn dense_rows(random: &mut Random, dangers: &Row, held: &[usize]) -> Vec<Row> {
+    let held = set(held);
+    let row = |_| std::array::from_fn(|at| random.draw() & !dangers[at] | held[at]);
+    (0..ROWS).map(row).collect()
+}
+
+/// Searches all rows; each search must answer this edge. That of the library
+/// is behind its wrapper, one call more.
+fn search_all(search: &Search, rows: &[Row], dangers: &Row, due: Option<usize>) -> u64 {
+    let mut right = 0;
+    for _ in 0..PASSES {
+        let (rows, dangers) = (black_box(rows), black_box(dangers));
+        for row in rows {
+            right += usize::from((search.first_danger)(row, dangers) == due);
         }
     }
+    assert_eq!(right, PASSES * ROWS, "{}: a wrong edge", search.name);
+    right as u64
+}
+
+/// The cases: which dangerous edges the rows hold.
+const SEARCHED: [(&str, &[usize]); 3] = [
+    ("rows that hold dangerous edge 0", &[0]),
+    ("rows that hold dangerous edge 1,023 only", &[1_023]),
+    ("rows that hold no dangerous edge", &[]),
+];
+
+/// Measures all cases in turn, each by both implementations.
+fn measure_search(random: &mut Random) -> Measured {
+    let dangers = &set(&DANGERS);
+    let cases = SEARCHED.map(|(_, held)| {
+        let due = held.first().copied();
+        (dense_rows(random, dangers, held), due)
+    });
+    let linked = search::LINKED;
+    let searches = both(&search::INDEPENDENT, &linked);
+    let mut runs = Vec::new();
+    for (rows, due) in &cases {
+        for &search in &searches {
+            runs.push(move |_| search_all(black_box(search), rows, dangers, *due));
+        }
+    }
+    measure("search", &runs)
+}
+
+/// Prints the times for all rows, and how many times as long those without a
+/// dangerous edge take as those with edge 0.
+fn print_search(measured: &Measured) {
+    print_head("search in a row, 200 rows over 1,024 edges", "ns");
+    let Measured { medians, turns } = measured;
+    let cases: Vec<&[f64]> = medians.chunks(medians.len() / SEARCHED.len()).collect();
+    for ((name, _), times) in SEARCHED.iter().zip(&cases) {
+        print_line(name, times, 1e9 / PASSES as f64, *turns);
+    }
+    let pairs = cases[2].iter().zip(cases[0]);
+    let longer: Vec<f64> = pairs.map(|(none, first)| none / first).collect();
+    println!(
+        "{:<44}{:>14}{:>16}",
+        "no dangerous edge, times as long as edge 0",
+        shown(longer.get(1), 2),
+        shown(longer.first(), 2)
+    );
+}
+
+// ---- measuring
+
+/// The independent implementation, and the library if it is linked.
+fn both<'a, T>(independent: &'a T, linked: &'a Option<T>) -> Vec<&'a T> {
+    [Some(independent), linked.as_ref()]
+        .into_iter()
+        .flatten()
+        .collect()
+}
+
+/// The median seconds of each run.
+struct Measured {
+    medians: Vec<f64>,
+    turns: usize,
+}
+
+/// Makes these runs in turn; at each turn all must answer the same.
+fn measure(name: &str, runs: &[impl Fn(usize) -> u64]) -> Measured {
+    let mut times: Vec<Vec<Duration>> = vec![Vec::new(); runs.len()];
+    let start = Instant::now();
+    let mut turns = 0;
+    while turns < FEWEST || start.elapsed() < TIME && turns < MOST {
+        let mut answers = Vec::new();
+        for (run, times) in runs.iter().zip(&mut times) {
+            let begin = Instant::now();
+            answers.push(black_box(run(turns)));
+            times.push(begin.elapsed());
+        }
+        let same = answers.iter().all(|&answer| answer == answers[0]);
+        assert!(same, "{name}: answers differ");
+        turns += 1;
+    }
+    let medians = times.into_iter().map(median).collect();
+    Measured { medians, turns }
+}
+
+fn median(mut times: Vec<Duration>) -> f64 {
+    times.sort();
+    times[times.len() / 2].as_secs_f64()
+}
+
+fn print_head(title: &str, unit: &str) {
+    let (linked, independent) = (format!("linked {unit}"), format!("independent {unit}"));
+    println!(
+        "{title:<44}{linked:>14}{independent:>16}{:>9}{:>7}",
+        "ratio", "runs"
+    );
+}
+
+/// A line of a table: times of the independent implementation, and of the
+/// library if it is linked, with so many of its units to the second.
+fn print_line(name: &str, times: &[f64], units: f64, runs: usize) {
+    let times: Vec<f64> = times.iter().map(|time| time * units).collect();
+    let (own, other) = (times.first(), times.get(1));
+    let ratio = other.map(|other| other / times[0]);
+    println!(
+        "{name:<44}{:>14}{:>16}{:>9}{runs:>7}",
+        shown(other, 1),
+        shown(own, 1),
+        shown(ratio.as_ref(), 2)
+    );
+}
+
+fn shown(number: Option<&f64>, digits: usize) -> String {
+    number.map_or("-".to_string(), |number| format!("{number:.digits$}"))
+}
+
+fn main() {
+    let mut random = Random::new(1, 1);
+    let jobs = Jobs::new(&mut random);
+    print_head("case", "us");
+    let linked = LINKED;
+    let cases = [
+        largest_cases(&jobs),
+        formatted_cases(&jobs),
+        calling_cases(&jobs),
+    ];
+    for (name, run) in cases.iter().flatten() {
+        let by = |calls| move |turn| run(black_box(calls), turn);
+        let runs: Vec<_> = both(&INDEPENDENT, &linked).into_iter().map(by).collect();
+        let Measured { medians, turns } = measure(name, &runs);
+        print_line(name, &medians, 1e6, turns);
+    }
+    println!();
+    print_search(&measure_search(&mut random));
     if linked.is_none() {
         println!("the library is not linked");
     }

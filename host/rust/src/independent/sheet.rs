@@ -89,8 +89,8 @@ fn edges(danger: &[u64; ROW_WORDS]) -> impl Iterator<Item = usize> + '_ {
             if left == 0 {
                 return None;
             }
-            let bit = left.leading_zeros();
-            left ^= 1 << (63 - bit);
+            let bit = left.trailing_zeros();
+            left &= left - 1;
             Some(at * 64 + bit as usize)
         })
     })

@@ -5,12 +5,12 @@ use crate::answer::{Answer, Outcome};
 
 pub const TEST_LIMIT: usize = 200;
 
-/// Edges as bits: edge 0 is the highest bit of the first word.
+/// Edges as bits: edge 0 is the lowest bit of the first word.
 pub const ROW_WORDS: usize = 16;
 
 /// The word and the bit of an edge.
 pub fn place_of(edge: usize) -> (usize, u64) {
-    (edge / 64, 1 << (63 - edge % 64))
+    (edge / 64, 1 << (edge % 64))
 }
 
 /// Whether a row holds an edge.
@@ -19,9 +19,19 @@ pub fn holds(row: &[u64], edge: usize) -> bool {
     row[word] & bit != 0
 }
 
-/// Whether two rows have an edge in common.
-pub fn meet(row: &[u64], other: &[u64]) -> bool {
-    row.iter().zip(other).any(|(a, b)| a & b != 0)
+/// The lowest dangerous edge that a row holds; the search ends at the first
+/// word that has one. Words past the end of a slice are 0, and those past
+/// `ROW_WORDS` are not looked at.
+pub fn first_danger(row: &[u64], danger: &[u64]) -> Option<usize> {
+    let words = row.iter().zip(danger).take(ROW_WORDS);
+    let mut common = words.map(|(row, danger)| row & danger).enumerate();
+    let (at, word) = common.find(|&(_, word)| word != 0)?;
+    Some(64 * at + word.trailing_zeros() as usize)
+}
+
+/// Whether a row holds a dangerous edge.
+pub fn meet(row: &[u64], danger: &[u64]) -> bool {
+    first_danger(row, danger).is_some()
 }
 
 pub struct Suite<'a> {
@@ -54,12 +64,14 @@ impl<'a> Suite<'a> {
     }
 }
 
-/// The value of a lower-case hexadecimal digit, 255 for another byte.
+/// The four edges of a lower-case hexadecimal digit, whose highest bit is the
+/// lowest edge; 255 for another byte.
 const DIGIT: [u8; 256] = {
     let mut table = [255; 256];
-    let mut value = 0;
+    let mut value = 0u8;
     while value < 16 {
-        table[b"0123456789abcdef"[value as usize] as usize] = value;
+        let edges = value.reverse_bits() >> 4;
+        table[b"0123456789abcdef"[value as usize] as usize] = edges;
         value += 1;
     }
     table
@@ -71,17 +83,18 @@ fn push_row(rows: &mut Vec<u64>, digits: &[u8], edges: usize) -> bool {
     let mut all = 0;
     let mut last = 0;
     for chunk in digits.chunks(16) {
-        let mut word = 0;
-        for &byte in chunk {
-            let value = DIGIT[byte as usize];
-            all |= value;
-            word = word << 4 | u64::from(value & 15);
+        // The first digit has the lowest edges. Where one is no digit the row
+        // is of no use.
+        last = 0;
+        for &byte in chunk.iter().rev() {
+            let four = DIGIT[byte as usize];
+            all |= four;
+            last = last << 4 | u64::from(four);
         }
-        last = word << (64 - 4 * chunk.len());
         rows.push(last);
     }
     let used = edges % 64;
-    let spare = if used == 0 { 0 } else { u64::MAX >> used };
+    let spare = if used == 0 { 0 } else { u64::MAX << used };
     all < 16 && last & spare == 0
 }
 

@@ -162,10 +162,7 @@ pub fn tests(text: &[u8], edges: usize) -> Outcome<TestTables<'_>> {
     for (test, (start, fields)) in lines(text).enumerate() {
         tables.names.extend([start + 2, fields[1].len()]);
         let mut row = [0; ROW];
-        // The lowest bit is the lowest edge; the reader has it highest.
-        for (word, read) in row.iter_mut().zip(tables.suite.row(test)) {
-            *word = read.reverse_bits();
-        }
+        store(&mut row, 0, tables.suite.row(test));
         tables.rows.extend(row);
     }
     Ok(tables)
