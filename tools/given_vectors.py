@@ -7,7 +7,8 @@ SOURCE_DIR is a folder of given jobs that is not in the repository. Its file `an
 
 The texts of a case are the files old, new, tests and sheet of the folder CASE; one that is not there is empty. ARGUMENTS are `name=number`
 parted by commas, `-` for none; `room` is the length of the output. NUMBER and PLACE are the answer, WRITTEN is the file of the folder CASE
-with the bytes that the call writes, `-` for none. All answers in OUT are these; nothing is worked out here.
+with the bytes that the call writes, `-` for none. The search `first_danger` writes nothing; its PLACE is the lowest dangerous edge in the
+row of the test `lift`, or `none`. All answers in OUT are these; nothing is worked out here.
 
 OUT has for each case, its texts and its calls in the order of `answers`:
 
@@ -28,8 +29,9 @@ import os
 import sys
 
 TEXTS = 'old', 'new', 'tests', 'sheet'
-CALLS = {  # those that run a whole job, with their arguments, which are given in any order
-    'read_old': [], 'sheet': ['room'], 'record': ['lift', 'room'], 'check': [], 'write_back': ['room', 'side'],
+SEARCH = 'first_danger'
+CALLS = {  # those that run a whole job, and the search, with their arguments, which are given in any order
+    'read_old': [], 'sheet': ['room'], 'record': ['lift', 'room'], 'check': [], 'write_back': ['room', 'side'], SEARCH: ['lift'],
 }
 
 
@@ -52,10 +54,10 @@ def read(*path):
 
 
 def call_lines(folder, call, arguments, number, place, written):
-    """A call, its answer and what it writes. On success the place is the bytes written."""
+    """A call, its answer and what it writes. On success the place is the bytes written, but for the search."""
     out = b'' if written == '-' else read(folder, written)
     names = [argument.split('=')[0] for argument in arguments.split(',') if argument != '-']
-    if sorted(names) != CALLS[call] or len(out) != (0 if int(number) else int(place)):
+    if sorted(names) != CALLS[call] or len(out) != (0 if int(number) or call == SEARCH else int(place)):
         raise SystemExit('a call of the case %s does not fit the form of the data: %s' % (os.path.basename(folder), call))
     return [' '.join(('call', call, arguments, number, place)), *lines_of(out)]
 

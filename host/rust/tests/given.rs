@@ -1,17 +1,19 @@
-//! Given vectors, by the whole-job calls: texts, calls, and the answers of other
-//! implementations. The files in `given` are made by `tools/given_vectors.py`,
-//! which says their form; no answer in them is one of ours. Answers and bytes
-//! written must be as given, and all other bytes of the output and beside it
-//! untouched. The library, where it is linked, and the independent
-//! implementation must each do so.
+//! Given vectors, by the whole-job calls and the search in a row: texts, calls,
+//! and the answers of other implementations. The files in `given` are made by
+//! `tools/given_vectors.py`, which says their form; no answer in them is one of
+//! ours. Answers and bytes written must be as given, and all other bytes of the
+//! output and beside it untouched. The library, where it is linked, and the
+//! independent implementation must each do so.
 
-// `whole` uses it.
 mod driving;
 mod whole;
 
+use driving::{ASK_SHEET, READS};
 use rivetyellow_host::answer::Answer;
 use rivetyellow_host::calls::Calls;
+use rivetyellow_host::drive::{Call, Driver, Table, Text, OUTPUT};
 use rivetyellow_host::lent::pattern;
+use rivetyellow_host::search::{self, Search};
 use std::collections::BTreeMap;
 use std::iter::Peekable;
 use std::str::Lines;
@@ -23,14 +25,21 @@ fn callees() {
     hold(include_str!("given/callees"), 55, 116);
 }
 
+/// Request 4: the search in a row ends at the lowest dangerous edge.
+#[test]
+fn first_danger() {
+    hold(include_str!("given/first_danger"), 18, 123);
+}
+
 /// The numbers are those of the cases and of the calls in the file.
 fn hold(file: &'static str, case_count: usize, call_count: usize) {
     let cases = cases(file);
-    for calls in all() {
+    let searches = [Some(search::INDEPENDENT), search::LINKED];
+    for (calls, search) in all().zip(searches.into_iter().flatten()) {
         let mut run = 0;
         for case in &cases {
             for given in &case.calls {
-                case.hold(&calls, given);
+                case.hold(&calls, &search, given);
                 run += 1;
             }
         }
@@ -65,7 +74,7 @@ impl Case {
         self.texts.get(name).map_or(&[], Vec::as_slice)
     }
 
-    fn hold(&self, calls: &Calls, given: &Given) {
+    fn hold(&self, calls: &Calls, search: &Search, given: &Given) {
         let what = format!(
             "{}: {} {} {:?}",
             calls.name, self.name, given.call, given.arguments
@@ -86,6 +95,11 @@ impl Case {
             ("write_back", &[("room", _), ("side", side)]) => {
                 (calls.program)(old, new, tests, side, out)
             }
+            ("first_danger", &[("lift", test)]) => {
+                let (row, dangers) = self.read(test);
+                let edge = (search.first_danger)(&row, &dangers);
+                Answer::new(0, edge.map_or(NO_EDGE, |edge| edge as u32))
+            }
             _ => panic!("unknown call: {what}"),
         };
         assert_eq!(answer, given.answer, "{what}");
@@ -95,6 +109,48 @@ impl Case {
         assert_eq!(shown(&memory), shown(&due), "{what}");
         assert!(memory == due, "{what}: a byte beside what is written");
     }
+
+    /// A test's row in the lent table, and the edges of the sheet's D lines
+    /// laid out like it. Both implementations make table and sheet, and all
+    /// that they are lent is compared.
+    fn read(&self, test: usize) -> (Vec<u64>, [u64; ROW]) {
+        let mut driver = Driver::new();
+        for (text, name) in [
+            (Text::Old, "old"),
+            (Text::New, "new"),
+            (Text::Tests, "tests"),
+        ] {
+            driver.lend_text(text, self.text(name));
+        }
+        driver.lend(Table::Output, OUTPUT);
+        driver.call(Call::Reset);
+        for read in READS {
+            driver.call(read);
+        }
+        let sheet = driver.call(ASK_SHEET);
+        assert_eq!(driver.difference, None, "{}", self.name);
+        assert!(sheet.is_success(), "{}: {sheet}", self.name);
+        let word = |at| driver.number(Table::Rows, at).expect("a row of the table");
+        let row = (ROW * test..ROW * (test + 1)).map(word).collect();
+        (row, dangers(driver.written(sheet.place as usize)))
+    }
+}
+
+/// Words of a row.
+const ROW: usize = 16;
+
+/// The place that stands for `none`.
+const NO_EDGE: u32 = u32::MAX;
+
+/// The edges of a sheet's D lines.
+fn dangers(sheet: &[u8]) -> [u64; ROW] {
+    let mut dangers = [0; ROW];
+    let sheet = String::from_utf8_lossy(sheet);
+    for digits in sheet.lines().filter_map(|line| line.strip_prefix("D,")) {
+        let edge = number(digits) as usize;
+        dangers[edge / 64] |= 1 << (edge % 64);
+    }
+    dangers
 }
 
 // ---- the form of the files
@@ -123,7 +179,7 @@ fn cases(file: &'static str) -> Vec<Case> {
             ["call", call, list, refusal, place] => case.calls.push(Given {
                 call,
                 arguments: arguments(list),
-                answer: Answer::new(number(refusal), number(place)),
+                answer: Answer::new(number(refusal), place_of(place)),
                 written: bytes,
             }),
             _ => panic!("unknown line: {head}"),
@@ -134,6 +190,13 @@ fn cases(file: &'static str) -> Vec<Case> {
 
 fn number(digits: &str) -> u32 {
     digits.parse().expect(digits)
+}
+
+fn place_of(field: &str) -> u32 {
+    match field {
+        "none" => NO_EDGE,
+        digits => number(digits),
+    }
 }
 
 /// Names with numbers, in the order of the names; `-` for none.
