@@ -5,17 +5,20 @@
 
 use crate::independent::suite;
 
+/// What a search answers if there is no edge.
+pub const NO_EDGE: usize = 1_024;
+
 /// One implementation's search.
 pub struct Search {
     pub name: &'static str,
     /// In a row, for an edge of these dangerous ones.
-    pub first_danger: fn(&[u64], &[u64]) -> Option<usize>,
+    pub first_danger: fn(&[u64], &[u64]) -> usize,
 }
 
 /// The independent implementation.
 pub const INDEPENDENT: Search = Search {
     name: "independent",
-    first_danger: suite::first_danger,
+    first_danger: |row, dangers| suite::first_danger(row, dangers).unwrap_or(NO_EDGE),
 };
 
 /// The linked library, if it was built in.
@@ -29,9 +32,6 @@ pub const LINKED: Option<Search> = None;
 
 #[cfg(linked)]
 mod linked {
-    /// What the search answers if there is no edge.
-    const NO_EDGE: usize = 1_024;
-
     extern "C" {
         fn row_search(
             row: *const u64,
@@ -43,8 +43,7 @@ mod linked {
 
     /// Searches a row. The call reads only the two slices and keeps no
     /// pointer, which is what makes this safe.
-    pub fn first_danger(row: &[u64], dangers: &[u64]) -> Option<usize> {
-        let edge = unsafe { row_search(row.as_ptr(), row.len(), dangers.as_ptr(), dangers.len()) };
-        (edge != NO_EDGE).then_some(edge)
+    pub fn first_danger(row: &[u64], dangers: &[u64]) -> usize {
+        unsafe { row_search(row.as_ptr(), row.len(), dangers.as_ptr(), dangers.len()) }
     }
 }

@@ -13,7 +13,7 @@ use rivetyellow_host::answer::Answer;
 use rivetyellow_host::calls::Calls;
 use rivetyellow_host::drive::{Call, Driver, Table, Text, OUTPUT};
 use rivetyellow_host::lent::pattern;
-use rivetyellow_host::search::{self, Search};
+use rivetyellow_host::search::{self, Search, NO_EDGE};
 use std::collections::BTreeMap;
 use std::iter::Peekable;
 use std::str::Lines;
@@ -97,8 +97,7 @@ impl Case {
             }
             ("first_danger", &[("lift", test)]) => {
                 let (row, dangers) = self.read(test);
-                let edge = (search.first_danger)(&row, &dangers);
-                Answer::new(0, edge.map_or(NO_EDGE, |edge| edge as u32))
+                Answer::new(0, (search.first_danger)(&row, &dangers) as u32)
             }
             _ => panic!("unknown call: {what}"),
         };
@@ -138,9 +137,6 @@ impl Case {
 
 /// Words of a row.
 const ROW: usize = 16;
-
-/// The place that stands for `none`.
-const NO_EDGE: u32 = u32::MAX;
 
 /// The edges of a sheet's D lines.
 fn dangers(sheet: &[u8]) -> [u64; ROW] {
@@ -194,7 +190,7 @@ fn number(digits: &str) -> u32 {
 
 fn place_of(field: &str) -> u32 {
     match field {
-        "none" => NO_EDGE,
+        "none" => NO_EDGE as u32,
         digits => number(digits),
     }
 }

@@ -13,7 +13,7 @@ use rivetyellow_host::generate::sheets::all_alike;
 use rivetyellow_host::generate::tests::runs;
 use rivetyellow_host::independent::job::Job;
 use rivetyellow_host::independent::suite::{place_of, ROW_WORDS};
-use rivetyellow_host::search::{self, Search};
+use rivetyellow_host::search::{self, Search, NO_EDGE};
 use std::hint::black_box;
 use std::time::{Duration, Instant};
 
@@ -247,9 +247,8 @@ fn dense_rows(random: &mut Random, dangers: &Row, held: &[usize]) -> Vec<Row> {
     (0..ROWS).map(row).collect()
 }
 
-/// Searches all rows; each search must answer this edge. That of the library
-/// is behind its wrapper, one call more.
-fn search_all(search: &Search, rows: &[Row], dangers: &Row, due: Option<usize>) -> u64 {
+/// Searches all rows; each search must answer this edge.
+fn search_all(search: &Search, rows: &[Row], dangers: &Row, due: usize) -> u64 {
     let mut right = 0;
     for _ in 0..PASSES {
         let (rows, dangers) = (black_box(rows), black_box(dangers));
@@ -272,7 +271,7 @@ const SEARCHED: [(&str, &[usize]); 3] = [
 fn measure_search(random: &mut Random) -> Measured {
     let dangers = &set(&DANGERS);
     let cases = SEARCHED.map(|(_, held)| {
-        let due = held.first().copied();
+        let due = held.first().copied().unwrap_or(NO_EDGE);
         (dense_rows(random, dangers, held), due)
     });
     let linked = search::LINKED;
