@@ -3,21 +3,20 @@ use mathlib.Core.Path.{_≡_, refl, sym, ap, ap₂, _∙_}
 use mathlib.Core.Bool.{Bool, true, false}
 use mathlib.Core.Option.{Option, none, some}
 use mathlib.Core.List.{List, []}
-use Prim.Native.Nat.{ℕ, suc, _+_, _-_, _*_, _/_, _%_, _^_, _≤_, _<_}
+use Prim.Native.Nat.{ℕ, _+_, _-_, _*_, _/_, _%_, _^_, _≤_, _<_}
 use native.Mathlib.Omega.{arith}
 use lib.Bits.{bitAnd, and-zero-l, and-zero-r}
 use lib.Count.{ones, ones-le, trailingZeros, trailing-le}
-use lib.Dec.{eqb, ltb}
+use lib.Dec.{eqb}
 use lib.ListN.{length, getD, take, drop}
-use borrow.Author.Tests.{lt-ltb}
-use Rattle.laws.specs.Tests.{_and_, count, first, found}
+use Rattle.laws.specs.Tests.{_and_, after, count, first}
 use Rattle.laws.specs.Counting.{count-few}
 use Rattle.laws.specs.Bits.{bitAt, bitIn, bit-and, count-word, first-word, first-no-word, zeros-fit}
 use Rattle.laws.specs.BitSets.{word-bit}
 use Rattle.text.proofs.Laws.{after-in, after-out, get-out}
 use Rattle.coverage.specs.declared.Found.{Found}
 use Rattle.coverage.specs.declared.Found.the-variants.{At, Nothing}
-use Rattle.coverage.specs.Rows.{edgeBit, edgeFound, firstCommon, rowMeets, rowOf, rowOnes}
+use Rattle.coverage.specs.Rows.{edgeBit, edgeFound, firstCommon, rowMeets, rowFrom, rowOnes}
 
 -- ---- `word_at`, `ones_of`, `zeros_below`
 
@@ -65,15 +64,15 @@ ones-start rows i = refl
 
 pub ruleset counts = (covers-is, set-bit, ones-room, ones-on, ones-done, ones-start)
 
--- ---- `row_of`
+-- ---- `row_from`
 
 module _ (rows : List ℕ) (i : ℕ) where
-  pub row-out : length rows < 16 * i → _≡_ {A = List ℕ} [] (rowOf rows i)
-  unfolding rowOf
+  pub row-out : length rows < 16 * i → _≡_ {A = List ℕ} [] (rowFrom rows i)
+  unfolding rowFrom
   row-out h = after-out rows (16 * i) h
 
-  pub row-in : take (length rows - 16 * i) (drop (16 * i) rows) ≡ rowOf rows i
-  unfolding rowOf
+  pub row-in : take (length rows - 16 * i) (drop (16 * i) rows) ≡ rowFrom rows i
+  unfolding rowFrom
   row-in = after-in rows (16 * i)
 
 -- ---- `common_word`
@@ -124,18 +123,18 @@ danger-none row set k inv h l =
 
 -- ---- `row_meets`
 
-module _ (rows set row : List ℕ) (i : ℕ) (found-in : Found) (is : row ≡ rowOf rows i) (searched : edgeFound found-in ≡ firstCommon row set) where
-  tells : ltb 0 (found (edgeFound found-in)) ≡ rowMeets rows set i
+module _ (rows set row : List ℕ) (i : ℕ) (found-in : Found) (is : row ≡ rowFrom rows i) (searched : edgeFound found-in ≡ firstCommon row set) where
+  tells : after (edgeFound found-in) false (λ e. true) ≡ rowMeets rows set i
   unfolding rowMeets
-  tells = ap (λ (o : Option ℕ). ltb 0 (found o)) (searched ∙ ap (λ (r : List ℕ). firstCommon r set) is)
+  tells = ap (λ (o : Option ℕ). after o false (λ e. true)) (searched ∙ ap (λ (r : List ℕ). firstCommon r set) is)
 
   pub meets-one : (e : ℕ) → found-in ≡ At e → true ≡ rowMeets rows set i
   unfolding edgeFound
-  meets-one e p = sym (lt-ltb 0 (suc e) (omega arith)) ∙ sym (ap (λ (f : Found). ltb 0 (found (edgeFound f))) p) ∙ tells
+  meets-one e p = sym (ap (λ (f : Found). after (edgeFound f) false (λ x. true)) p) ∙ tells
 
   pub meets-none : found-in ≡ Nothing → false ≡ rowMeets rows set i
   unfolding edgeFound
-  meets-none p = sym (ap (λ (f : Found). ltb 0 (found (edgeFound f))) p) ∙ tells
+  meets-none p = sym (ap (λ (f : Found). after (edgeFound f) false (λ x. true)) p) ∙ tells
 
 pub ruleset searches = (row-out, row-in, row-ended, set-ended, danger-start, danger-found, danger-on, danger-room, danger-none, meets-one, meets-none)
 

@@ -1,12 +1,11 @@
 -- How a table holds coverage: 16 words of 64 bits a test, its row. What the functions answer of it.
 use mathlib.Core.Path.{_≡_}
-use mathlib.Core.Bool.{Bool, false}
+use mathlib.Core.Bool.{Bool, true, false}
 use mathlib.Core.Option.{Option, none, some}
 use mathlib.Core.List.{List}
 use Prim.Native.Nat.{ℕ, _+_, _*_, _/_, _%_, _≤_, _<_}
-use lib.Dec.{ltb}
 use lib.ListN.{getD, drop}
-use Rattle.laws.specs.Tests.{_and_, count, first, found}
+use Rattle.laws.specs.Tests.{_and_, after, count, first}
 use Rattle.laws.specs.Bits.{bitAt, bitIn, wordsOf}
 use Rattle.rules.specs.Closing.{Coverage, holds}
 use Rattle.coverage.specs.declared.Found.{Found}
@@ -28,9 +27,9 @@ pub record Row (m : ℕ) (rows : List ℕ) (i : ℕ) (coverage : Coverage) : Typ
 unfoldable pub rowOnes : List ℕ → ℕ → ℕ
 rowOnes rows i = count 1024 (edgeBit rows i)
 
--- `row_of`: the words of the row of the test i, and what stands behind them in the table.
-unfoldable pub rowOf : List ℕ → ℕ → List ℕ
-rowOf rows i = drop (16 * i) rows
+-- `row_from`: the words of the table from the row of the test i on.
+unfoldable pub rowFrom : List ℕ → ℕ → List ℕ
+rowFrom rows i = drop (16 * i) rows
 
 -- An answer of a search: the edge that it found, or none.
 unfoldable pub edgeFound : Found → Option ℕ
@@ -43,4 +42,4 @@ firstCommon row set = first 1024 (λ e. bitIn row e and bitIn set e)
 
 -- `row_meets`: one is found in the row of the test i.
 unfoldable pub rowMeets : List ℕ → List ℕ → ℕ → Bool
-rowMeets rows set i = ltb 0 (found (firstCommon (rowOf rows i) set))
+rowMeets rows set i = after (firstCommon (rowFrom rows i) set) false (λ e. true)

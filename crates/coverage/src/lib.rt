@@ -5,7 +5,7 @@ ghost use lib.Bits.{bitAnd};
 ghost use lib.Count.{ones as onesOf, trailingZeros};
 ghost use lib.ListN.{getD};
 ghost use Rattle.laws.specs.Bits.{bitIn};
-ghost use Rattle.coverage.specs.Rows.{edgeBit, edgeFound, firstCommon, rowMeets, rowOf, rowOnes};
+ghost use Rattle.coverage.specs.Rows.{edgeBit, edgeFound, firstCommon, rowFrom, rowMeets, rowOnes};
 
 // What a search for an edge answers: the edge, or that there is none.
 pub enum Found {
@@ -75,10 +75,10 @@ pub fn ones(rows: &[u64], test: usize) -> usize
 
 // ---- the search for a dangerous edge
 
-// The words of the row of a test, and what stands behind them in the table.
-fn row_of(rows: &[u64], test: usize) -> &[u64]
+// The words of a table of rows from the row of a test on.
+fn row_from(rows: &[u64], test: usize) -> &[u64]
     requires { ⌜ test ≤ 200 ⌝ }
-    ensures { λ r. ⌜ now r ≡ rowOf (now (rows .entry)) test ⌝ }
+    ensures { λ r. ⌜ now r ≡ rowFrom (now (rows .entry)) test ⌝ }
 {
     let start = 16 * test;
     if rows.len() < start {
@@ -100,7 +100,8 @@ fn common_word(row: &[u64], set: &[u64], at: usize) -> u64
     row[at] & set[at]
 }
 
-// The lowest edge that the row and the set both have, or that there is none: the lowest bit of the first of 16 words that they have in common.
+// The lowest edge that the row and the set both have, or that there is none: the lowest bit of the first word, of 16, in which they have one in
+// common.
 pub fn first_danger(row: &[u64], dangers: &[u64]) -> Found
     ensures { λ r. ⌜ edgeFound r ≡ firstCommon (now (row .entry)) (now (dangers .entry)) ⌝ }
 {
@@ -120,7 +121,7 @@ pub fn row_meets(rows: &[u64], test: usize, set: &[u64]) -> bool
     requires { ⌜ test ≤ 200 ⌝ }
     ensures { λ r. ⌜ r ≡ rowMeets (now (rows .entry)) (now (set .entry)) test ⌝ }
 {
-    let found = first_danger(row_of(rows, test), set);
+    let found = first_danger(row_from(rows, test), set);
     match found {
         Found::At(_) => {
             return true;

@@ -1,6 +1,5 @@
 -- The returns of the exported search, as `search` finds them.
 use mathlib.Core.Path.{_≡_, sym, ap, _∙_}
-use mathlib.Core.Option.{Option}
 use mathlib.Core.List.{List}
 use Prim.Native.Nat.{ℕ}
 use Rattle.coverage.specs.declared.Found.{Found}

@@ -1,2 +1,2 @@
--- What the exported search returns.
+-- What the exported search returns, and what that says.
 pub mod Numbers

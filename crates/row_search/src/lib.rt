@@ -4,7 +4,7 @@ ghost use mathlib.Core.Path.{_≡_};
 ghost use Rattle.coverage.specs.Rows.{firstCommon};
 ghost use Rattle.row_search.specs.Numbers.{edgeNumber};
 
-// The lowest edge that the row and the set both have, both 16 words of 64 edges; 1,024 where there is none.
+// The lowest edge that the row and the set both have; 1,024 where there is none. Words that a slice does not have are 0, and 16 are looked at.
 #[no_mangle]
 pub extern "C" fn row_search(row: &[u64], dangers: &[u64]) -> usize
     ensures { λ r. ⌜ r ≡ edgeNumber (firstCommon (now (row .entry)) (now (dangers .entry))) ⌝ }

@@ -216,11 +216,11 @@ labels-compared = (refl, refl, refl, refl, refl, refl)
 
 -- ---- the search for a dangerous edge in a row (document 02, job 4)
 
--- What is found in the row of each test, a line each.
 foundText : Option ℕ → Bytes
 foundText none = bytes "none"
 foundText (some e) = decimal e
 
+-- What the search finds in the row of each test, a line each: an edge, or none.
 finds : Job → String → Example
 unfolding foundText
 finds j lines = (

@@ -1,4 +1,4 @@
--- How two tables hold a suite: in `tests` two numbers a test, where its name stands in the text and how long it is; in `rows` the row of a test, its coverage.
+-- How two tables hold a suite: in `tests` two numbers a test, where its name stands in the text and how long it is; in `rows` the row of each test, its coverage (`coverage/specs/Rows`).
 use mathlib.Core.Path.{_≡_}
 use mathlib.Core.List.{List}
 use Prim.Native.Nat.{ℕ, _+_, _*_, _/_, _<_}

@@ -3,8 +3,8 @@ use Rattle.coverage.proofs.Laws.{all}
 use Rattle.coverage.proofs.row_meets.Statement.{statement}
 use Rattle.coverage.proofs.row_meets.Tie as tie
 
-row-of-requires : tie.Need-row-of-requires
-row-of-requires c κs = search needs
+row-from-requires : tie.Need-row-from-requires
+row-from-requires c κs = search needs
 
 first-danger-requires : tie.Need-first-danger-requires
 first-danger-requires c κs = search needs
@@ -24,4 +24,4 @@ returns-2 c = search (all, needs)
 pub row-meets-spec : {M : Type 1} → statement M
 row-meets-spec =
     tie.close
-    (tie.spec row-of-requires first-danger-requires enum-told returns enum-told-2 returns-2)
+    (tie.spec row-from-requires first-danger-requires enum-told returns enum-told-2 returns-2)

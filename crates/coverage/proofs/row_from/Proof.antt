@@ -1,7 +1,7 @@
 use borrow.Author.Needs.{needs}
 use Rattle.coverage.proofs.Laws.{all}
-use Rattle.coverage.proofs.row_of.Statement.{statement}
-use Rattle.coverage.proofs.row_of.Tie as tie
+use Rattle.coverage.proofs.row_from.Statement.{statement}
+use Rattle.coverage.proofs.row_from.Tie as tie
 
 mul-start : tie.Need-mul-start
 mul-start c = search needs
@@ -27,8 +27,8 @@ part-result-end c = search needs
 returns-2 : tie.Need-returns-2
 returns-2 c = search (all, needs)
 
-pub row-of-spec : {M : Type 1} → statement M
-row-of-spec =
+pub row-from-spec : {M : Type 1} → statement M
+row-from-spec =
     tie.close
     (tie.spec
     mul-start
