@@ -2,21 +2,21 @@
 use mathlib.Core.Path.{_≡_, refl, sym, ap, ap₂, _∙_}
 use mathlib.Core.Bool.{Bool, true, false}
 use mathlib.Core.Option.{Option, none, some}
-use mathlib.Core.List.{List, []}
+use mathlib.Core.List.{List}
 use Prim.Native.Nat.{ℕ, _+_, _-_, _*_, _/_, _%_, _^_, _≤_, _<_}
 use native.Mathlib.Omega.{arith}
 use lib.Bits.{bitAnd, and-zero-l, and-zero-r}
 use lib.Count.{ones, ones-le, trailingZeros, trailing-le}
 use lib.Dec.{eqb}
-use lib.ListN.{length, getD, take, drop}
+use lib.ListN.{length, getD}
 use Rattle.laws.specs.Tests.{_and_, after, count, first}
 use Rattle.laws.specs.Counting.{count-few}
 use Rattle.laws.specs.Bits.{bitAt, bitIn, bit-and, count-word, first-word, first-no-word, zeros-fit}
 use Rattle.laws.specs.BitSets.{word-bit}
-use Rattle.text.proofs.Laws.{after-in, after-out, get-out}
+use Rattle.text.proofs.Laws.{get-out}
 use Rattle.coverage.specs.declared.Found.{Found}
 use Rattle.coverage.specs.declared.Found.the-variants.{At, Nothing}
-use Rattle.coverage.specs.Rows.{edgeBit, edgeFound, firstCommon, rowMeets, rowFrom, rowOnes}
+use Rattle.coverage.specs.Rows.{edgeBit, edgeFound, firstCommon, rowMeets, rowOnes, rowWords}
 
 -- ---- `word_at`, `ones_of`, `zeros_below`
 
@@ -63,17 +63,6 @@ unfolding count
 ones-start rows i = refl
 
 pub ruleset counts = (covers-is, set-bit, ones-room, ones-on, ones-done, ones-start)
-
--- ---- `row_from`
-
-module _ (rows : List ℕ) (i : ℕ) where
-  pub row-out : length rows < 16 * i → _≡_ {A = List ℕ} [] (rowFrom rows i)
-  unfolding rowFrom
-  row-out h = after-out rows (16 * i) h
-
-  pub row-in : take (length rows - 16 * i) (drop (16 * i) rows) ≡ rowFrom rows i
-  unfolding rowFrom
-  row-in = after-in rows (16 * i)
 
 -- ---- `common_word`
 
@@ -123,7 +112,7 @@ danger-none row set k inv h l =
 
 -- ---- `row_meets`
 
-module _ (rows set row : List ℕ) (i : ℕ) (found-in : Found) (is : row ≡ rowFrom rows i) (searched : edgeFound found-in ≡ firstCommon row set) where
+module _ (rows set row : List ℕ) (i : ℕ) (found-in : Found) (is : row ≡ rowWords rows i) (searched : edgeFound found-in ≡ firstCommon row set) where
   tells : after (edgeFound found-in) false (λ e. true) ≡ rowMeets rows set i
   unfolding rowMeets
   tells = ap (λ (o : Option ℕ). after o false (λ e. true)) (searched ∙ ap (λ (r : List ℕ). firstCommon r set) is)
@@ -136,6 +125,6 @@ module _ (rows set row : List ℕ) (i : ℕ) (found-in : Found) (is : row ≡ ro
   unfolding edgeFound
   meets-none p = sym (ap (λ (f : Found). after (edgeFound f) false (λ x. true)) p) ∙ tells
 
-pub ruleset searches = (row-out, row-in, row-ended, set-ended, danger-start, danger-found, danger-on, danger-room, danger-none, meets-one, meets-none)
+pub ruleset searches = (row-ended, set-ended, danger-start, danger-found, danger-on, danger-room, danger-none, meets-one, meets-none)
 
 pub ruleset all = (words, counts, searches)

@@ -4,7 +4,7 @@ use mathlib.Core.Bool.{Bool, true, false}
 use mathlib.Core.Option.{Option, none, some}
 use mathlib.Core.List.{List}
 use Prim.Native.Nat.{ℕ, _+_, _*_, _/_, _%_, _≤_, _<_}
-use lib.ListN.{getD, drop}
+use lib.ListN.{getD, take, drop}
 use Rattle.laws.specs.Tests.{_and_, after, count, first}
 use Rattle.laws.specs.Bits.{bitAt, bitIn, wordsOf}
 use Rattle.rules.specs.Closing.{Coverage, holds}
@@ -27,9 +27,9 @@ pub record Row (m : ℕ) (rows : List ℕ) (i : ℕ) (coverage : Coverage) : Typ
 unfoldable pub rowOnes : List ℕ → ℕ → ℕ
 rowOnes rows i = count 1024 (edgeBit rows i)
 
--- `row_from`: the words of the table from the row of the test i on.
-unfoldable pub rowFrom : List ℕ → ℕ → List ℕ
-rowFrom rows i = drop (16 * i) rows
+-- The words of the row of the test i, as far as the table has them.
+abbrev pub rowWords : List ℕ → ℕ → List ℕ
+rowWords rows i = take 16 (drop (16 * i) rows)
 
 -- An answer of a search: the edge that it found, or none.
 unfoldable pub edgeFound : Found → Option ℕ
@@ -42,4 +42,4 @@ firstCommon row set = first 1024 (λ e. bitIn row e and bitIn set e)
 
 -- `row_meets`: one is found in the row of the test i.
 unfoldable pub rowMeets : List ℕ → List ℕ → ℕ → Bool
-rowMeets rows set i = after (firstCommon (rowFrom rows i) set) false (λ e. true)
+rowMeets rows set i = after (firstCommon (rowWords rows i) set) false (λ e. true)

@@ -5,7 +5,7 @@ ghost use lib.Bits.{bitAnd};
 ghost use lib.Count.{ones as onesOf, trailingZeros};
 ghost use lib.ListN.{getD};
 ghost use Rattle.laws.specs.Bits.{bitIn};
-ghost use Rattle.coverage.specs.Rows.{edgeBit, edgeFound, firstCommon, rowFrom, rowMeets, rowOnes};
+ghost use Rattle.coverage.specs.Rows.{edgeBit, edgeFound, firstCommon, rowMeets, rowOnes};
 
 // What a search for an edge answers: the edge, or that there is none.
 pub enum Found {
@@ -75,18 +75,6 @@ pub fn ones(rows: &[u64], test: usize) -> usize
 
 // ---- the search for a dangerous edge
 
-// The words of a table of rows from the row of a test on.
-fn row_from(rows: &[u64], test: usize) -> &[u64]
-    requires { ⌜ test ≤ 200 ⌝ }
-    ensures { λ r. ⌜ now r ≡ rowFrom (now (rows .entry)) test ⌝ }
-{
-    let start = 16 * test;
-    if rows.len() < start {
-        return &rows[..0];
-    }
-    &rows[start..]
-}
-
 // What the words of a row and of a set at a place have in common: nothing where one of them ends before it.
 fn common_word(row: &[u64], set: &[u64], at: usize) -> u64
     ensures { λ r. ⌜ r ≡ bitAnd (getD (now (row .entry)) at 0) (getD (now (set .entry)) at 0) ⌝ }
@@ -121,7 +109,8 @@ pub fn row_meets(rows: &[u64], test: usize, set: &[u64]) -> bool
     requires { ⌜ test ≤ 200 ⌝ }
     ensures { λ r. ⌜ r ≡ rowMeets (now (rows .entry)) (now (set .entry)) test ⌝ }
 {
-    let found = first_danger(row_from(rows, test), set);
+    let row = text::run_words(rows, 16 * test, 16);
+    let found = first_danger(row, set);
     match found {
         Found::At(_) => {
             return true;

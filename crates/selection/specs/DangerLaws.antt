@@ -14,7 +14,7 @@ use Rattle.rules.specs.Proofs.Closure.{dangers-inside}
 use Rattle.rules.specs.Proofs.Search.{search-exact}
 use Rattle.coverage.specs.declared.Found.{Found}
 use Rattle.coverage.specs.declared.Found.the-variants.{At, Nothing}
-use Rattle.coverage.specs.Rows.{Row, edgeFound, firstCommon, rowFrom, rowMeets}
+use Rattle.coverage.specs.Rows.{Row, edgeFound, firstCommon, rowMeets, rowWords}
 use Rattle.coverage.specs.RowLaws.{at-is, first-is, meets-are, nothing-is}
 use Rattle.selection.specs.Dangers.{DangerSet}
 
@@ -23,11 +23,11 @@ module _ (old new : Program) (set : List ℕ) (few : edgeCount old ≤ 1024) (h 
   bits e l = h .bits e (omega arith)
 
   -- The search in the row finds the lowest dangerous edge that the coverage holds.
-  pub row-first : firstCommon (rowFrom rows i) set ≡ firstDanger (edgeCount old) (dangers old new) coverage
+  pub row-first : firstCommon (rowWords rows i) set ≡ firstDanger (edgeCount old) (dangers old new) coverage
   row-first = first-is (edgeCount old) rows i coverage few row set (dangers old new) bits
 
   -- What `first_danger` answers of the row, by its cases: an edge exactly if it is the lowest dangerous one that the coverage holds, and nothing exactly if the test is not repeated.
-  module _ (x : Exact old new) (f : Found) (answered : edgeFound f ≡ firstCommon (rowFrom rows i) set) where
+  module _ (x : Exact old new) (f : Found) (answered : edgeFound f ≡ firstCommon (rowWords rows i) set) where
     pub row-at : (e : ℕ) → (f ≡ At e) ↔ (Dangerous old new e × (holds coverage e ≡ true) × ((d : ℕ) → d < e → Dangerous old new d → holds coverage d ≡ true → ⊥))
     row-at e =
         let s = search-exact old new x coverage .found-is e in

@@ -3,8 +3,11 @@ use Rattle.coverage.proofs.Laws.{all}
 use Rattle.coverage.proofs.row_meets.Statement.{statement}
 use Rattle.coverage.proofs.row_meets.Tie as tie
 
-row-from-requires : tie.Need-row-from-requires
-row-from-requires c κs = search needs
+mul-run-words : tie.Need-mul-run-words
+mul-run-words c = search needs
+
+run-words-requires : tie.Need-run-words-requires
+run-words-requires c κs = search needs
 
 first-danger-requires : tie.Need-first-danger-requires
 first-danger-requires c κs = search needs
@@ -24,4 +27,11 @@ returns-2 c = search (all, needs)
 pub row-meets-spec : {M : Type 1} → statement M
 row-meets-spec =
     tie.close
-    (tie.spec row-from-requires first-danger-requires enum-told returns enum-told-2 returns-2)
+    (tie.spec
+    mul-run-words
+    run-words-requires
+    first-danger-requires
+    enum-told
+    returns
+    enum-told-2
+    returns-2)
