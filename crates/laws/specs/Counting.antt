@@ -92,3 +92,31 @@ every-agree f g (suc n) h =
     let a : f n ≡ g n = h n (omega arith) in
     let b : every n f ≡ every n g = every-agree f g n (λ i l. h i (omega arith)) in
     cc
+
+-- Where g passes whatever f does, it counts no fewer, and where it counts no more, f passes whatever g does.
+module _ (f g : ℕ → Bool) where
+  pub count-within : (n : ℕ) → ((i : ℕ) → i < n → f i ≡ true → g i ≡ true) → count n f ≤ count n g
+  unfolding count plus
+  count-within zero h = omega arith
+  count-within (suc n) h = go (f n) (g n) (h n (omega arith)) (count-within n (λ i l. h i (omega arith)))
+    where
+      go : (b c : Bool) → (b ≡ true → c ≡ true) → count n f ≤ count n g → plus b (count n f) ≤ plus c (count n g)
+      go true true k r = omega arith
+      go true false k r = absurd (both-ways (k refl) refl)
+      go false true k r = omega arith
+      go false false k r = r
+
+  pub count-same : (n : ℕ) → ((i : ℕ) → i < n → f i ≡ true → g i ≡ true) → count n g ≤ count n f → (i : ℕ) → i < n → g i ≡ true → f i ≡ true
+  count-same zero h e i l t = absurd (let z : ⊥ = omega arith in z)
+  count-same (suc n) h e i l t = go (passes? (f n)) (passes? (g n)) (below-suc i n l) (λ r k. count-same n h′ r i k t)
+    where
+      h′ : (i : ℕ) → i < n → f i ≡ true → g i ≡ true
+      h′ i l = h i (omega arith)
+
+      go : (f n ≡ true) ⊎ (f n ≡ false) → (g n ≡ true) ⊎ (g n ≡ false) → (i < n) ⊎ (i ≡ n) → (count n g ≤ count n f → i < n → f i ≡ true) → f i ≡ true
+      go (inl p) q (inr k) r = rw k p
+      go (inl p) (inl q) (inl k) r = r (omega (arith, count-more f n p, count-more g n q)) k
+      go (inl p) (inr q) (inl k) r = absurd (both-ways (h n (omega arith) p) q)
+      go (inr p) (inl q) k r = absurd (let z : ⊥ = omega (arith, count-skip f n p, count-more g n q, count-within n h′) in z)
+      go (inr p) (inr q) (inl k) r = r (omega (arith, count-skip f n p, count-skip g n q)) k
+      go (inr p) (inr q) (inr k) r = absurd (both-ways (rw k at t) q)

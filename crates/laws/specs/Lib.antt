@@ -10,3 +10,4 @@ pub mod Bits
 pub mod BitSets
 pub mod Chain
 pub mod Those
+pub mod Reach

@@ -1,4 +1,4 @@
--- The closing rules: which nodes are alike and which are pairs, which old edges are dangerous, which tests are repeated, which edges are counterparts, and a test's marks.
+-- The closing rules: which nodes are alike and which are pairs, which old edges are dangerous, which tests are repeated, which edges are counterparts, which need a probe, and a test's marks.
 use mathlib.Core.Path.{_≡_}
 use mathlib.Core.Bool.{Bool, true, false}
 use mathlib.Core.Option.{Option}
@@ -9,6 +9,7 @@ use lib.ListN.{length, getD}
 use Rattle.laws.specs.Tests.{_and_, _or_, _⇒_, choose, isnt, every, any, first, those, has, anyOf, listed, anyPair, pick, grid}
 use Rattle.rules.specs.Text.{same, sameLabel, Bytes}
 use Rattle.rules.specs.Graph.{C, Program, nodeCount, edgeCount, kindAt, labelAt, calleeAt, sourceAt, wordAt, targetAt, entry, exit, calleeCount, called, sameKind}
+use Rattle.rules.specs.After.{After, edgesAfter}
 
 -- Two callee fields that count as equal: those of equal bytes.
 unfoldable pub sameCallee : Bytes → Bytes → Bool
@@ -64,6 +65,21 @@ module _ (old new : Program) where
     pub mayGoOn : MayGoOn (sourceAt old e) partner
     pub unfit : (e′ : ℕ) → e′ < edgeCount new → sourceAt new e′ ≡ partner → fits e e′ ≡ true → ⊥
 
+  -- A new edge at which a new run may part from the old one: it has the word of a dangerous edge, at a pair that makes it dangerous.
+  pub record Parting (e′ : ℕ) : Type 0 where
+    pub isNew : e′ < edgeCount new
+    pub cause : ℕ
+    pub danger : Dangerous cause
+    pub there : sourceAt new e′ ≡ danger .partner
+    pub word : sameWord cause e′ ≡ true
+
+  -- A new edge needs a probe: it lies after such an edge. An old edge lies after a danger.
+  abbrev pub Probe : ℕ → Type 0
+  Probe = After new Parting
+
+  abbrev pub AfterDanger : ℕ → Type 0
+  AfterDanger = After old Dangerous
+
   -- Both nodes are calls.
   unfoldable pub bothCall : ℕ → ℕ → Bool
   bothCall n n′ = sameKind (kindAt old n) C and sameKind (kindAt new n′) C
@@ -112,6 +128,13 @@ module _ (old new : Program) where
     unfoldable pub dangerous : ℕ → Bool
     dangerous e = anyPair (dangerousAt e) M
 
+    -- An old edge and a new one part by the list: they leave a listed pair that may go on, are taken for one word, and their ends are not alike. Some old edge parts from the new edge e′.
+    unfoldable pub parted : ℕ → ℕ → Bool
+    parted e e′ = listed M (sourceAt old e) (sourceAt new e′) and goesOn (sourceAt old e) (sourceAt new e′) and sameWord e e′ and isnt (alike (targetAt old e) (targetAt new e′))
+
+    unfoldable pub parting : ℕ → Bool
+    parting e′ = any (edgeCount old) (λ e. parted e e′)
+
   -- The list grown until a round adds nothing, at most k times.
   unfoldable pub closed : ℕ → List (ℕ × ℕ) → List (ℕ × ℕ)
   closed zero M = M
@@ -124,6 +147,13 @@ module _ (old new : Program) where
   -- The dangerous old edges, ascending.
   unfoldable pub dangers : List ℕ
   dangers = those (edgeCount old) (dangerous pairs)
+
+  -- The new edges that need a probe, ascending; the old edges after a dangerous one, itself included.
+  unfoldable pub probes : List ℕ
+  probes = edgesAfter new (parting pairs)
+
+  unfoldable pub afterDangers : List ℕ
+  afterDangers = edgesAfter old (dangerous pairs)
 
 -- A test's coverage ("row" of a "lift"): for each old edge, was it crossed? The coverage holds the edge e.
 abbrev pub Coverage : Type 0
@@ -156,8 +186,14 @@ module _ (old new : Program) (coverage : Coverage) where
   unfoldable pub carriesOnly : ℕ → ℕ → Bool
   carriesOnly e′ e = carries e′ e and every (edgeCount new) (λ f. joined old new (pairs old new) e f ⇒ eqb f e′)
 
-  -- The mark of the new edge e′: `?` for a repeated test; else `0` if no old counterpart was crossed, `1` if some crossed one has it as only counterpart, else `?`.
+  -- The mark of the new edge e′ by its counterparts: `0` if no old one was crossed, `1` if some crossed one has it as only counterpart, else `?`.
+  unfoldable pub carriedMark : ℕ → Mark
+  carriedMark e′ = choose (isnt (any (edgeCount old) (carries e′))) mark-0 (choose (any (edgeCount old) (carriesOnly e′)) mark-1 mark-?)
+
+  -- A crossed old counterpart of the new edge e′ lies after a danger.
+  unfoldable pub endangered : ℕ → Bool
+  endangered e′ = any (edgeCount old) (λ e. carries e′ e and has (afterDangers old new) e)
+
+  -- The mark of the new edge e′: `?` for a repeated test where the edge has a probe or is endangered; else by its counterparts.
   unfoldable pub mark : ℕ → Mark
-  mark e′ =
-      choose (meets (dangers old new) coverage) mark-?
-      (choose (isnt (any (edgeCount old) (carries e′))) mark-0 (choose (any (edgeCount old) (carriesOnly e′)) mark-1 mark-?))
+  mark e′ = choose (meets (dangers old new) coverage and (has (probes old new) e′ or endangered e′)) mark-? (carriedMark e′)

@@ -7,15 +7,17 @@ use mathlib.Core.List.{List, [], _∷_, _++_, map}
 use Prim.Native.Nat.{ℕ, zero, suc}
 use Prim.Native.String.{String}
 use Rattle.laws.specs.Tests.{_and_, _or_, _⇒_, isnt, every, any, orElse, ifTrue, first, plus, count, those, has, anyOf, listed, allPairs, anyPair, pick, gridRow, grid, firstFailed, choose, none?, after}
+use Rattle.laws.specs.Reach.{reached, spread, spreads}
 use Rattle.rules.specs.Text.{Bytes, same, empty, bytes, maxBytes, then, unless, onto, split, joinBy, textOf, between, allBytes, nameByte, labelByte, wordByte, digitByte, isName, nameCount, nameIn, isCallees, isLabel, isWord, isNumber, nonEmpty, squeezed, sameLabel, valueFrom, digits, decimal, readLines, readText, Reading, accepted, refused}
 use Rattle.rules.specs.Graph.{sameKind, orZero, isOf, entry, exit, procOf, leaves, edgeTaken, degree, worded, Program, edgeCount, called}
 use Rattle.rules.specs.ProgramFile.{Listing, kindOf, isNode, isEdge, formOf, hasEdge, named, isNodeOf, hasWord, degreeFine, complete, lost, takeLine, stepProgram, finishProgram, readListing, readProgram}
 use Rattle.rules.specs.SuiteFile.{testForm, hexByte, hexValue, bitsOf, noneSet, rowFine, tested, takeTest, stepSuite, readTests, readSuite}
 use Rattle.rules.specs.Run.{Meaning, another, crossing, edgeAhead, ended, endedAt, listOf, run, start, step, stepAt, trail}
-use Rattle.rules.specs.Closing.{alike, fits, bothCall, fitted, exitsMet, goesOn, joined, byStart, byCall, byEdge, follows, grown, dangerousAt, dangerous, closed, pairs, dangers, firstDanger, meets, repeated, carries, carriesOnly, mark, sameCallee, sameWord}
-use Rattle.rules.specs.Sheet.{selected, mLine, dLine, rLine, endLine, sheetLines, sheetText, markByte, marksOf, crossed, vLine, recordText, sheetForm, before, allBelow, testOf, takeSheetLine, stepSheet, finishSheet, readSheet}
+use Rattle.rules.specs.After.{edgesAfter, resumesAt, goesOnFrom, leads}
+use Rattle.rules.specs.Closing.{alike, fits, bothCall, fitted, exitsMet, goesOn, joined, byStart, byCall, byEdge, follows, grown, dangerousAt, dangerous, closed, pairs, dangers, firstDanger, meets, repeated, carries, carriesOnly, mark, sameCallee, sameWord, parting, parted, probes, afterDangers, carriedMark, endangered}
+use Rattle.rules.specs.Sheet.{selected, mLine, dLine, rLine, endLine, sheetLines, sheetText, markByte, marksOf, crossed, vLine, recordText, qLine, probesText, sheetForm, before, allBelow, testOf, takeSheetLine, stepSheet, finishSheet, readSheet}
 use Rattle.rules.specs.Check.{entered, keeps, edgeKept, edgesKept, rule1, rule2, rule3, rule4, rule5, broken}
-use Rattle.rules.specs.Job.{Outcome, wrote, refusal, passed, outcome, readJob, written, writing, sheetBytes, recordBytes, sheetAnswer, recordAnswer, judged, checkAnswer, labelPart, bySide, writingBack, programAnswer, serving, answering}
+use Rattle.rules.specs.Job.{Outcome, wrote, refusal, passed, outcome, readJob, written, writing, sheetBytes, recordBytes, probesBytes, sheetAnswer, recordAnswer, probesAnswer, judged, checkAnswer, labelPart, bySide, writingBack, programAnswer, serving, answering}
 use Rattle.rules.specs.Layout.{edgeLine, linesOfThose, nodeLine, procLine, procLines, programLines, writeProgram}
 use Rattle.rules.specs.WriteBack.{inPart, ofParts, otherAlone}
 use Rattle.rules.specs.Former.{formerAlike, formerRule2, formerBroken, formerCheckAnswer}
@@ -42,7 +44,7 @@ unfoldable pub answered : List Example → Bool
 answered [] = true
 answered (x ∷ l) = sameOutcome (x .0) (x .1) and answered l
 
--- The sheet that is written; the record line of the test i; the check of a sheet.
+-- The sheet that is written; the record line of the test i; the check of a sheet; the list of probes, into an output of `room` bytes.
 writes : Job → String → Example
 writes j sheet = (sheetAnswer (j .old) (j .new) (j .tests) maxBytes, wrote (bytes sheet))
 
@@ -51,6 +53,9 @@ records j i line = (recordAnswer (j .old) (j .new) (j .tests) i maxBytes, wrote 
 
 checks : Job → String → Outcome → Example
 checks j sheet o = (checkAnswer (j .old) (j .new) (j .tests) (bytes sheet), o)
+
+probing : Job → ℕ → Outcome → Example
+probing j room o = (probesAnswer (j .old) (j .new) (j .tests) room, o)
 
 job : String → String → String → Job
 job old new tests = record { old = bytes old; new = bytes new; tests = bytes tests }
@@ -111,6 +116,30 @@ late = "P,main\nN,E,,\nN,C,wind,b+a\nN,X,,\nB,0,-,1\nB,1,-,2\nP,a\nN,E,,\nN,X,,\
 late-stay : String
 late-stay = "P,main\nN,E,,\nN,C,wind,b+a\nN,X,,\nB,0,-,1\nB,1,-,2\nP,a\nN,E,,\nN,X,,\nB,3,-,4\nP,b\nN,E,,\nN,S,stay,\nN,X,,\nB,5,-,6\nB,6,ok,7\n"
 
+looping : String
+looping = "P,up\nN,E,,\nN,S,a,\nN,S,b,\nN,X,,\nB,0,-,1\nB,1,go,2\nB,1,end,3\nB,2,ok,1\n"
+
+not-looping : String
+not-looping = "P,up\nN,E,,\nN,S,a,\nN,S,c,\nN,X,,\nB,0,-,1\nB,1,go,2\nB,1,end,3\nB,2,ok,3\n"
+
+one-partner : String
+one-partner = "P,up\nN,E,,\nN,S,r,\nN,S,a,\nN,S,b,\nN,X,,\nB,0,-,1\nB,1,x,2\nB,1,y,2\nB,2,ok,3\nB,3,ok,4\n"
+
+two-partners : String
+two-partners = "P,up\nN,E,,\nN,S,r,\nN,S,a,\nN,S,a,\nN,S,b,\nN,S,c,\nN,X,,\nB,0,-,1\nB,1,x,2\nB,1,y,3\nB,2,ok,4\nB,3,ok,5\nB,4,ok,6\nB,5,ok,6\n"
+
+onward : String
+onward = "P,up\nN,E,,\nN,S,a,\nN,X,,\nB,0,-,1\nB,1,x,2\nB,1,y,1\n"
+
+into-entry : String
+into-entry = "P,up\nN,E,,\nN,S,a,\nN,X,,\nB,0,-,1\nB,1,x,0\nB,1,y,1\n"
+
+winding : String
+winding = "P,main\nN,E,,\nN,S,read,\nN,S,fast,\nN,C,ca,a+n\nN,C,cb,n\nN,X,,\nB,0,-,1\nB,1,up,2\nB,1,by,4\nB,2,ok,3\nB,3,-,5\nB,4,-,5\nP,a\nN,E,,\nN,X,,\nB,6,-,7\nP,n\nN,E,,\nN,C,loop,n\nN,X,,\nB,8,-,9\nB,9,-,10\n"
+
+winding-slow : String
+winding-slow = "P,main\nN,E,,\nN,S,read,\nN,S,slow,\nN,C,ca,a+n\nN,C,cb,n\nN,X,,\nB,0,-,1\nB,1,up,2\nB,1,by,4\nB,2,ok,3\nB,3,-,5\nB,4,-,5\nP,a\nN,E,,\nN,X,,\nB,6,-,7\nP,n\nN,E,,\nN,C,loop,n\nN,X,,\nB,8,-,9\nB,9,-,10\n"
+
 two-tests : String
 two-tests = "T,t1,a8\nT,t2,f8\n"
 
@@ -129,7 +158,7 @@ examples =
     writes (job up up "") "sheet,1\nM,0,0\nM,1,1\nend,2,0,0\n"
     ∷ writes p2 "sheet,1\nM,0,0\nM,1,1\nM,3,3\nM,4,4\nD,1\nR,t2\nend,4,1,1\n"
     ∷ records p2 0 "V,t1,3,10101\n"
-    ∷ records p2 1 "V,t2,5,?????\n"
+    ∷ records p2 1 "V,t2,5,1????\n"
     ∷ writes p3 "sheet,1\nM,0,0\nM,1,1\nM,1,2\nM,2,3\nend,4,0,0\n"
     ∷ records p3 0 "V,long,3,1????\n"
     ∷ records p3 1 "V,short,2,10?0?\n"
@@ -237,6 +266,30 @@ searches =
     ∷ finds (job layers two-changes "T,t1,a8\nT,t2,f8\nT,t3,c0\nT,t4,80\n") "2\n1\n1\nnone\n"
     ∷ []
 
+-- ---- probes, and marks of repeated tests (document 02, job 5)
+
+-- P2, with an output that is just long enough and one that is not; P4, whose dangerous edge has no start, as its word is gone; a repeated test whose old run alone, or new run alone, comes
+-- back past the change, and one left off that keeps its `1` where there is a probe; a danger at one of two partners; an edge that leads to an entry; a call that is entered and not passed,
+-- an exit that leads to the next callee of that call alone, and a callee that never returns.
+pub probings : List Example
+unfolding probing records p2 job layers by-layer halting two-tests looping not-looping one-partner two-partners onward into-entry winding winding-slow
+probings =
+    probing p2 16 (wrote (bytes "Q,1\nQ,2\nQ,3\nQ,4\n"))
+    ∷ probing p2 15 (refusal 16 0)
+    ∷ probing (job layers halting two-tests) 0 (wrote [])
+    ∷ records (job layers halting two-tests) 1 "V,t2,5,11010\n"
+    ∷ probing (job looping not-looping "") maxBytes (wrote (bytes "Q,1\nQ,3\n"))
+    ∷ records (job looping not-looping "T,t0,f\nT,t1,a\nT,t2,d\n") 0 "V,t0,4,1???\n"
+    ∷ records (job looping not-looping "T,t0,f\nT,t1,a\nT,t2,d\n") 2 "V,t2,3,1?0?\n"
+    ∷ probing (job not-looping looping "") maxBytes (wrote (bytes "Q,1\nQ,2\nQ,3\n"))
+    ∷ records (job not-looping looping "T,t0,f\nT,t1,a\nT,t2,d\n") 1 "V,t1,2,1010\n"
+    ∷ records (job not-looping looping "T,t0,f\nT,t1,a\nT,t2,d\n") 2 "V,t2,3,1???\n"
+    ∷ probing (job one-partner two-partners "") maxBytes (wrote (bytes "Q,4\nQ,6\n"))
+    ∷ records (job one-partner two-partners "T,t5,10\n") 0 "V,t5,1,000??0?\n"
+    ∷ probing (job onward into-entry "") maxBytes (wrote (bytes "Q,0\nQ,1\nQ,2\n"))
+    ∷ probing (job winding winding-slow "") maxBytes (wrote (bytes "Q,1\nQ,3\nQ,6\nQ,7\n"))
+    ∷ []
+
 -- ---- refusals
 
 -- The text t, n times.
@@ -306,17 +359,17 @@ refusals =
 -- ---- the statement
 
 -- The definitions answer P1 to P8, and the refusals, as document 01 says, and the change requests as document 02 does: one statement over their list, by computation.
-pub examples-answered : answered (examples ++ (backs ++ (blanks ++ (severals ++ (searches ++ refusals))))) ≡ true
-unfolding answered sameOutcome examples backs blanks severals searches refusals
+pub examples-answered : answered (examples ++ (backs ++ (blanks ++ (severals ++ (searches ++ (probings ++ refusals)))))) ≡ true
+unfolding answered sameOutcome examples backs blanks severals searches probings refusals
     _and_ _or_ _⇒_ isnt choose every any orElse ifTrue first plus count those has anyOf listed allPairs anyPair pick gridRow grid firstFailed none?
     same empty onto split joinBy textOf between allBytes nameByte labelByte wordByte digitByte isName nameCount nameIn isCallees isLabel isWord isNumber valueFrom digits decimal then unless readLines readText
     sameKind orZero isOf entry exit procOf called leaves edgeTaken degree worded
     kindOf isNode isEdge formOf hasEdge named isNodeOf hasWord degreeFine complete lost takeLine stepProgram finishProgram readListing readProgram
     testForm hexByte hexValue bitsOf noneSet rowFine tested takeTest stepSuite readTests readSuite nonEmpty squeezed
-    sameLabel sameCallee sameWord alike fits bothCall fitted exitsMet goesOn joined byStart byCall byEdge follows grown dangerousAt dangerous closed pairs dangers meets firstDanger repeated carries carriesOnly mark
-    selected mLine dLine rLine endLine sheetLines sheetText markByte marksOf crossed vLine recordText sheetForm before allBelow testOf takeSheetLine stepSheet finishSheet readSheet
+    sameLabel sameCallee sameWord alike fits bothCall fitted exitsMet goesOn joined byStart byCall byEdge follows grown dangerousAt dangerous closed pairs dangers meets firstDanger repeated carries carriesOnly spread spreads reached another resumesAt goesOnFrom leads edgesAfter parted parting probes afterDangers carriedMark endangered mark
+    selected mLine dLine rLine endLine sheetLines sheetText markByte marksOf crossed vLine recordText qLine probesText sheetForm before allBelow testOf takeSheetLine stepSheet finishSheet readSheet
     entered keeps edgeKept edgesKept rule1 rule2 rule3 rule4 rule5 broken formerAlike formerRule2 formerBroken formerCheckAnswer
-    outcome readJob written writing sheetBytes recordBytes judged serving answering
+    outcome readJob written writing sheetBytes recordBytes probesBytes judged serving answering
     edgeLine linesOfThose nodeLine procLine procLines programLines writeProgram bySide writingBack labelPart
 examples-answered = refl
 

@@ -11,26 +11,28 @@ use Rattle.rules.specs.Graph.{Program, edgeCount, labelAt, nodeCount}
 use Rattle.rules.specs.ProgramFile.{Listing, readProgram}
 use Rattle.rules.specs.SuiteFile.{TestListing, Suite, coverageAt, readSuite, testCount, testName}
 use Rattle.rules.specs.Closing.{pairs}
-use Rattle.rules.specs.Sheet.{Sheet, readSheet, recordText, selected, sheetText}
+use Rattle.rules.specs.Sheet.{Sheet, probesText, readSheet, recordText, selected, sheetText}
 use Rattle.rules.specs.Check.{broken}
 use Rattle.rules.specs.Layout.{writeProgram}
 
 -- ---- stages
 
 -- What is asked of a job that has read its tests: write the sheet; write the record line of the test i; check a sheet; show the label of the node n of a side; write the program of a
--- side back; no request that there is.
+-- side back; write the list of probes; no request that there is.
 pub data Request : Type 0 where
   write-sheet : Request
   write-record : ℕ → Request
   check-sheet : Request
   show-label : ℕ → ℕ → Request
   write-program : ℕ → Request
+  write-probes : Request
   no-request : Request
 
 -- A request as a C program gives it: by its number, with two numbers that it may use.
 unfoldable pub requestBy : ℕ → ℕ → ℕ → Request
 requestBy n a b =
-    choose (eqb n 0) write-sheet (choose (eqb n 1) (write-record a) (choose (eqb n 2) check-sheet (choose (eqb n 3) (show-label a b) (choose (eqb n 4) (write-program a) no-request))))
+    choose (eqb n 0) write-sheet (choose (eqb n 1) (write-record a) (choose (eqb n 2) check-sheet (choose (eqb n 3) (show-label a b) (choose (eqb n 4) (write-program a)
+    (choose (eqb n 5) write-probes no-request)))))
 
 -- The calls of a job; every request is made by one.
 pub data Call : Type 0 where
@@ -130,12 +132,15 @@ written room b = choose (ltb room (length b)) (refusal 16 0) (wrote b)
 unfoldable pub writing : ℕ → ℕ → Given → ℕ → Bytes → Outcome
 writing limit over g room b = choose (ltb limit (length (pairs (g .old) (g .new)))) (refusal over 0) (written room b)
 
--- The sheet that the selector writes; the record line of the test i.
+-- The sheet that the selector writes; the record line of the test i; the list of probes.
 unfoldable pub sheetBytes : Given → Bytes
 sheetBytes g = sheetText (g .suite .names) (selected (g .old) (g .new) (g .suite .coverages))
 
 unfoldable pub recordBytes : Given → ℕ → Bytes
 recordBytes g i = recordText (g .old) (g .new) (testName (g .suite) i) (coverageAt (g .suite) i)
+
+unfoldable pub probesBytes : Given → Bytes
+probesBytes g = probesText (g .old) (g .new)
 
 -- Write the record line of the test i: 6 where there is none.
 abbrev pub recording : ℕ → ℕ → Given → ℕ → ℕ → Outcome
@@ -217,6 +222,7 @@ serving (write-record i) g input room = recording maxPairs tooMany g i room
 serving check-sheet g input room = checking maxPairs g input
 serving (show-label side n) g input room = labelling g side n
 serving (write-program side) g input room = writingBack g side room
+serving write-probes g input room = writing maxPairs tooMany g room (probesBytes g)
 serving no-request g input room = refusal 6 0
 
 -- The same, of the texts of a job.
@@ -238,3 +244,6 @@ labelAnswer old new tests side n = answering (show-label side n) old new tests [
 
 abbrev pub programAnswer : Bytes → Bytes → Bytes → ℕ → ℕ → Outcome
 programAnswer old new tests side room = answering (write-program side) old new tests [] room
+
+abbrev pub probesAnswer : Bytes → Bytes → Bytes → ℕ → Outcome
+probesAnswer old new tests room = answering write-probes old new tests [] room

@@ -4,6 +4,7 @@ pub mod Graph
 pub mod ProgramFile
 pub mod SuiteFile
 pub mod Run
+pub mod After
 pub mod Closing
 pub mod Sheet
 pub mod Check

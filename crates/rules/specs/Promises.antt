@@ -3,7 +3,7 @@ use mathlib.Core.Path.{_≡_}
 use mathlib.Core.Logic.{_↔_, _⊎_}
 use mathlib.Core.Bool.{Bool, true, false}
 use mathlib.Core.Option.{none, some}
-use mathlib.Core.List.{List, [], _∷_, _++_}
+use mathlib.Core.List.{List, [], _∷_, _++_, map}
 use Prim.Native.Nat.{ℕ, suc, _≤_, _<_, _/_, _%_}
 use lib.ListN.{length, getD, take, drop}
 use Rattle.laws.specs.Tests.{has, listed, count, plus}
@@ -13,11 +13,11 @@ use Rattle.rules.specs.Text.{Bytes, accepted, fieldsOf, isCallees, isNam
 use Rattle.rules.specs.Graph.{C, E, Program, WellFormed, X, called, calleeAt, calleeCount, calleeName, edgeCount, edgeTaken, entry, exit, itsEdge, kindAt, labelAt, nameAt, nodeCount, ownerAt, procCount, sourceAt, targetAt, wordAt}
 use Rattle.rules.specs.ProgramFile.{Listing, readListing, readProgram}
 use Rattle.rules.specs.SuiteFile.{Suite, TestListing, coverageAt, readSuite, readTests, testCount, testName}
-use Rattle.rules.specs.Run.{Config, Meaning, ended, run, start, trail}
-use Rattle.rules.specs.Closing.{Counterparts, Coverage, Dangerous, ExitsMet, Pair, alike, dangers, firstDanger, fits, holds, joined, pairs, repeated}
-use Rattle.rules.specs.Sheet.{Sheet, SheetLine, crossed, d-line, end-line, head-line, leftOff, m-line, no-form, r-line, rLine, sheetForm, sheetLines, sheetText, vLine}
+use Rattle.rules.specs.Run.{Config, Crosses, Ends, Meaning, ended, run, start, trail}
+use Rattle.rules.specs.Closing.{AfterDanger, Counterparts, Coverage, Dangerous, ExitsMet, Pair, Probe, afterDangers, alike, dangers, firstDanger, fits, holds, joined, pairs, probes, repeated}
+use Rattle.rules.specs.Sheet.{Sheet, SheetLine, crossed, d-line, end-line, head-line, leftOff, m-line, no-form, qLine, r-line, rLine, sheetForm, sheetLines, sheetText, vLine}
 use Rattle.rules.specs.Check.{rule1, rule2, rule3, rule4, rule5}
-use Rattle.rules.specs.Job.{Given, Outcome, Request, Version, answering, check-sheet, checkAnswer, givenOf, labelPart, labelShown, labelSpan, lastNumber, no-request, numberOf, outputAfter, packed, packedSpan, passed, placeOf, programAnswer, readJob, readNewAnswer, readOldAnswer, readTestsAnswer, recordAnswer, recordBytes, refusal, requestBy, serving, sheetAnswer, sheetBytes, show-label, spanShown, success, write-program, write-record, write-sheet, written, wrote}
+use Rattle.rules.specs.Job.{Given, Outcome, Request, Version, answering, check-sheet, checkAnswer, givenOf, labelPart, labelShown, labelSpan, lastNumber, no-request, numberOf, outputAfter, packed, packedSpan, passed, placeOf, probesAnswer, probesBytes, programAnswer, readJob, readNewAnswer, readOldAnswer, readTestsAnswer, recordAnswer, recordBytes, refusal, requestBy, serving, sheetAnswer, sheetBytes, show-label, spanShown, success, write-probes, write-program, write-record, write-sheet, written, wrote}
 use Rattle.rules.specs.Layout.{Follows, SheetFollows, SuiteFollows, writeProgram, writeSuite}
 use Rattle.rules.specs.Places.{Placed, TestsPlaced}
 use Rattle.rules.specs.WriteBack.{SameParts, otherAlone}
@@ -53,6 +53,7 @@ requestNumbers (write-record i) = 6 ∷ tooMany ∷ 16 ∷ []
 requestNumbers check-sheet = 1 ∷ 2 ∷ 4 ∷ 11 ∷ 12 ∷ []
 requestNumbers (show-label side n) = 6 ∷ []
 requestNumbers (write-program side) = 6 ∷ 16 ∷ []
+requestNumbers write-probes = tooMany ∷ 16 ∷ []
 requestNumbers no-request = 6 ∷ []
 
 -- The numbers that reading a program, reading a test file and a request may give.
@@ -100,7 +101,8 @@ pub record RequestsNumbered : Type 0 where
   pub check-2 : (a b : ℕ) → requestBy 2 a b ≡ check-sheet
   pub label-3 : (a b : ℕ) → requestBy 3 a b ≡ show-label a b
   pub program-4 : (a b : ℕ) → requestBy 4 a b ≡ write-program a
-  pub unnamed : (old new tests : Bytes) (g : Given) → readJob old new tests ≡ accepted g → (n a b : ℕ) (input : Bytes) (room : ℕ) → 4 < n
+  pub probes-5 : (a b : ℕ) → requestBy 5 a b ≡ write-probes
+  pub unnamed : (old new tests : Bytes) (g : Given) → readJob old new tests ≡ accepted g → (n a b : ℕ) (input : Bytes) (room : ℕ) → 5 < n
       → answering (requestBy n a b) old new tests input room ≡ refusal 6 0
 
 -- Which requests come with a text, and which write. A text that a request does not come with, and an output that it does not write to, are of no matter.
@@ -110,6 +112,7 @@ comesWithText (write-record i) = false
 comesWithText check-sheet = true
 comesWithText (show-label side n) = false
 comesWithText (write-program side) = false
+comesWithText write-probes = false
 comesWithText no-request = false
 
 abbrev pub writes : Request → Bool
@@ -118,13 +121,14 @@ writes (write-record i) = true
 writes check-sheet = false
 writes (show-label side n) = false
 writes (write-program side) = true
+writes write-probes = true
 writes no-request = false
 
 pub record UnusedIgnored (q : Request) (old new tests : Bytes) : Type 0 where
   pub no-text : comesWithText q ≡ false → (input : Bytes) (room : ℕ) → answering q old new tests input room ≡ answering q old new tests [] room
   pub no-output : writes q ≡ false → (input : Bytes) (room : ℕ) → answering q old new tests input room ≡ answering q old new tests input 0
 
--- A sheet and a record line are written, refused with 15 or refused with 16, each exactly for its reason.
+-- A sheet, a list of probes and a record line are written, refused with 15 or refused with 16, each exactly for its reason.
 
 -- The answer o to writing the bytes b into an output of `room` bytes, for the texts that give g, with this limit on pairs and the number for more.
 pub record Writes (limit over : ℕ) (g : Given) (room : ℕ) (b : Bytes) (o : Outcome) : Type 0 where
@@ -134,14 +138,18 @@ pub record Writes (limit over : ℕ) (g : Given) (room : ℕ) (b : Bytes) (o : O
   -- 16: the output is shorter than what must be written.
   pub too-short : (o ≡ refusal 16 0) ↔ ((length (pairs (g .old) (g .new)) ≤ limit) × (room < length b))
 
--- Of the sheet, and of the record line of a test that is there.
+-- Of the sheet, of the list of probes, and of the record line of a test that is there.
 abbrev pub WritesExactly : Type 0
 WritesExactly = (old new tests : Bytes) (g : Given) → readJob old new tests ≡ accepted g → (room : ℕ)
-    → Writes maxPairs tooMany g room (sheetBytes g) (sheetAnswer old new tests room) × ((i : ℕ) → i < testCount (g .suite) → Writes maxPairs tooMany g room (recordBytes g i) (recordAnswer old new tests i room))
+    → Writes maxPairs tooMany g room (sheetBytes g) (sheetAnswer old new tests room) × Writes maxPairs tooMany g room (probesBytes g) (probesAnswer old new tests room)
+    × ((i : ℕ) → i < testCount (g .suite) → Writes maxPairs tooMany g room (recordBytes g i) (recordAnswer old new tests i room))
 
--- A record line has at most 1,045 bytes.
+-- A record line has at most 1,045 bytes, a list of probes at most 7,168.
 abbrev pub RecordShort : Type 0
 RecordShort = (old new tests : Bytes) (i room : ℕ) (line : Bytes) → recordAnswer old new tests i room ≡ wrote line → length line ≤ 1045
+
+abbrev pub ProbesShort : Type 0
+ProbesShort = (old new tests : Bytes) (room : ℕ) (lines : Bytes) → probesAnswer old new tests room ≡ wrote lines → length lines ≤ 7168
 
 -- 12: the texts are accepted, the sheet keeps its layout, and of the five rules p, from 1, is the first that does not hold.
 abbrev pub fiveRules : Given → Sheet → List Bool
@@ -290,6 +298,10 @@ pub record Exact (old new : Program) : Type 1 where
       → {n n′ : ℕ} → Pair old new n n′ → P n n′
   pub dangers-are : (e : ℕ) → (has (dangers old new) e ≡ true) ↔ Dangerous old new e
   pub dangers-rise : Rising (dangers old new)
+  -- The computed probes are the new edges that need one, ascending; the computed old edges after a danger are these.
+  pub probes-are : (e′ : ℕ) → (has (probes old new) e′ ≡ true) ↔ Probe old new e′
+  pub probes-rise : Rising (probes old new)
+  pub after-are : (e : ℕ) → (has (afterDangers old new) e ≡ true) ↔ AfterDanger old new e
   pub counterparts-are : (e e′ : ℕ) → e < edgeCount old → e′ < edgeCount new → (joined old new (pairs old new) e e′ ≡ true) ↔ Counterparts old new e e′
   -- A test is repeated exactly if its coverage holds a dangerous edge.
   pub repeated-are : (suite : List Coverage) (i : ℕ)
@@ -314,21 +326,34 @@ pub record SheetExact (g : Given) (sheet : Bytes) : Type 0 where
   pub dangers-are : (e : ℕ) → (has (claims .D) e ≡ true) ↔ Dangerous (g .old) (g .new) e
   pub repeated-are : (i : ℕ) → (has (claims .R) i ≡ true) ↔ ((i < testCount (g .suite)) × Repeated (g .old) (g .new) (coverageAt (g .suite) i))
 
--- The record line of a test: the number of old edges that it crossed, and a mark for each new edge, `?` (63) throughout if it is repeated, and else `0` (48) exactly if no old
--- counterpart was crossed, `1` (49) exactly if some crossed one has it as only counterpart; no other byte stands there.
+-- The mark of the new edge x is left open: the test is repeated, and x has a probe or a crossed old counterpart of it lies after a danger.
+abbrev pub LeftOpen : Program → Program → Coverage → ℕ → Type 0
+LeftOpen old new coverage x =
+    Repeated old new coverage × (Probe old new x ⊎ ((e : ℕ) × Counterparts old new e x × (holds coverage e ≡ true) × AfterDanger old new e))
+
+-- The record line of a test: the number of old edges that it crossed, and a mark for each new edge, `?` (63) where it is left open, and else `0` (48) exactly if no old counterpart
+-- was crossed, `1` (49) exactly if some crossed one has it as only counterpart; no other byte stands there.
 pub record LineExact (old new : Program) (name : Bytes) (coverage : Coverage) (line : Bytes) : Type 0 where
   pub marks : Bytes
   pub text : line ≡ textOf (vLine name (count (edgeCount old) (holds coverage)) marks ∷ [])
   pub long : length marks ≡ edgeCount new
-  pub again : Repeated old new coverage → (x : ℕ) → x < edgeCount new → getD marks x 0 ≡ 63
-  pub zero : (Repeated old new coverage → ⊥) → (x : ℕ) → x < edgeCount new → (getD marks x 0 ≡ 48) ↔ ((e : ℕ) → Counterparts old new e x → holds coverage e ≡ true → ⊥)
-  pub one : (Repeated old new coverage → ⊥) → (x : ℕ) → x < edgeCount new
+  pub unsaid : (x : ℕ) → x < edgeCount new → LeftOpen old new coverage x → getD marks x 0 ≡ 63
+  pub zero : (x : ℕ) → x < edgeCount new → (LeftOpen old new coverage x → ⊥) → (getD marks x 0 ≡ 48) ↔ ((e : ℕ) → Counterparts old new e x → holds coverage e ≡ true → ⊥)
+  pub one : (x : ℕ) → x < edgeCount new → (LeftOpen old new coverage x → ⊥)
       → (getD marks x 0 ≡ 49) ↔ ((e : ℕ) × Counterparts old new e x × (holds coverage e ≡ true) × ((f : ℕ) → Counterparts old new e f → f ≡ x))
   pub three : (x : ℕ) → x < edgeCount new → (getD marks x 0 ≡ 48) ⊎ ((getD marks x 0 ≡ 49) ⊎ (getD marks x 0 ≡ 63))
+
+-- The list of probes has a line for each new edge that needs one, ascending, and no other line.
+pub record ProbesExact (g : Given) (lines : Bytes) : Type 0 where
+  pub edges : List ℕ
+  pub text : lines ≡ textOf (map qLine edges)
+  pub rise : Rising edges
+  pub probes-are : (e′ : ℕ) → (has edges e′ ≡ true) ↔ Probe (g .old) (g .new) e′
 
 -- Demand 2, of the bytes that are written.
 pub record Demand2 (old new tests : Bytes) : Type 0 where
   pub sheet-exact : (room : ℕ) (sheet : Bytes) → sheetAnswer old new tests room ≡ wrote sheet → (g : Given) × (readJob old new tests ≡ accepted g) × SheetExact g sheet
+  pub probes-exact : (room : ℕ) (lines : Bytes) → probesAnswer old new tests room ≡ wrote lines → (g : Given) × (readJob old new tests ≡ accepted g) × ProbesExact g lines
   pub line-exact : (i room : ℕ) (line : Bytes) → recordAnswer old new tests i room ≡ wrote line
       → (g : Given) × (readJob old new tests ≡ accepted g) × (i < testCount (g .suite)) × LineExact (g .old) (g .new) (testName (g .suite) i) (coverageAt (g .suite) i) line
 
@@ -431,6 +456,10 @@ pub record Alongside {ℓ κ} {St : Type ℓ} {Out : Type κ} (old new : Program
   pub outputs : c .outs ≡ c′ .outs
   pub ends : ended old c ≡ ended new c′
 
+-- A coverage is exact for a program's run with this meaning and starting state: it holds just the edges that the run crosses.
+abbrev pub ExactFor {ℓ κ} : {St : Type ℓ} {Out : Type κ} → Program → Meaning St Out → St → Coverage → Type 0
+ExactFor p m s coverage = (e : ℕ) → e < edgeCount p → (holds coverage e ≡ true) ↔ Crosses p m s e
+
 module _ {ℓ κ} (St : Type ℓ) (Out : Type κ) where
   -- A meaning is held to nothing else than that labels that match have equal actions: for any actions by what is left of a label and the state there is a meaning that has them.
   abbrev pub MeaningsFree : Type (ℓ ⊔ κ)
@@ -457,6 +486,14 @@ module _ {ℓ κ} (St : Type ℓ) (Out : Type κ) where
       × ((e′ : ℕ) → e′ < edgeCount (g .new) → getD marks e′ 0 ≡ 48 → has (trail (g .new) m k (start (g .new) s)) e′ ≡ false)
       × (ended (g .old) c ≡ true → (e′ : ℕ) → e′ < edgeCount (g .new) → getD marks e′ 0 ≡ 48 → (j : ℕ) → has (trail (g .new) m j (start (g .new) s)) e′ ≡ false)
 
+  -- The marks of the test i may be relied on, whether it is repeated or not: for every meaning and starting state with which the old run ends, and for which the coverage is exact, the
+  -- new run crosses each new edge marked `1` and never one marked `0`.
+  abbrev pub MarksHold : Given → ℕ → Bytes → Type (ℓ ⊔ κ)
+  MarksHold g i marks =
+      (m : Meaning St Out) (s : St) → Ends (g .old) m s → ExactFor (g .old) m s (coverageAt (g .suite) i)
+      → ((e′ : ℕ) → e′ < edgeCount (g .new) → getD marks e′ 0 ≡ 49 → Crosses (g .new) m s e′)
+      × ((e′ : ℕ) → e′ < edgeCount (g .new) → getD marks e′ 0 ≡ 48 → Crosses (g .new) m s e′ → ⊥)
+
   -- Demand 3, entire, of the texts of a job.
   pub record Demand3 (old new tests : Bytes) : Type (ℓ ⊔ κ) where
     -- A sheet passes the check: every test with no R line on it goes the same.
@@ -467,11 +504,12 @@ module _ {ℓ κ} (St : Type ℓ) (Out : Type κ) where
     -- A test with no R line on the selector's sheet is left off by the selector: it is not repeated.
     pub unlisted : (room : ℕ) (sheet : Bytes) → sheetAnswer old new tests room ≡ wrote sheet → (g : Given) → readJob old new tests ≡ accepted g
         → (i : ℕ) → leftOff sheet (testName (g .suite) i) ≡ true → has (repeated (g .old) (g .new) (g .suite .coverages)) i ≡ false
-    -- The record line of a test is its name, how many edges it crossed, and a mark for each new edge; and if the selector leaves the test off, the marks are true.
+    -- The record line of a test is its name, how many edges it crossed, and a mark for each new edge; if the selector leaves the test off, the marks are true, and in any case they may
+    -- be relied on where the old run ended.
     pub marked : (i room : ℕ) (line : Bytes) → recordAnswer old new tests i room ≡ wrote line
         → (g : Given) × (readJob old new tests ≡ accepted g) × (marks : Bytes) × (length marks ≡ edgeCount (g .new))
         × (line ≡ textOf (vLine (testName (g .suite) i) (crossed (g .old) (coverageAt (g .suite) i)) marks ∷ []))
-        × (has (repeated (g .old) (g .new) (g .suite .coverages)) i ≡ false → MarksTrue g i marks)
+        × (has (repeated (g .old) (g .new) (g .suite .coverages)) i ≡ false → MarksTrue g i marks) × MarksHold g i marks
 
   -- Demand 3, of the one number that an exported call returns and of the output that it leaves.
   pub record ExportedDemand3 (old new tests : Bytes) : Type (ℓ ⊔ κ) where
@@ -484,9 +522,9 @@ module _ {ℓ κ} (St : Type ℓ) (Out : Type κ) where
     -- A test with no R line among these bytes is left off by the selector: it is not repeated.
     pub unlisted : (out out′ : Bytes) (r : ℕ) → r ≡ packed (sheetAnswer old new tests (length out)) → out′ ≡ outputAfter (sheetAnswer old new tests (length out)) out → r < 4294967296
         → (g : Given) → readJob old new tests ≡ accepted g → (i : ℕ) → leftOff (take r out′) (testName (g .suite) i) ≡ true → has (repeated (g .old) (g .new) (g .suite .coverages)) i ≡ false
-    -- `ry_record` returns one below it: so many bytes of a record line, whose marks are true if the selector leaves the test off.
+    -- `ry_record` returns one below it: so many bytes of a record line, whose marks are true if the selector leaves the test off, and may be relied on where the old run ended.
     pub marked : (i : ℕ) (out out′ : Bytes) (r : ℕ) → r ≡ packed (recordAnswer old new tests i (length out)) → out′ ≡ outputAfter (recordAnswer old new tests i (length out)) out → r < 4294967296
         → (g : Given) × (readJob old new tests ≡ accepted g) × (marks : Bytes) × (length marks ≡ edgeCount (g .new))
         × (r ≡ length (textOf (vLine (testName (g .suite) i) (crossed (g .old) (coverageAt (g .suite) i)) marks ∷ [])))
         × (out′ ≡ textOf (vLine (testName (g .suite) i) (crossed (g .old) (coverageAt (g .suite) i)) marks ∷ []) ++ drop r out)
-        × (has (repeated (g .old) (g .new) (g .suite .coverages)) i ≡ false → MarksTrue g i marks)
+        × (has (repeated (g .old) (g .new) (g .suite .coverages)) i ≡ false → MarksTrue g i marks) × MarksHold g i marks

@@ -7,6 +7,7 @@ pub mod ProgramLaws
 pub mod SuiteLaws
 pub mod SheetLaws
 pub mod Ends
+pub mod AfterLaws
 pub mod Lockstep
 pub mod Closure
 pub mod Marks

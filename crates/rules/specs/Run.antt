@@ -5,7 +5,7 @@ use mathlib.Core.Option.{Option, none, some}
 use mathlib.Core.List.{List, [], _∷_, _++_}
 use Prim.Native.Nat.{ℕ, zero, suc}
 use lib.Dec.{ltb}
-use Rattle.laws.specs.Tests.{after, choose}
+use Rattle.laws.specs.Tests.{after, choose, has}
 use Rattle.rules.specs.Text.{Bytes, sameLabel}
 use Rattle.rules.specs.Graph.{Kind, E, S, C, X, Program, kindAt, labelAt, targetAt, entry, calleeCount, called, edgeTaken, itsEdge}
 
@@ -114,3 +114,10 @@ module _ {ℓ κ} {St : Type ℓ} {Out : Type κ} where
   -- The run has ended here.
   unfoldable pub ended : Program → Config St Out → Bool
   ended p c = endedAt (kindAt p (c .node)) (c .calls)
+
+  -- A program's run, for a meaning and a starting state, ends; it crosses the edge e.
+  abbrev pub Ends : Program → Meaning St Out → St → Type (ℓ ⊔ κ)
+  Ends p m s = (k : ℕ) × (c : Config St Out) × (run p m k (start p s) ≡ some c) × (ended p c ≡ true)
+
+  abbrev pub Crosses : Program → Meaning St Out → St → ℕ → Type 0
+  Crosses p m s e = (k : ℕ) × (has (trail p m k (start p s)) e ≡ true)

@@ -1,4 +1,4 @@
--- Sheets and record lines: how they are written, and what reading a sheet answers (refusals 1, 2, 4, 11).
+-- Sheets, lists of probes and record lines: how they are written, and what reading a sheet answers (refusals 1, 2, 4, 11).
 use mathlib.Core.Bool.{Bool, true, false}
 use mathlib.Core.Option.{Option}
 use mathlib.Core.List.{List, [], _∷_, _++_, map}
@@ -9,7 +9,7 @@ use Rattle.laws.specs.Tests.{_and_, _or_, isnt, first, count, allPairs, after, 
 use Rattle.rules.specs.Text.{Bytes, same, bytes, linesOf, fieldsOf, commas, textOf, isName, isNumber, value, decimal, Reading, refused, accepted, unless, readText}
 use Rattle.rules.specs.Graph.{Program, nodeCount, edgeCount}
 use Rattle.rules.specs.SuiteFile.{Suite, testCount, testName}
-use Rattle.rules.specs.Closing.{Coverage, holds, Mark, mark-0, mark-1, mark-?, mark, dangers, pairs, repeated}
+use Rattle.rules.specs.Closing.{Coverage, holds, Mark, mark-0, mark-1, mark-?, mark, dangers, pairs, probes, repeated}
 
 -- What a sheet claims: pairs, dangerous old edges, and tests to repeat, by number.
 pub record Sheet : Type 0 where
@@ -48,6 +48,13 @@ sheetLines names s =
 
 unfoldable pub sheetText : List Bytes → Sheet → Bytes
 sheetText names s = textOf (sheetLines names s)
+
+-- A line `Q,edge`; the lines of the new edges that need a probe, ascending, as a text.
+unfoldable pub qLine : ℕ → Bytes
+qLine e = commas (bytes "Q" ∷ decimal e ∷ [])
+
+unfoldable pub probesText : Program → Program → Bytes
+probesText old new = textOf (map qLine (probes old new))
 
 -- A mark's byte: `0`, `1` or `?`.
 unfoldable pub markByte : Mark → ℕ

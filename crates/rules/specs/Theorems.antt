@@ -33,6 +33,7 @@ use Rattle.rules.specs.Promises.{
   ProgramPlaced,
   ProgramWellFormed,
   RecordShort,
+  ProbesShort,
   RecordUnnamed,
   RequestsNumbered,
   RulesExact,
@@ -104,6 +105,9 @@ writes-exactly = written-exactly
 
 pub record-short : RecordShort
 record-short = Answers.record-short
+
+pub probes-short : ProbesShort
+probes-short = Answers.probes-short
 
 pub claims-false : ClaimsFalse
 claims-false = Checked.claims-false

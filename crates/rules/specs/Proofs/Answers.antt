@@ -2,8 +2,8 @@
 use mathlib.Core.Path.{_≡_, refl, sym, ap, _∙_, subst}
 use mathlib.Core.Logic.{_↔_}
 use mathlib.Core.Bool.{Bool, true, false, true≢false}
-use mathlib.Core.List.{List, [], _∷_, _++_}
-use Prim.Native.Nat.{ℕ, zero, suc, _+_, _≤_, _<_}
+use mathlib.Core.List.{List, [], _∷_, _++_, map}
+use Prim.Native.Nat.{ℕ, zero, suc, _+_, _*_, _≤_, _<_}
 use native.Mathlib.Omega.{arith}
 use lib.Dec.{eqb}
 use lib.ListN.{length, length-append}
@@ -15,16 +15,17 @@ use Rattle.rules.specs.Text.{Reading, Bytes, accepted, between, bytes, d
 use Rattle.rules.specs.Graph.{Program, edgeCount}
 use Rattle.rules.specs.ProgramFile.{readProgram}
 use Rattle.rules.specs.SuiteFile.{coverageAt, readSuite, testName}
-use Rattle.rules.specs.Closing.{Coverage, holds}
-use Rattle.rules.specs.Sheet.{Sheet, crossed, marksOf, readSheet, recordText, vLine}
+use Rattle.rules.specs.Closing.{Coverage, holds, probes}
+use Rattle.rules.specs.Sheet.{Sheet, crossed, marksOf, probesText, qLine, readSheet, recordText, vLine}
 use Rattle.rules.specs.Check.{broken, rule1, rule2, rule3, rule4, rule5}
-use Rattle.rules.specs.Job.{Given, Outcome, Request, answering, bySide, check-sheet, checkAnswer, checking, judged, labelling, lastNumber, no-request, outcome, passed, readJob, readNewAnswer, readOldAnswer, readTestsAnswer, recordAnswer, recordBytes, refusal, serving, sheetBytes, show-label, success, write-program, write-record, write-sheet, writing, writingBack, written, wrote}
+use Rattle.rules.specs.Job.{Given, Outcome, Request, answering, bySide, check-sheet, checkAnswer, checking, judged, labelling, lastNumber, no-request, outcome, passed, probesAnswer, probesBytes, readJob, readNewAnswer, readOldAnswer, readTestsAnswer, recordAnswer, recordBytes, refusal, serving, sheetBytes, show-label, success, write-probes, write-program, write-record, write-sheet, writing, writingBack, written, wrote}
 use Rattle.rules.specs.Layout.{writeProgram}
 use Rattle.rules.specs.Promises.{AnswersPlain, NumbersGiven, Plain, TooLong, requestNumbers}
 use Rattle.rules.specs.Proofs.BackLaws.{back-short}
-use Rattle.rules.specs.Proofs.JobLaws.{known, marks-length, outcome-wrote, record-wrote, wrote-choose, wrote-same}
+use Rattle.rules.specs.Proofs.Closure.{probes-few, probes-inside}
+use Rattle.rules.specs.Proofs.JobLaws.{known, marks-length, outcome-wrote, record-wrote, writing-wrote, wrote-choose, wrote-same}
 use Rattle.rules.specs.Proofs.Numbers.{Any, Good, Refusal, allOf, big, good-number, job-good, passes-of, program-good, program-long, programNumbers, sheet-good, sheet-long, sheetNumbers, suite-good, suite-long, suiteNumbers}
-use Rattle.rules.specs.Proofs.ReadBack.{name-short, written-passes}
+use Rattle.rules.specs.Proofs.ReadBack.{ended-q, name-short, written-passes}
 use Rattle.rules.specs.Proofs.TextLaws.{decimal-most}
 
 -- ---- outcomes
@@ -133,6 +134,17 @@ record-short old new tests i room b e =
       length-append d (44 ∷ marks),
     )
 
+-- A list of probes has at most 7,168 bytes.
+pub probes-short : (old new tests : Bytes) (room : ℕ) (b : Bytes) → probesAnswer old new tests room ≡ wrote b → length b ≤ 7168
+unfolding answering serving probesBytes probesText
+probes-short old new tests room b e =
+    let u = outcome-wrote _ _ _ e in
+    let g = u .0 in
+    let n = known old new tests g (u .1) in
+    let q : length (textOf (map qLine (probes (g .old) (g .new)))) ≤ 7 * length (probes (g .old) (g .new))
+    = ended-q _ (λ e (t : has (probes (g .old) (g .new)) e ≡ true). omega (arith, probes-inside (g .old) (g .new) e t, n .new-sound .fewEdges)) in
+    omega (arith, ap length (writing-wrote _ _ _ _ _ _ (u .2) .2), probes-few (g .old) (g .new), n .new-sound .fewEdges)
+
 -- ---- requests
 
 -- Each request is refused only with its numbers.
@@ -148,6 +160,7 @@ serving-told (show-label (suc (suc side)) n) g input room = (refl, let z : 0 < b
 serving-told (write-program zero) g input room = written-told (requestNumbers (write-program zero)) room (writeProgram (g .old)) refl
 serving-told (write-program (suc zero)) g input room = written-told (requestNumbers (write-program (suc zero))) room (writeProgram (g .new)) refl
 serving-told (write-program (suc (suc side))) g input room = (refl, let z : 0 < big = omega arith in z)
+serving-told write-probes g input room = writing-told (requestNumbers write-probes) maxPairs tooMany g room (probesBytes g) refl refl
 serving-told no-request g input room = (refl, let z : 0 < big = omega arith in z)
 
 -- They are some of all.
@@ -158,6 +171,7 @@ numbers-few (write-record i) = refl
 numbers-few check-sheet = refl
 numbers-few (show-label side n) = refl
 numbers-few (write-program side) = refl
+numbers-few write-probes = refl
 numbers-few no-request = refl
 
 -- To show a label writes nothing.
@@ -175,6 +189,7 @@ answering-short (write-record i) old new tests input room b e = omega (arith, re
 answering-short check-sheet old new tests input room b e = unwritten _ (success-only _ _ (λ g. success-only _ _ (judged-wrote g))) b e
 answering-short (show-label side n) old new tests input room b e = unwritten _ (success-only _ _ (λ g. labelling-wrote g side n)) b e
 answering-short (write-program side) old new tests input room b e = omega (arith, back-short old new tests side room b e)
+answering-short write-probes old new tests input room b e = omega (arith, probes-short old new tests room b e)
 answering-short no-request old new tests input room b e = unwritten _ (success-only _ _ (λ g c f. absurd (true≢false (let z : true ≡ false = cc in z)))) b e
 
 pub plain-answers : (old new tests : Bytes) → AnswersPlain old new tests

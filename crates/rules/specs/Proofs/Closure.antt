@@ -1,5 +1,5 @@
 -- The computed pairs are the smallest set with the closing rules (T4), and what the selector writes passes the check (T2).
-use mathlib.Core.Path.{_≡_, refl, sym, _∙_, subst₂}
+use mathlib.Core.Path.{_≡_, refl, sym, _∙_, subst, subst₂}
 use mathlib.Core.Logic.{_⊎_, inl, inr, ⊎-elim, _↔_}
 use mathlib.Core.Bool.{Bool, true, false, false≢true}
 use mathlib.Core.List.{List, [], _∷_}
@@ -11,12 +11,15 @@ use borrow.Author.Tests.{eqb-true, eqb-false, eq-eqb}
 use Rattle.laws.specs.Tests.{_and_, _or_, any, has, listed, anyPair, pick, grid}
 use Rattle.laws.specs.TestLaws.{and-left, and-right, and-both, implied, implies, or-cases, or-left, or-right, both-ways, fails, passes?, true-isnt, isnt-true, eqb-self, every-at, every-of, any-at, any-of, those-of, anyPair-at, anyPair-of, allPairs-of, pick-of, pick-at, pick-more, pick-same, pick-all, grid-of, grid-at, Ascending, grid-ascends, pick-ascends, none-left, none-failed, those-at, anyOf-at, anyOf-of}
 use Rattle.laws.specs.Lists.{Rising, those-rise}
+use Rattle.laws.specs.Reach.{reached-below, reached-few, reached-rise}
 use Rattle.rules.specs.Graph.{E, C, Program, WellFormed, procCount, nodeCount, edgeCount, kindAt, labelAt, calleeAt, sourceAt, targetAt, entry, calleeCount, called, filled}
-use Rattle.rules.specs.Closing.{ExitsMet, alike, fits, Pair, first-entries, callee-entries, edge-ends, Counterparts, Dangerous, bothCall, fitted, exitsMet, goesOn, joined, byStart, byCall, byEdge, follows, grown, dangerousAt, dangerous, closed, pairs, dangers, Coverage, meets, repeated, holds}
+use Rattle.rules.specs.After.{edgesAfter}
+use Rattle.rules.specs.Closing.{ExitsMet, alike, fits, Pair, first-entries, callee-entries, edge-ends, Counterparts, Dangerous, bothCall, fitted, exitsMet, goesOn, joined, byStart, byCall, byEdge, follows, grown, dangerousAt, dangerous, closed, pairs, dangers, Coverage, meets, repeated, holds, AfterDanger, Parting, Probe, afterDangers, parting, parted, probes}
 use Rattle.rules.specs.Sheet.{selected}
 use Rattle.rules.specs.Check.{entered, keeps, edgeKept, edgesKept, rule1, rule2, rule3, rule4, rule5, broken}
 use Rattle.rules.specs.Promises.{Exact}
-use Rattle.rules.specs.Proofs.ClosingLaws.{alike-bare, fits-ends, fits-word}
+use Rattle.rules.specs.Proofs.AfterLaws.{after-iff}
+use Rattle.rules.specs.Proofs.ClosingLaws.{alike-bare, fits-ends, fits-of, fits-word, same-word}
 use Rattle.rules.specs.Proofs.GraphLaws.{sameKind-true, sameKind-of, entry-is, called-below}
 use Rattle.rules.specs.Proofs.TextLaws.{empty-true}
 
@@ -92,6 +95,18 @@ module _ (old new : Program) where
   pub dangers-rise : Rising (dangers old new)
   unfolding dangers
   dangers-rise = those-rise _ _
+
+  pub probes-rise : Rising (probes old new)
+  unfolding probes edgesAfter
+  probes-rise = reached-rise _ _ _
+
+  pub probes-few : length (probes old new) ≤ edgeCount new
+  unfolding probes edgesAfter
+  probes-few = reached-few _ _ _
+
+  pub probes-inside : (e : ℕ) → has (probes old new) e ≡ true → e < edgeCount new
+  unfolding probes edgesAfter
+  probes-inside e t = reached-below _ _ _ e t
 
   -- A dangerous edge is an old edge.
   pub dangers-inside : (e : ℕ) → has (dangers old new) e ≡ true → e < edgeCount old
@@ -249,38 +264,92 @@ module _ (old new : Program) (wo : WellFormed old) (wn : WellFormed new) where
   )
 
   -- Joined edges end on a pair.
-  joined-ends : (e e′ : ℕ) → e < edgeCount old → e′ < edgeCount new → joined old new (pairs old new) e e′ ≡ true → Pair old new (targetAt old e) (targetAt new e′)
+  pub joined-ends : (e e′ : ℕ) → e < edgeCount old → e′ < edgeCount new → joined old new (pairs old new) e e′ ≡ true → Pair old new (targetAt old e) (targetAt new e′)
   joined-ends e e′ h h′ j = let c = joined-iff e e′ h h′ .0 j in edge-ends (c .pair) (c .mayGoOn) h h′ (c .fit)
+
+  -- The test of an edge for a pair passes just the pairs that make it dangerous.
+  pub danger-true : (e n′ : ℕ) → e < edgeCount old → listed (pairs old new) (sourceAt old e) n′ ≡ true → dangerousAt old new (pairs old new) e (sourceAt old e) n′ ≡ true
+      → (d : Dangerous old new e) × (d .partner ≡ n′)
+  unfolding dangerousAt fitted
+  danger-true e n′ h l t =
+      let u = and-right _ _ t in (
+        record {
+          isOld = h;
+          partner = n′;
+          pair = pairs-sound old new _ _ l;
+          mayGoOn = λ k j i. pairs-sound old new _ _ (goesOn-at old new (pairs old new) _ _ (and-left _ _ u) k j i);
+          unfit = λ f i a x. both-ways (any-of (λ f. eqb (sourceAt new f) n′ and fits old new e f) (edgeCount new) f i (and-both (eq-eqb _ _ a) x)) (isnt-true _ (and-right _ _ u));
+        },
+        refl,
+      )
+
+  danger-of : (e : ℕ) (d : Dangerous old new e)
+      → (listed (pairs old new) (sourceAt old e) (d .partner) ≡ true) × (dangerousAt old new (pairs old new) e (sourceAt old e) (d .partner) ≡ true)
+  unfolding dangerousAt fitted
+  danger-of e d = (
+    pairs-complete (d .pair),
+    and-both (eqb-self (sourceAt old e)) (and-both (goesOn-of old new (pairs old new) _ _ (λ k j l. pairs-complete (d .mayGoOn k j l)))
+        (true-isnt (fails _ (λ t. let r = any-at _ (edgeCount new) t in d .unfit (r .0) (r .1) (eqb-true _ _ (and-left _ _ (r .2))) (and-right _ _ (r .2)))))),
+  )
 
   -- The test of a dangerous edge passes just the dangerous ones.
   pub dangerous-iff : (e : ℕ) → e < edgeCount old → (dangerous old new (pairs old new) e ≡ true) ↔ Dangerous old new e
-  unfolding dangerous dangerousAt fitted
-  dangerous-iff e h = (there, back)
-    where
-      from : (n n′ : ℕ) → listed (pairs old new) n n′ ≡ true → sourceAt old e ≡ n → goesOn old new (pairs old new) n n′ ≡ true → fitted old new e n′ ≡ false → Dangerous old new e
-      from n n′ l s g u =
-          record {
-            isOld = h;
-            partner = n′;
-            pair = pairs-sound old new _ _ (rw s l);
-            mayGoOn = λ k j i. pairs-sound old new _ _ (goesOn-at old new (pairs old new) _ _ (rw s g) k j i);
-            unfit = λ e′ h a f. both-ways (any-of (λ e′. eqb (sourceAt new e′) n′ and fits old new e e′) (edgeCount new) e′ h (and-both (eq-eqb _ _ a) f)) u;
-          }
+  unfolding dangerous dangerousAt
+  dangerous-iff e h = (
+    λ t.
+        let r = anyPair-at (dangerousAt old new (pairs old new) e) (pairs old new) t in
+        let s : sourceAt old e ≡ r .0 = eqb-true _ _ (and-left _ _ (r .3)) in
+        danger-true e (r .1) h (subst (λ (n : ℕ). listed (pairs old new) n (r .1) ≡ true) (sym s) (r .2))
+        (subst (λ (n : ℕ). dangerousAt old new (pairs old new) e n (r .1) ≡ true) (sym s) (r .3)) .0,
+    λ d. let r = danger-of e d in anyPair-of (dangerousAt old new (pairs old new) e) (pairs old new) (sourceAt old e) (d .partner) (r .0) (r .1),
+  )
 
-      there : dangerous old new (pairs old new) e ≡ true → Dangerous old new e
-      there d =
-          let r = anyPair-at (dangerousAt old new (pairs old new) e) (pairs old new) d in
-          let t = and-right _ _ (r .3) in
-          from (r .0) (r .1) (r .2) (eqb-true _ _ (and-left _ _ (r .3))) (and-left _ _ t) (isnt-true _ (and-right _ _ t))
+  -- The test of an edge at which the runs may part passes just these.
+  parting-true : (e e′ : ℕ) → e < edgeCount old → e′ < edgeCount new → parted old new (pairs old new) e e′ ≡ true → Parting old new e′
+  unfolding parted
+  parting-true e e′ h h′ t =
+      let g = and-right _ _ t in
+      let w = and-right _ _ g in
+      let only : (f : ℕ) → f < edgeCount new → sourceAt new f ≡ sourceAt new e′ → fits old new e f ≡ true → f ≡ e′
+      = λ f i a x. wn .words e′ f h′ i a (sym (same-word old new e f (fits-word old new e f x)) ∙ same-word old new e e′ (and-left _ _ w)) in
+      record {
+        isNew = h′;
+        cause = e;
+        danger = record {
+          isOld = h;
+          partner = sourceAt new e′;
+          pair = pairs-sound old new _ _ (and-left _ _ t);
+          mayGoOn = λ k j i. pairs-sound old new _ _ (goesOn-at old new (pairs old new) _ _ (and-left _ _ g) k j i);
+          unfit = λ f i a x.
+              both-ways (subst (λ (y : ℕ). alike old new (targetAt old e) (targetAt new y) ≡ true) (only f i a x) (fits-ends old new e f x)) (isnt-true _ (and-right _ _ w));
+        };
+        there = refl;
+        word = and-left _ _ w;
+      }
 
-      unfits : (d : Dangerous old new e) → fitted old new e (d .partner) ≡ true → ⊥
-      unfits d t = let r = any-at _ (edgeCount new) t in d .unfit (r .0) (r .1) (eqb-true _ _ (and-left _ _ (r .2))) (and-right _ _ (r .2))
+  parting-of : (e′ : ℕ) (p : Parting old new e′) → parted old new (pairs old new) (p .cause) e′ ≡ true
+  unfolding parted
+  parting-of e′ p =
+      let d = p .danger in
+      rw (p .there)
+      (and-both (pairs-complete (d .pair)) (and-both (goesOn-of old new (pairs old new) _ _ (λ k j l. pairs-complete (d .mayGoOn k j l))) (and-both (p .word)
+      (true-isnt (fails _ (λ a. d .unfit e′ (p .isNew) (p .there) (fits-of old new (p .cause) e′ (p .word) a)))))))
 
-      back : Dangerous old new e → dangerous old new (pairs old new) e ≡ true
-      back d =
-          anyPair-of (dangerousAt old new (pairs old new) e) (pairs old new) (sourceAt old e) (d .partner) (pairs-complete (d .pair))
-          (and-both (eqb-self (sourceAt old e))
-          (and-both (goesOn-of old new (pairs old new) _ _ (λ k j l. pairs-complete (d .mayGoOn k j l))) (true-isnt (fails _ (unfits d)))))
+  parting-iff : (e′ : ℕ) → e′ < edgeCount new → (parting old new (pairs old new) e′ ≡ true) ↔ Parting old new e′
+  unfolding parting
+  parting-iff e′ h = (
+    λ t. let r = any-at (λ e. parted old new (pairs old new) e e′) (edgeCount old) t in parting-true (r .0) e′ (r .1) h (r .2),
+    λ p. any-of (λ e. parted old new (pairs old new) e e′) (edgeCount old) (p .cause) (p .danger .isOld) (parting-of e′ p),
+  )
+
+  -- The computed probes are just the edges that need one; the computed old edges after a danger are just these.
+  pub probes-iff : (e′ : ℕ) → (has (probes old new) e′ ≡ true) ↔ Probe old new e′
+  unfolding probes
+  probes-iff = after-iff new wn (parting old new (pairs old new)) (Parting old new) (λ e h. parting-iff e h .0) (λ e p. (p .isNew, parting-iff e (p .isNew) .1 p))
+
+  pub afterDangers-iff : (e : ℕ) → (has (afterDangers old new) e ≡ true) ↔ AfterDanger old new e
+  unfolding afterDangers
+  afterDangers-iff = after-iff old wo (dangerous old new (pairs old new)) (Dangerous old new) (λ e h. dangerous-iff e h .0) (λ e d. (d .isOld, dangerous-iff e (d .isOld) .1 d))
 
   -- The listed dangers are just the dangerous edges.
   pub dangers-iff : (e : ℕ) → (has (dangers old new) e ≡ true) ↔ Dangerous old new e
@@ -388,6 +457,9 @@ exact old new wo wn =
       smallest = λ P r1 r2 r3 {n} {n′} p. least old new P r1 r2 r3 p;
       dangers-are = dangers-iff old new wo wn;
       dangers-rise = dangers-rise old new;
+      probes-are = probes-iff old new wo wn;
+      probes-rise = probes-rise old new;
+      after-are = afterDangers-iff old new wo wn;
       counterparts-are = joined-iff old new wo wn;
       repeated-are = repeated-iff old new wo wn;
     }

@@ -1,6 +1,6 @@
--- What a run's end is: a run that has ended takes no step, so that it crosses nothing more.
+-- What a run crosses after some steps: where it has ended nothing more, and else what a run from there crosses.
 use mathlib.Core.Path.{_≡_, refl, sym, subst}
-use mathlib.Core.Logic.{⊎-elim}
+use mathlib.Core.Logic.{_⊎_, inl, inr, ⊎-elim}
 use mathlib.Core.Bool.{true, false, false≢true}
 use mathlib.Core.Option.{Option, none, some, Option·some-injective, Option·none-ne-some}
 use mathlib.Core.List.{List, [], _∷_, _++_}
@@ -44,3 +44,20 @@ module _ {ℓ κ} {St : Type ℓ} {Out : Type κ} (p : Program) (m : Meaning St 
       go (some x) r h ih =
           ⊎-elim (λ q. has-append-left (listOf (crossing p c)) (trail p m k x) e q) (λ q. has-append-right (listOf (crossing p c)) (trail p m k x) e (ih x r q))
           (has-append (listOf (crossing p c)) (trail p m j x) e h)
+
+  -- What a run crosses, it crosses in the first j steps, or from where they lead.
+  pub later : (j k : ℕ) (c d : Config St Out) → run p m j c ≡ some d → (e : ℕ) → has (trail p m k c) e ≡ true → (has (trail p m j c) e ≡ true) ⊎ ((i : ℕ) × (has (trail p m i d) e ≡ true))
+  unfolding run trail has
+  later j zero c d r e h = absurd (false≢true h)
+  later zero (suc k) c d r e h = inr (suc k, subst (λ (x : Config St Out). has (trail p m (suc k) x) e ≡ true) (Option·some-injective c d r) h)
+  later (suc j) (suc k) c d r e h = go (step p m c) r h (λ x r. later j k x d r e)
+    where
+      go : (o : Option (Config St Out)) → after o none (run p m j) ≡ some d
+          → has (after o [] (λ d. listOf (crossing p c) ++ trail p m k d)) e ≡ true
+          → ((x : Config St Out) → run p m j x ≡ some d → has (trail p m k x) e ≡ true → (has (trail p m j x) e ≡ true) ⊎ ((i : ℕ) × (has (trail p m i d) e ≡ true)))
+          → (has (after o [] (λ d. listOf (crossing p c) ++ trail p m j d)) e ≡ true) ⊎ ((i : ℕ) × (has (trail p m i d) e ≡ true))
+      go none r h ih = absurd (Option·none-ne-some d r)
+      go (some x) r h ih =
+          ⊎-elim (λ q. inl (has-append-left (listOf (crossing p c)) (trail p m j x) e q))
+          (λ q. ⊎-elim (λ t. inl (has-append-right (listOf (crossing p c)) (trail p m j x) e t)) (λ t. inr t) (ih x r q))
+          (has-append (listOf (crossing p c)) (trail p m k x) e h)

@@ -63,5 +63,5 @@ exported St Out old new tests d a =
       marked = λ i out out′ r e l s.
           let w = written _ (a .of-request (write-record i) [] (length out)) out out′ r e l s in
           let m = d .marked i (length out) (w .0) (w .1) in
-          (m .0, m .1, m .2, m .3, w .2 ∙ ap length (m .4), w .3 ∙ ap (λ (x : Bytes). x ++ drop r out) (m .4), m .5);
+          (m .0, m .1, m .2, m .3, w .2 ∙ ap length (m .4), w .3 ∙ ap (λ (x : Bytes). x ++ drop r out) (m .4), m .5, m .6);
     }

@@ -19,9 +19,9 @@ use Rattle.rules.specs.Closing.{pairs, repeated, Coverage, holds, Mark, 
 use Rattle.rules.specs.Sheet.{Sheet, selected, rLine, sheetText, markByte, marksOf, crossed, vLine, recordText, among, leftOff, SheetLine, head-line, m-line, d-line, r-line, end-line, no-form, sheetForm, SheetRead, noSheet, allBelow, testOf, going, addR, takeSheetLine, stepSheet, finishSheet, readSheet}
 use Rattle.rules.specs.Check.{broken}
 use Rattle.rules.specs.Job.{Given, readJob, Outcome, wrote, refusal, passed, outcome, writing, written, sheetBytes, recordBytes, sheetAnswer, recordAnswer, judged, checkAnswer, serving, answering}
-use Rattle.rules.specs.Promises.{RunsAlike, MarksTrue}
+use Rattle.rules.specs.Promises.{MarksHold, MarksTrue, RunsAlike}
 use Rattle.rules.specs.Proofs.Lockstep.{checked}
-use Rattle.rules.specs.Proofs.Marks.{marks-true}
+use Rattle.rules.specs.Proofs.Marks.{marks-hold, marks-true}
 use Rattle.rules.specs.Proofs.ProgramLaws.{Sound, read-sound, read-well-formed}
 use Rattle.rules.specs.Proofs.SheetLaws.{among-append, among-later, among-here, sheet-lines, r-written}
 use Rattle.rules.specs.Proofs.SuiteLaws.{SoundSuite, suite-sound}
@@ -282,12 +282,12 @@ unlisted-texts old new tests room sheet a g e i l =
     let written : sheet ≡ sheetBytes g = sym (u .4) ∙ ap sheetBytes (accepted-same (sym (u .1) ∙ e)) in
     not-repeated g (known old new tests g e .suite-sound) i (subst (λ (b : Bytes). leftOff b (testName (g .suite) i) ≡ true) written l)
 
--- The record line of a test is written. Then the texts give programs and tests, and the line is the test's name, how many edges it crossed, and a mark for each new edge; and if the
--- test is not repeated, the marks are true.
+-- The record line of a test is written. Then the texts give programs and tests, and the line is the test's name, how many edges it crossed, and a mark for each new edge; if the test is
+-- not repeated, the marks are true, and in any case they may be relied on where the old run ended.
 pub marked-texts {ℓ κ} : {St : Type ℓ} {Out : Type κ} (old new tests : Bytes) (i room : ℕ) (line : Bytes) → recordAnswer old new tests i room ≡ wrote line
     → (g : Given) × (readJob old new tests ≡ accepted g) × (marks : Bytes) × (length marks ≡ edgeCount (g .new))
     × (line ≡ textOf (vLine (testName (g .suite) i) (crossed (g .old) (coverageAt (g .suite) i)) marks ∷ []))
-    × (has (repeated (g .old) (g .new) (g .suite .coverages)) i ≡ false → MarksTrue St Out g i marks)
+    × (has (repeated (g .old) (g .new) (g .suite .coverages)) i ≡ false → MarksTrue St Out g i marks) × MarksHold St Out g i marks
 unfolding recordBytes recordText
 marked-texts old new tests i room line b =
     let v = record-wrote old new tests i room line b in
@@ -307,5 +307,10 @@ marked-texts old new tests i room line b =
             λ e′ h o. t .3 e′ (byte-one _ (sym (marks-at (g .old) (g .new) (coverageAt (g .suite) i) (edgeCount (g .new)) e′ h) ∙ o)),
             λ e′ h o. t .4 e′ (byte-zero _ (sym (marks-at (g .old) (g .new) (coverageAt (g .suite) i) (edgeCount (g .new)) e′ h) ∙ o)),
             λ f e′ h o. t .5 f e′ (byte-zero _ (sym (marks-at (g .old) (g .new) (coverageAt (g .suite) i) (edgeCount (g .new)) e′ h) ∙ o)),
+          ),
+      λ m s ends exact.
+          let t = marks-hold (g .old) (g .new) (n .old-formed) (n .new-formed) (coverageAt (g .suite) i) m s ends exact in (
+            λ e′ h o. t .0 e′ (byte-one _ (sym (marks-at (g .old) (g .new) (coverageAt (g .suite) i) (edgeCount (g .new)) e′ h) ∙ o)),
+            λ e′ h o. t .1 e′ (byte-zero _ (sym (marks-at (g .old) (g .new) (coverageAt (g .suite) i) (edgeCount (g .new)) e′ h) ∙ o)),
           ),
     )

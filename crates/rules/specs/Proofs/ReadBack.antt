@@ -16,7 +16,7 @@ use Rattle.rules.specs.Text.{Bytes, same, empty, bytes, maxBytes, maxEdg
 use Rattle.rules.specs.Graph.{Program, nodeCount, edgeCount}
 use Rattle.rules.specs.SuiteFile.{Suite, testCount, testName}
 use Rattle.rules.specs.Closing.{pairs, dangers, dangerous, meets, repeated}
-use Rattle.rules.specs.Sheet.{Sheet, selected, headLine, mLine, dLine, rLine, endLine, sheetLines, sheetText, head-line, m-line, d-line, r-line, end-line, sheetForm, SheetRead, noSheet, before, allBelow, testOf, shutSheet, takeSheetLine, stepSheet, finishSheet, readSheet}
+use Rattle.rules.specs.Sheet.{Sheet, selected, headLine, mLine, dLine, qLine, rLine, endLine, sheetLines, sheetText, head-line, m-line, d-line, r-line, end-line, sheetForm, SheetRead, noSheet, before, allBelow, testOf, shutSheet, takeSheetLine, stepSheet, finishSheet, readSheet}
 use Rattle.rules.specs.Job.{Given, wrote, passed, sheetBytes, sheetAnswer, checkAnswer}
 use Rattle.rules.specs.Layout.{SheetFollows}
 use Rattle.rules.specs.Proofs.Closure.{pairs-inside, pairs-ascend, selected-passes}
@@ -238,6 +238,12 @@ unfolding textOf
 ended-d [] h = omega arith
 ended-d (x ∷ l) h =
     omega (arith, length-append (dLine x) (10 ∷ textOf (map dLine l)), d-short x (h x (has-first x l)), ended-d l (λ e t. h e (has-rest x l e t)))
+
+pub ended-q : (l : List ℕ) → ((e : ℕ) → has l e ≡ true → e < 1024) → length (textOf (map qLine l)) ≤ 7 * length l
+unfolding textOf qLine joinBy
+ended-q [] h = omega arith
+ended-q (x ∷ l) h =
+    omega (arith, length-append (bytes "Q," ++ decimal x) (10 ∷ textOf (map qLine l)), digits-four x (omega (arith, h x (has-first x l))), ended-q l (λ e t. h e (has-rest x l e t)))
 
 ended-r : (f : ℕ → Bytes) (l : List ℕ) → ((i : ℕ) → length (f i) ≤ 12) → length (textOf (map (λ i. rLine (f i)) l)) ≤ 15 * length l
 unfolding textOf

@@ -11,7 +11,7 @@ use Rattle.rules.specs.Text.{Reading, Bytes, accepted, maxPairs, refused
 use Rattle.rules.specs.Graph.{Program, nodeCount}
 use Rattle.rules.specs.ProgramFile.{readProgram}
 use Rattle.rules.specs.SuiteFile.{TestListing, testCount}
-use Rattle.rules.specs.Job.{Given, Outcome, Request, Version, answering, bySide, check-sheet, hasNode, labelShown, labelSpan, labelling, no-request, nowhere, outcome, packedSpan, readJob, readNewAnswer, readOldAnswer, readTestsAnswer, recording, refusal, requestBy, serving, show-label, spanShown, success, write-program, write-record, write-sheet}
+use Rattle.rules.specs.Job.{Given, Outcome, Request, Version, answering, bySide, check-sheet, hasNode, labelShown, labelSpan, labelling, no-request, nowhere, outcome, packedSpan, readJob, readNewAnswer, readOldAnswer, readTestsAnswer, recording, refusal, requestBy, serving, show-label, spanShown, success, write-probes, write-program, write-record, write-sheet}
 use Rattle.rules.specs.Promises.{LabelsAnswered, RecordUnnamed, RequestsNumbered, TextsRead, TextsRefused, UnusedIgnored, comesWithText, labelTold, writes}
 
 -- ---- texts
@@ -41,7 +41,7 @@ pub no-test : RecordUnnamed
 unfolding answering serving outcome
 no-test old new tests g e i room l = ap (λ (x : Reading Given). outcome x (λ h. recording maxPairs tooMany h i room)) e ∙ choose-no _ _ (le-ltb i (testCount (g .suite)) l)
 
-no-number : (n a b : ℕ) → 4 < n → requestBy n a b ≡ no-request
+no-number : (n a b : ℕ) → 5 < n → requestBy n a b ≡ no-request
 unfolding requestBy
 no-number n a b l =
     choose-no _ _ (ne-eqb n 0 (λ e. let z : ⊥ = omega arith in z))
@@ -49,6 +49,7 @@ no-number n a b l =
     ∙ choose-no _ _ (ne-eqb n 2 (λ e. let z : ⊥ = omega arith in z))
     ∙ choose-no _ _ (ne-eqb n 3 (λ e. let z : ⊥ = omega arith in z))
     ∙ choose-no _ _ (ne-eqb n 4 (λ e. let z : ⊥ = omega arith in z))
+    ∙ choose-no _ _ (ne-eqb n 5 (λ e. let z : ⊥ = omega arith in z))
 
 pub numbered : RequestsNumbered
 unfolding answering serving outcome requestBy choose
@@ -59,6 +60,7 @@ numbered =
       check-2 = λ a b. refl;
       label-3 = λ a b. refl;
       program-4 = λ a b. refl;
+      probes-5 = λ a b. refl;
       unnamed = λ old new tests g e n a b input room l.
           ap (λ (q : Request). answering q old new tests input room) (no-number n a b l) ∙ ap (λ (x : Reading Given). outcome x (λ h. refusal 6 0)) e;
     }
@@ -71,6 +73,7 @@ text-unused (write-record i) e g input room = refl
 text-unused check-sheet e g input room = absurd (true≢false e)
 text-unused (show-label side n) e g input room = refl
 text-unused (write-program side) e g input room = refl
+text-unused write-probes e g input room = refl
 text-unused no-request e g input room = refl
 
 pub room-unused : (q : Request) → writes q ≡ false → (g : Given) (input : Bytes) (room : ℕ) → serving q g input room ≡ serving q g input 0
@@ -80,6 +83,7 @@ room-unused (write-record i) e g input room = absurd (true≢false e)
 room-unused check-sheet e g input room = refl
 room-unused (show-label side n) e g input room = refl
 room-unused (write-program side) e g input room = absurd (true≢false e)
+room-unused write-probes e g input room = absurd (true≢false e)
 room-unused no-request e g input room = refl
 
 -- Two continuations that agree.

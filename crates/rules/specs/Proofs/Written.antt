@@ -11,7 +11,7 @@ use Rattle.laws.specs.Lists.{choose-yes, choose-no}
 use Rattle.rules.specs.Text.{Reading, Bytes, maxPairs, tooMany}
 use Rattle.rules.specs.SuiteFile.{testCount}
 use Rattle.rules.specs.Closing.{pairs}
-use Rattle.rules.specs.Job.{Given, Outcome, answering, outcome, recordBytes, recording, refusal, serving, sheetBytes, writing, written, wrote}
+use Rattle.rules.specs.Job.{Given, Outcome, answering, outcome, probesBytes, recordBytes, recording, refusal, serving, sheetBytes, writing, written, wrote}
 use Rattle.rules.specs.Promises.{Writes, WritesExactly}
 use Rattle.rules.specs.Proofs.JobLaws.{never-wrote, writing-wrote}
 
@@ -64,5 +64,6 @@ pub written-exactly : WritesExactly
 unfolding answering serving outcome
 written-exactly old new tests g e room = (
   told (ap (λ (x : Reading Given). outcome x (λ h. writing maxPairs tooMany h room (sheetBytes h))) e) (writing-exact maxPairs tooMany apart g room (sheetBytes g)),
+  told (ap (λ (x : Reading Given). outcome x (λ h. writing maxPairs tooMany h room (probesBytes h))) e) (writing-exact maxPairs tooMany apart g room (probesBytes g)),
   λ i l. told (ap (λ (x : Reading Given). outcome x (λ h. recording maxPairs tooMany h i room)) e ∙ choose-yes _ _ (lt-ltb i (testCount (g .suite)) l)) (writing-exact maxPairs tooMany apart g room (recordBytes g i)),
 )
