@@ -1,4 +1,4 @@
--- The turns and the returns of the functions on bits, names and states.
+-- The turns and the returns of the functions on words, names and states.
 use mathlib.Core.Path.{_≡_, sym, ap, _∙_}
 use mathlib.Core.Bool.{Bool, true, false}
 use mathlib.Core.Option.{none}
@@ -12,16 +12,15 @@ use Rattle.laws.specs.Tests.{_and_, first, found, isnt}
 use Rattle.laws.specs.TestLaws.{and-both, and-not, first-least}
 use Rattle.laws.specs.Counting.{count-zero, first-of-none}
 use Rattle.laws.specs.Slices.{below-or}
-use Rattle.laws.specs.BitSets.{bit-in, bit-out}
 use Rattle.rules.specs.Text.{Bytes, same}
 use Rattle.suite.specs.Reading.{nameAt}
 use Rattle.text.proofs.Laws.{clear-done, clear-on}
 use Rattle.sheet_reader.specs.declared.State.{State}
 use Rattle.sheet_reader.specs.Reading.{edgeFits, endFits, pairFits, testFrom, underway}
 
--- ---- `clear_words`, `set_bit`
+-- ---- `clear_words`
 
-pub ruleset bits = (clear-on, clear-done, bit-out, bit-in)
+pub ruleset words = (clear-on, clear-done)
 
 -- ---- `test_from`
 

@@ -3,7 +3,6 @@ ghost use mathlib.Core.Path.{_≡_};
 ghost use mathlib.Core.List.{_∷_, []};
 ghost use Prim.Native.Nat.{_≤_, _+_, _*_};
 ghost use lib.ListN.{length, replicate};
-ghost use Rattle.laws.specs.BitSets.{withBit};
 ghost use Rattle.rules.specs.Text.{split};
 ghost use Rattle.pairset.specs.Store.{pairBase};
 ghost use Rattle.sheet_reader.specs.Claims.{Reads};
@@ -60,7 +59,7 @@ pub struct State {
     pub test: usize,
 }
 
-// ---- bits and names
+// ---- words and names
 
 // Makes every word 0.
 fn clear_words(sets: &mut [u64])
@@ -70,18 +69,6 @@ fn clear_words(sets: &mut [u64])
     while i < sets.len() {
         sets[i] = 0;
         i += 1;
-    }
-}
-
-// Sets the bit i; past the end, nothing.
-fn set_bit(sets: &mut [u64], i: usize)
-    ensures { λ _. ⌜ now (sets .exit) ≡ withBit (now (sets .entry)) i ⌝ }
-{
-    let k = i / 64;
-    let shift = i % 64;
-    if k < sets.len() {
-        let bit: u64 = 1 << shift;
-        sets[k] = sets[k] | bit;
     }
 }
 
@@ -296,7 +283,7 @@ fn add_edge(edges: usize, n: usize, e: &[u8], had: State, sets: &mut [u64]) -> S
     }
     let listed = had.edges;
     if edge_fits(edges, i, had) {
-        set_bit(sets, i);
+        coverage::set_bit(sets, i);
         return State {
             number: 0,
             place: 0,
@@ -335,7 +322,7 @@ fn add_test(
             return refuse(11, n);
         }
         if underway(had) {
-            set_bit(sets, 1023 + t);
+            coverage::set_bit(sets, 1023 + t);
             return State {
                 number: 0,
                 place: 0,
