@@ -1,61 +1,68 @@
 -- The turns and the returns of the functions that find marks.
-use mathlib.Core.Path.{_≡_, refl, sym, ap, ap₂, _∙_}
+use mathlib.Core.Path.{_≡_, refl, sym, ap, ap₂, _∙_, subst}
 use mathlib.Core.Bool.{Bool, true, false}
 use mathlib.Core.List.{List}
 use Prim.Native.Nat.{ℕ, suc, _+_, _-_, _≤_, _<_}
 use native.Mathlib.Numerals.{add-one}
 use native.Mathlib.Omega.{arith}
-use lib.Dec.{eqb, ltb}
+use lib.Dec.{eqb, leb, ltb}
 use lib.ListN.{getD, length, set, replicate, length-set, length-replicate, getD-replicate, List·getD-eq-default}
 use lib.Seq.{sets, set-out, length-sets, getD-set-same, getD-set-other}
-use borrow.Author.Tests.{eqb-true, eq-eqb, ne-eqb, lt-ltb, le-ltb, ltb-true}
-use Rattle.laws.specs.Tests.{_and_, _⇒_, any, choose, every, first, found}
-use Rattle.laws.specs.TestLaws.{and-both, and-left, and-right, any-at, both-ways, every-at, fails, implied}
+use borrow.Author.Tests.{eqb-true, eq-eqb, ne-eqb, le-leb, leb-true, lt-ltb, le-ltb, ltb-true}
+use Rattle.laws.specs.Tests.{_and_, _⇒_, any, choose, every, first, found, has}
+use Rattle.laws.specs.Bits.{bitIn}
+use Rattle.laws.specs.TestLaws.{and-both, and-ends, and-left, and-right, any-at, both-ways, every-at, fails, implied}
 use Rattle.laws.specs.Lists.{choose-yes, choose-no}
 use Rattle.laws.specs.Counting.{any-agree}
 use Rattle.laws.specs.Slices.{below-or, same-or, sets-more, sets-out, getD-sets-after, getD-sets-in}
 use Rattle.laws.specs.Chain.{Blind, Left, left-start, left-step}
 use Rattle.rules.specs.Graph.{Program, edgeCount, sourceAt}
-use Rattle.rules.specs.Closing.{Coverage, carries as carriesOf, carriesOnly, holds, joined, pairs}
+use Rattle.rules.specs.Closing.{Coverage, afterDangers, carries as carriesOf, carriesOnly, dangers, endangered, holds, joined, mark, meets, pairs, probes}
+use Rattle.rules.specs.Sheet.{markByte}
 use Rattle.rules.specs.ProgramFile.{Listing}
 use Rattle.graph.specs.Table.{edgeBase}
 use Rattle.pairset.specs.Store.{lastPair, newAt, oldAt, pairBefore, pairsIn}
 use Rattle.pairset.specs.StoreLaws.{walked}
-use Rattle.coverage.specs.Rows.{edgeBit}
+use Rattle.coverage.specs.Rows.{Row, edgeBit}
 use Rattle.versions.specs.Found.{found-at, found-none}
 use Rattle.laws.specs.Those.{any-more, any-skip}
 use Rattle.selection.specs.Compared.{Compared, counterpart, joins-lead, leads-any}
-use Rattle.selection.specs.Marks.{AllCarried, AllRaised, Carried, Carries, CarriesTo, Finds, Joins, MarksFound, Only, Raises, carried, carriesOnlyTo, carriesTo, markedOne, raised, sole}
-use Rattle.selection.specs.MarkLaws.{carried-before, carried-more, carried-none, carried-only, mark-left, mark-repeated, marks-by}
+use Rattle.selection.specs.Marks.{AllCarried, AllOpened, AllRaised, Carried, Carries, CarriesTo, Finds, Joins, MarksFound, Only, Opened, Opens, OpensTo, Raises, SetOpened, carried, carriesOnlyTo, carriesTo, lifted, markedOne, opensTo, raised, sole}
+use Rattle.selection.specs.MarkLaws.{carried-lifted, carried-more, carried-none, carried-only, lifted-before, lifted-more, lifted-none, mark-left, mark-open, marks-by}
 use Rattle.selection.proofs.Dangers.{source-of}
 use Rattle.selection.proofs.Counterparts.{joins-here}
 
 -- ---- `raise`, `mark_one`
 
 module _ (marks : List ℕ) (f : ℕ) where
-  pub raise-none : f ≡ 0 → marks ≡ raised marks f
-  unfolding raised
-  raise-none e = sym (choose-no _ _ (fails _ (λ t. let z : ⊥ = omega (arith, ltb-true 0 f (and-left _ _ t)) in z)))
-
   pub one-none : f ≡ 0 → marks ≡ markedOne marks f
   unfolding markedOne
   one-none e = sym (choose-no _ _ (le-ltb 0 f (omega arith)))
 
-  pub raise-other : (getD marks (f - 1) 0 ≡ 48 → ⊥) → marks ≡ raised marks f
-  unfolding raised
-  raise-other n = sym (choose-no _ _ (fails _ (λ t. n (eqb-true (getD marks (f - 1) 0) 48 (and-right (ltb 0 f) (eqb (getD marks (f - 1) 0) 48) t)))))
+  module _ (most : ℕ) where
+    pub raise-none : f ≡ 0 → marks ≡ raised marks f most
+    unfolding raised
+    raise-none e = sym (choose-no _ _ (fails _ (λ t. let z : ⊥ = omega (arith, ltb-true 0 f (and-left _ _ t)) in z)))
+
+    pub raise-other : most < getD marks (f - 1) 0 → marks ≡ raised marks f most
+    unfolding raised
+    raise-other n =
+        sym (choose-no _ _ (fails _ (λ t. let z : ⊥ = omega (arith, leb-true (getD marks (f - 1) 0) most (and-right (ltb 0 f) (leb (getD marks (f - 1) 0) most) t)) in z)))
 
   module _ (x : ℕ) (d : f ≡ 0 → ⊥) (ex : x ≡ f - 1) where
-    pub raise-past : length marks ≤ x → marks ≡ raised marks f
-    unfolding raised
-    raise-past l =
-        let q : getD marks (f - 1) 0 ≡ 0 = List·getD-eq-default marks 0 (omega arith) in
-        sym (choose-no _ _ (fails _ (λ t. let z : ⊥ = omega (arith, eqb-true (getD marks (f - 1) 0) 48 (and-right (ltb 0 f) (eqb (getD marks (f - 1) 0) 48) t)) in z)))
+    pub raise-past : (most : ℕ) → length marks ≤ x → marks ≡ raised marks f most
+    unfolding raised choose
+    raise-past most l = go (ltb 0 f and leb (getD marks (f - 1) 0) most)
+      where
+        go : (b : Bool) → marks ≡ choose b (set marks (f - 1) 63) marks
+        go true = sym (set-out marks (f - 1) 63 (omega arith))
+        go false = refl
 
-    pub raise-this : getD marks x 0 ≡ 48 → set marks x 63 ≡ raised marks f
+    pub raise-this : (most : ℕ) → getD marks x 0 ≤ most → set marks x 63 ≡ raised marks f most
     unfolding raised
-    raise-this e =
-        ap (λ (i : ℕ). set marks i 63) ex ∙ sym (choose-yes _ _ (and-both (lt-ltb 0 f (omega arith)) (eq-eqb _ _ (ap (λ (i : ℕ). getD marks i 0) (sym ex) ∙ e))))
+    raise-this most e =
+        ap (λ (i : ℕ). set marks i 63) ex
+        ∙ sym (choose-yes _ _ (and-both (lt-ltb 0 f (omega arith)) (le-leb _ _ (subst (λ (i : ℕ). getD marks i 0 ≤ most) ex e))))
 
     pub one-this : set marks x 49 ≡ markedOne marks f
     unfolding markedOne
@@ -65,34 +72,32 @@ module _ (marks : List ℕ) (f : ℕ) where
     one-past l = sym (set-out marks x 49 l) ∙ one-this
 
 -- The marks by index.
-raised-at : (marks : List ℕ) (f x : ℕ) → x < length marks → getD (raised marks f) x 0 ≡ carried (getD marks x 0) (eqb f (suc x)) false
-unfolding raised carried choose _and_
-raised-at marks f x l =
+raised-at : (marks : List ℕ) (f most x : ℕ) → x < length marks → getD (raised marks f most) x 0 ≡ lifted most (getD marks x 0) (eqb f (suc x))
+unfolding raised lifted choose _and_
+raised-at marks f most x l =
     same-or f (suc x)
     (λ e.
     let q : f - 1 ≡ x = omega arith in
-    same-or (getD marks x 0) 48
-    (λ y.
-    let a : getD (set marks (f - 1) 63) x 0 ≡ 63 = ap (λ (i : ℕ). getD (set marks i 63) x 0) q ∙ getD-set-same marks x 63 0 l in
-    let b : (ltb 0 f and eqb (getD marks (f - 1) 0) 48) ≡ true = and-both (lt-ltb 0 f (omega arith)) (eq-eqb _ _ (ap (λ (i : ℕ). getD marks i 0) q ∙ y)) in
-    ap (λ (l : List ℕ). getD l x 0) (choose-yes (set marks (f - 1) 63) marks b) ∙ a
-    ∙ sym (ap₂ (λ (s t : Bool). choose (s and t) 63 (getD marks x 0)) (eq-eqb _ _ e) (eq-eqb _ _ y)))
-    (λ y.
-    let b : (ltb 0 f and eqb (getD marks (f - 1) 0) 48) ≡ false = fails _ (λ t. y (ap (λ (i : ℕ). getD marks i 0) (sym q) ∙ eqb-true (getD marks (f - 1) 0) 48 (and-right (ltb 0 f) (eqb (getD marks (f - 1) 0) 48) t))) in
-    ap (λ (l : List ℕ). getD l x 0) (choose-no (set marks (f - 1) 63) marks b)
-    ∙ sym (ap₂ (λ (s t : Bool). choose (s and t) 63 (getD marks x 0)) (eq-eqb _ _ e) (ne-eqb _ _ y))))
+    ap (λ (i : ℕ). getD (choose (ltb 0 f and leb (getD marks i 0) most) (set marks i 63) marks) x 0) q
+    ∙ ap (λ (s : Bool). getD (choose (s and leb (getD marks x 0) most) (set marks x 63) marks) x 0) (lt-ltb 0 f (omega arith))
+    ∙ here (leb (getD marks x 0) most)
+    ∙ sym (ap (λ (s : Bool). choose (s and leb (getD marks x 0) most) 63 (getD marks x 0)) (eq-eqb _ _ e)))
     (λ d.
-    let stays : getD (choose (ltb 0 f and eqb (getD marks (f - 1) 0) 48) (set marks (f - 1) 63) marks) x 0 ≡ getD marks x 0
-    = other (ltb 0 f and eqb (getD marks (f - 1) 0) 48) (λ t. ltb-true 0 f (and-left (ltb 0 f) (eqb (getD marks (f - 1) 0) 48) t)) d in
-    stays ∙ sym (ap (λ (s : Bool). choose (s and eqb (getD marks x 0) 48) 63 (getD marks x 0)) (ne-eqb _ _ d)))
+    let stays : getD (choose (ltb 0 f and leb (getD marks (f - 1) 0) most) (set marks (f - 1) 63) marks) x 0 ≡ getD marks x 0
+    = other (ltb 0 f and leb (getD marks (f - 1) 0) most) (λ t. ltb-true 0 f (and-left (ltb 0 f) (leb (getD marks (f - 1) 0) most) t)) d in
+    stays ∙ sym (ap (λ (s : Bool). choose (s and leb (getD marks x 0) most) 63 (getD marks x 0)) (ne-eqb _ _ d)))
   where
+    here : (b : Bool) → getD (choose b (set marks x 63) marks) x 0 ≡ choose b 63 (getD marks x 0)
+    here true = getD-set-same marks x 63 0 l
+    here false = refl
+
     other : (b : Bool) → (b ≡ true → 0 < f) → (f ≡ suc x → ⊥) → getD (choose b (set marks (f - 1) 63) marks) x 0 ≡ getD marks x 0
     other true p d = getD-set-other marks (f - 1) x 63 0 (λ e. d (omega (arith, p refl)))
     other false p d = refl
 
-raised-size : (marks : List ℕ) (f : ℕ) → length (raised marks f) ≡ length marks
+raised-size : (marks : List ℕ) (f most : ℕ) → length (raised marks f most) ≡ length marks
 unfolding raised choose
-raised-size marks f = go (ltb 0 f and eqb (getD marks (f - 1) 0) 48)
+raised-size marks f most = go (ltb 0 f and leb (getD marks (f - 1) 0) most)
   where
     go : (b : Bool) → length (choose b (set marks (f - 1) 63) marks) ≡ length marks
     go true = length-set marks (f - 1) 63
@@ -105,38 +110,38 @@ unfolding _and_
 yes-and t e = ap (λ (s : Bool). s and t) e
 
 -- The marks come to what those of the pairs below the place still raise.
-unfoldable pub RaisesFrom : List ℕ → List ℕ → List ℕ → List ℕ → List ℕ → ℕ → ℕ → List ℕ → List ℕ → ℕ → Type 0
-RaisesFrom on ol nn nl w e n marks marks′ place =
+unfoldable pub RaisesFrom : List ℕ → List ℕ → List ℕ → List ℕ → List ℕ → ℕ → ℕ → ℕ → List ℕ → List ℕ → ℕ → Type 0
+RaisesFrom on ol nn nl w e most n marks marks′ place =
     (o p : Listing) (c : ℕ) → Compared on ol nn nl w c o p → e < edgeCount (o .program)
     → (n ≡ sourceAt (o .program) e)
     × ((x : ℕ) → x < length marks → Left (oldAt w) (sourceAt (o .program) e) c
-    (carried (getD marks x 0) (any c (λ k. eqb (oldAt w k) (sourceAt (o .program) e) and eqb (counterpart (o .program) (p .program) (pairsIn w c) e (newAt w k)) (suc x))) false)
-    (λ j. carried (getD marks′ x 0) (any j (λ k. eqb (oldAt w k) (sourceAt (o .program) e) and eqb (counterpart (o .program) (p .program) (pairsIn w c) e (newAt w k)) (suc x))) false) place)
+    (lifted most (getD marks x 0) (any c (λ k. eqb (oldAt w k) (sourceAt (o .program) e) and eqb (counterpart (o .program) (p .program) (pairsIn w c) e (newAt w k)) (suc x))))
+    (λ j. lifted most (getD marks′ x 0) (any j (λ k. eqb (oldAt w k) (sourceAt (o .program) e) and eqb (counterpart (o .program) (p .program) (pairsIn w c) e (newAt w k)) (suc x)))) place)
 
-pub record RaisedFrom (on ol nn nl w : List ℕ) (e n : ℕ) (marks marks′ : List ℕ) (place : ℕ) : Type 0 where
-  pub from : RaisesFrom on ol nn nl w e n marks marks′ place
+pub record RaisedFrom (on ol nn nl w : List ℕ) (e most n : ℕ) (marks marks′ : List ℕ) (place : ℕ) : Type 0 where
+  pub from : RaisesFrom on ol nn nl w e most n marks marks′ place
   pub size : length marks′ ≡ length marks
 
-module _ (w : List ℕ) (a : ℕ) (to : ℕ → ℕ) (x m : ℕ) where
-  raises-blind : Blind (oldAt w) a (λ j. carried m (any j (λ k. eqb (oldAt w k) a and eqb (to k) (suc x))) false)
+module _ (w : List ℕ) (a : ℕ) (to : ℕ → ℕ) (x most m : ℕ) where
+  raises-blind : Blind (oldAt w) a (λ j. lifted most m (any j (λ k. eqb (oldAt w k) a and eqb (to k) (suc x))))
   unfolding Blind
-  raises-blind k d = ap (λ (t : Bool). carried m t false) (any-skip (λ k. eqb (oldAt w k) a and eqb (to k) (suc x)) k (fails _ (λ t. d (eqb-true _ _ (and-left _ _ t)))))
+  raises-blind k d = ap (λ (t : Bool). lifted most m t) (any-skip (λ k. eqb (oldAt w k) a and eqb (to k) (suc x)) k (fails _ (λ t. d (eqb-true _ _ (and-left _ _ t)))))
 
-pub all-start : (on ol nn nl w : List ℕ) (e n place : ℕ) (marks : List ℕ) → n ≡ getD ol (edgeBase e) 0 → place ≡ lastPair w n → RaisedFrom on ol nn nl w e n marks marks place
+pub all-start : (on ol nn nl w : List ℕ) (e most n place : ℕ) (marks : List ℕ) → n ≡ getD ol (edgeBase e) 0 → place ≡ lastPair w n → RaisedFrom on ol nn nl w e most n marks marks place
 unfolding RaisesFrom
-all-start on ol nn nl w e n place marks en ep =
+all-start on ol nn nl w e most n place marks en ep =
     record {
       from = λ o p c h i.
           let s : n ≡ sourceAt (o .program) e = source-of e n h i en in (
             s,
             λ x l. rw (ep, s) (left-start (walked (h .held .store) (suc (sourceAt (o .program) e))) (sourceAt (o .program) e) (omega arith)
-                (raises-blind w (sourceAt (o .program) e) (λ k. counterpart (o .program) (p .program) (pairsIn w c) e (newAt w k)) x (getD marks x 0))),
+                (raises-blind w (sourceAt (o .program) e) (λ k. counterpart (o .program) (p .program) (pairsIn w c) e (newAt w k)) x most (getD marks x 0))),
           );
       size = refl;
     }
 
-module _ (on ol nn nl w : List ℕ) (e n : ℕ) (marks marks₁ : List ℕ) (place : ℕ) (inv : RaisedFrom on ol nn nl w e n marks marks₁ place) where
-  pub all-end : place ≤ 0 → AllRaised on ol nn nl w e marks marks₁
+module _ (on ol nn nl w : List ℕ) (e most n : ℕ) (marks marks₁ : List ℕ) (place : ℕ) (inv : RaisedFrom on ol nn nl w e most n marks marks₁ place) where
+  pub all-end : place ≤ 0 → AllRaised on ol nn nl w e most marks marks₁
   unfolding RaisesFrom Raises any
   all-end z =
       record {
@@ -144,14 +149,14 @@ module _ (on ol nn nl w : List ℕ) (e n : ℕ) (marks marks₁ : List ℕ) (pla
             let r = inv .from o p c h i .1 x l in
             let y : place ≡ 0 = omega arith in
             let to : ℕ → ℕ = λ k. counterpart (o .program) (p .program) (pairsIn w c) e (newAt w k) in
-            sym (carried-none (getD marks₁ x 0))
-            ∙ ap (λ (j : ℕ). carried (getD marks₁ x 0) (any j (λ k. eqb (oldAt w k) (sourceAt (o .program) e) and eqb (to k) (suc x))) false) (sym y)
-            ∙ sym (r .rest) ∙ ap (λ (t : Bool). carried (getD marks x 0) t false) (leads-any (joins-lead h e) x);
+            sym (lifted-none most (getD marks₁ x 0))
+            ∙ ap (λ (j : ℕ). lifted most (getD marks₁ x 0) (any j (λ k. eqb (oldAt w k) (sourceAt (o .program) e) and eqb (to k) (suc x)))) (sym y)
+            ∙ sym (r .rest) ∙ ap (λ (t : Bool). lifted most (getD marks x 0) t) (leads-any (joins-lead h e) x);
         size = inv .size;
       }
 
-  pub all-on : (k m f next : ℕ) (marks₂ : List ℕ) → 0 < place → k ≡ place - 1 → m ≡ newAt w k → Joins on ol nn nl w e n m f → marks₂ ≡ raised marks₁ f → next ≡ pairBefore w k
-      → RaisedFrom on ol nn nl w e n marks marks₂ next
+  pub all-on : (k m f next : ℕ) (marks₂ : List ℕ) → 0 < place → k ≡ place - 1 → m ≡ newAt w k → Joins on ol nn nl w e n m f → marks₂ ≡ raised marks₁ f most → next ≡ pairBefore w k
+      → RaisedFrom on ol nn nl w e most n marks marks₂ next
   unfolding RaisesFrom
   all-on k m f next marks₂ pos d em j er en =
       record {
@@ -167,15 +172,15 @@ module _ (on ol nn nl w : List ℕ) (e n : ℕ) (marks marks₁ : List ℕ) (pla
                   let q : f ≡ to k = joins-here h e n k m f i (r .0) b (own ∙ sym (r .0)) em j in
                   let T : ℕ → Bool = λ k. eqb (oldAt w k) a and eqb (to k) (suc x) in
                   let here : T k ≡ eqb f (suc x) = yes-and _ (eq-eqb _ _ own) ∙ ap (λ (u : ℕ). eqb u (suc x)) (sym q) in
-                  let g : getD marks₂ x 0 ≡ carried (getD marks₁ x 0) (T k) false
-                  = ap (λ (l : List ℕ). getD l x 0) er ∙ raised-at marks₁ f x (omega (arith, inv .size)) ∙ ap (λ (t : Bool). carried (getD marks₁ x 0) t false) (sym here) in
+                  let g : getD marks₂ x 0 ≡ lifted most (getD marks₁ x 0) (T k)
+                  = ap (λ (l : List ℕ). getD l x 0) er ∙ raised-at marks₁ f most x (omega (arith, inv .size)) ∙ ap (λ (t : Bool). lifted most (getD marks₁ x 0) t) (sym here) in
                   let u : place ≡ suc k = omega arith in
-                  let step : carried (getD marks₁ x 0) (any place T) false ≡ carried (getD marks₂ x 0) (any (place - 1) T) false
-                  = ap (λ (t : Bool). carried (getD marks₁ x 0) t false) (ap (λ (n : ℕ). any n T) u ∙ any-more T k) ∙ sym (carried-before (getD marks₁ x 0) (any k T) (T k))
-                  ∙ ap₂ (λ (v : ℕ) (n : ℕ). carried v (any n T) false) (sym g) d in
-                  rw (en, d) (left-step (walked (h .held .store) (suc a)) y pos (raises-blind w a to x (getD marks₂ x 0)) step),
+                  let step : lifted most (getD marks₁ x 0) (any place T) ≡ lifted most (getD marks₂ x 0) (any (place - 1) T)
+                  = ap (λ (t : Bool). lifted most (getD marks₁ x 0) t) (ap (λ (n : ℕ). any n T) u ∙ any-more T k) ∙ sym (lifted-before most (getD marks₁ x 0) (any k T) (T k))
+                  ∙ ap₂ (λ (v : ℕ) (n : ℕ). lifted most v (any n T)) (sym g) d in
+                  rw (en, d) (left-step (walked (h .held .store) (suc a)) y pos (raises-blind w a to x most (getD marks₂ x 0)) step),
             );
-        size = ap length er ∙ raised-size marks₁ f ∙ inv .size;
+        size = ap length er ∙ raised-size marks₁ f most ∙ inv .size;
       }
 
 pub ruleset raises = (raise-none, raise-past, raise-other, raise-this, one-none, one-this, one-past, all-start, all-end, all-on)
@@ -209,7 +214,7 @@ module _ (on ol nn nl w rows : List ℕ) (i e : ℕ) (marks : List ℕ) (t : Boo
       }
 
   module _ (y : t ≡ true) (f : ℕ) (only : Only on ol nn nl w e f) where
-    pub carry-several : (marks′ : List ℕ) → f ≡ 0 → AllRaised on ol nn nl w e marks marks′ → Carried on ol nn nl w rows i e marks marks′
+    pub carry-several : (marks′ : List ℕ) → f ≡ 0 → AllRaised on ol nn nl w e 48 marks marks′ → Carried on ol nn nl w rows i e marks marks′
     unfolding Carries Only Raises
     carry-several marks′ z a =
         record {
@@ -218,7 +223,7 @@ module _ (on ol nn nl w rows : List ℕ) (i e : ℕ) (marks : List ℕ) (t : Boo
               let none : carriesOnlyTo (o .program) (p .program) coverage x e ≡ false
               = crossed-only (o .program) (p .program) coverage x e k
               ∙ fails _ (λ s. found-none _ _ (sym (only o p c h l) ∙ z) x (ltb-true _ _ (and-left _ _ s)) (and-right _ _ s)) in
-              a .raises o p c h l x b ∙ sym (ap₂ (carried (getD marks x 0)) (crossed-to (o .program) (p .program) coverage x e k) none);
+              a .raises o p c h l x b ∙ sym (ap₂ (carried (getD marks x 0)) (crossed-to (o .program) (p .program) coverage x e k) none ∙ carried-lifted (getD marks x 0) _);
           size = a .size;
         }
 
@@ -280,6 +285,116 @@ module _ (on ol nn nl w rows : List ℕ) (i edges : ℕ) (marks : List ℕ) wher
 
 pub ruleset carries = (carry-not, carry-several, carry-one, over-start, over-on, over-end)
 
+-- ---- `open_edge`, `open_all`
+
+module _ (on ol nn nl w rows : List ℕ) (i : ℕ) (after : List ℕ) (e : ℕ) (marks : List ℕ) (t : Bool) (et : t ≡ edgeBit rows i e) where
+  pub open-not : t ≡ false → Opened on ol nn nl w rows i after e marks marks
+  unfolding Opens carriesOf
+  open-not z =
+      record {
+        opens = λ o p c coverage h r a l x b.
+            sym (ap (lifted 49 (getD marks x 0)) (fails _ (λ s. both-ways (and-left _ _ (and-left _ _ (and-right _ _ s))) (sym (r .edges e l) ∙ sym et ∙ z))) ∙ lifted-none 49 (getD marks x 0));
+        size = refl;
+      }
+
+  module _ (u : Bool) (eu : u ≡ bitIn after e) where
+    pub open-far : u ≡ false → Opened on ol nn nl w rows i after e marks marks
+    unfolding Opens
+    open-far z =
+        record {
+          opens = λ o p c coverage h r a l x b.
+              sym (ap (lifted 49 (getD marks x 0)) (fails _ (λ s. both-ways (and-right _ _ (and-right _ _ s)) (sym (a e l) ∙ sym eu ∙ z))) ∙ lifted-none 49 (getD marks x 0));
+          size = refl;
+        }
+
+    pub open-near : (marks′ : List ℕ) → t ≡ true → u ≡ true → AllRaised on ol nn nl w e 49 marks marks′ → Opened on ol nn nl w rows i after e marks marks′
+    unfolding Opens Raises carriesOf
+    open-near marks′ y v m =
+        record {
+          opens = λ o p c coverage h r a l x b.
+              let J : Bool = joined (o .program) (p .program) (pairs (o .program) (p .program)) e x in
+              let k : holds coverage e ≡ true = sym (r .edges e l) ∙ sym et ∙ y in
+              let f : has (afterDangers (o .program) (p .program)) e ≡ true = sym (a e l) ∙ sym eu ∙ v in
+              m .raises o p c h l x b
+              ∙ ap (λ (s : Bool). lifted 49 (getD marks x 0) (ltb x (edgeCount (p .program)) and s)) (sym (ap₂ (λ (c d : Bool). (c and J) and d) k f ∙ ap (λ (s : Bool). s and true) (yes-and J refl) ∙ and-ends J));
+          size = m .size;
+        }
+
+module _ (on ol nn nl w rows : List ℕ) (i : ℕ) (after : List ℕ) (edges : ℕ) (marks : List ℕ) where
+  pub opens-start : AllOpened on ol nn nl w rows i after edges 0 marks marks
+  unfolding OpensTo any
+  opens-start = record { opens = λ o p c coverage h r a q x b. sym (lifted-none 49 (getD marks x 0)); size = refl }
+
+  module _ (e : ℕ) (marks₁ : List ℕ) (inv : AllOpened on ol nn nl w rows i after edges e marks marks₁) where
+    pub opens-on : (marks₂ : List ℕ) → e < edges → Opened on ol nn nl w rows i after e marks₁ marks₂ → AllOpened on ol nn nl w rows i after edges (e + 1) marks marks₂
+    unfolding OpensTo Opens
+    opens-on marks₂ l m =
+        record {
+          opens = λ o p c coverage h r a q x b.
+              let T : ℕ → Bool = opensTo (o .program) (p .program) coverage x in
+              m .opens o p c coverage h r a (omega arith) x (omega (arith, inv .size))
+              ∙ ap (λ (m : ℕ). lifted 49 m (T e)) (inv .opens o p c coverage h r a q x b)
+              ∙ lifted-more 49 (getD marks x 0) (any e T) (T e)
+              ∙ sym (ap (λ (k : ℕ). lifted 49 (getD marks x 0) (any k T)) (add-one e) ∙ ap (lifted 49 (getD marks x 0)) (any-more T e));
+          size = m .size ∙ inv .size;
+        }
+
+    pub opens-end : e ≤ edges → edges ≤ e → AllOpened on ol nn nl w rows i after edges edges marks marks₁
+    opens-end a b = let q : e ≡ edges = omega arith in rw q at inv
+
+-- ---- `open_set`
+
+module _ (bits : List ℕ) (marks : List ℕ) where
+  pub set-start : SetOpened bits 0 marks marks
+  unfolding _and_ choose
+  set-start = record { opens = λ x l. sym (ap (λ (t : Bool). choose (t and bitIn bits x) 63 (getD marks x 0)) (le-ltb x 0 (omega arith))); size = refl }
+
+  module _ (k : ℕ) (marks₁ : List ℕ) (inv : SetOpened bits k marks marks₁) where
+    -- Below the edge k nothing changes, and at it the set says what does.
+    next : (marks₂ : List ℕ) → length marks₂ ≡ length marks₁ → ((x : ℕ) → (x ≡ k → ⊥) → getD marks₂ x 0 ≡ getD marks₁ x 0) → (k < length marks → getD marks₂ k 0 ≡ choose (bitIn bits k) 63 (getD marks₁ k 0))
+        → SetOpened bits (k + 1) marks marks₂
+    unfolding _and_ choose
+    next marks₂ size others this =
+        record {
+          opens = λ x l.
+              same-or x k
+              (λ e.
+              let a : getD marks₁ k 0 ≡ getD marks k 0 = inv .opens k (omega arith) ∙ ap (λ (t : Bool). choose (t and bitIn bits k) 63 (getD marks k 0)) (le-ltb k k (omega arith)) in
+              ap (λ (i : ℕ). getD marks₂ i 0) e ∙ this (omega arith) ∙ ap (choose (bitIn bits k) 63) a
+              ∙ sym (ap (λ (i : ℕ). choose (ltb i (k + 1) and bitIn bits i) 63 (getD marks i 0)) e ∙ ap (λ (t : Bool). choose (t and bitIn bits k) 63 (getD marks k 0)) (lt-ltb k (k + 1) (omega arith))))
+              (λ d.
+              others x d ∙ inv .opens x l
+              ∙ ap (λ (t : Bool). choose (t and bitIn bits x) 63 (getD marks x 0))
+              (below-or x k (λ b. lt-ltb x k b ∙ sym (lt-ltb x (k + 1) (omega arith))) (λ b. le-ltb x k b ∙ sym (le-ltb x (k + 1) (omega arith)))));
+          size = size ∙ inv .size;
+        }
+
+    module _ (t : Bool) (et : t ≡ bitIn bits k) where
+      pub set-this : t ≡ true → SetOpened bits (k + 1) marks (set marks₁ k 63)
+      unfolding choose
+      set-this y =
+          next (set marks₁ k 63) (length-set marks₁ k 63) (λ x d. getD-set-other marks₁ k x 63 0 d)
+          (λ l. getD-set-same marks₁ k 63 0 (omega (arith, inv .size)) ∙ sym (ap (λ (b : Bool). choose b 63 (getD marks₁ k 0)) (sym et ∙ y)))
+
+      pub set-other : t ≡ false → SetOpened bits (k + 1) marks marks₁
+      unfolding choose
+      set-other y = next marks₁ refl (λ x d. refl) (λ l. sym (ap (λ (b : Bool). choose b 63 (getD marks₁ k 0)) (sym et ∙ y)))
+
+    -- At the end of the marks, and at that of the edges.
+    pub set-full : (n : ℕ) → k < n → length marks₁ ≤ k → SetOpened bits n marks marks₁
+    set-full n l m =
+        record {
+          opens = λ x b.
+              inv .opens x b
+              ∙ ap (λ (t : Bool). choose (t and bitIn bits x) 63 (getD marks x 0)) (lt-ltb x k (omega (arith, inv .size)) ∙ sym (lt-ltb x n (omega (arith, inv .size))));
+          size = inv .size;
+        }
+
+    pub set-end : (n : ℕ) → k ≤ n → n ≤ k → SetOpened bits n marks marks₁
+    set-end n a b = let q : k ≡ n = omega arith in rw q at inv
+
+pub ruleset opens = (open-not, open-far, open-near, opens-start, opens-on, opens-end, set-start, set-this, set-other, set-full, set-end)
+
 -- ---- `fill`
 
 module _ (n b : ℕ) where
@@ -310,47 +425,92 @@ module _ (marks : List ℕ) (n b : ℕ) where
   filled-past : (x : ℕ) → n ≤ x → getD (sets marks 0 (replicate n b)) x 0 ≡ getD marks x 0
   filled-past x l = getD-sets-after (replicate n b) marks 0 x 0 (omega (arith, length-replicate {A = ℕ} n b))
 
-module _ (on ol nn nl w rows : List ℕ) (i olds news : ℕ) (again : Bool) (marks marks₁ : List ℕ) where
-  pub marks-repeated : again ≡ true → marks₁ ≡ sets marks 0 (replicate news 63) → MarksFound on ol nn nl w rows i olds news again marks marks₁
-  unfolding Finds
-  marks-repeated y e =
-      let size : length marks₁ ≡ length marks = ap length e ∙ length-sets marks 0 (replicate news 63) in
-      record {
-        finds = λ o p c coverage h r eo en ea room.
-            marks-by (o .program) (p .program) coverage marks marks₁ room size
-            (λ x l. ap (λ (m : List ℕ). getD m x 0) e ∙ filled-in marks news 63 (omega arith) x (omega arith) ∙ mark-repeated (o .program) (p .program) coverage x (sym ea ∙ y))
-            (λ x l. ap (λ (m : List ℕ). getD m x 0) e ∙ filled-past marks news 63 x (omega arith));
-        size = size;
-      }
+-- Past the new edges no old edge has a counterpart; past the end of the marks nothing stands.
+none-past : (new : Program) (x : ℕ) → edgeCount new ≤ x → (g : ℕ → Bool) (k : ℕ) → any k (λ e. ltb x (edgeCount new) and g e) ≡ false
+none-past new x l g k = fails _ (λ t. let u = any-at (λ e. ltb x (edgeCount new) and g e) k t in both-ways (and-left _ _ (u .2)) (le-ltb x (edgeCount new) l))
 
-  pub marks-carried : (marks₂ : List ℕ) → again ≡ false → marks₁ ≡ sets marks 0 (replicate news 48) → AllCarried on ol nn nl w rows i olds olds marks₁ marks₂ → MarksFound on ol nn nl w rows i olds news again marks marks₂
-  unfolding Finds CarriesTo
-  marks-carried marks₂ y e a =
-      let size₁ : length marks₁ ≡ length marks = ap length e ∙ length-sets marks 0 (replicate news 48) in
-      record {
-        finds = λ o p c coverage h r eo en ea room.
-            let old : Program = o .program in
-            let new : Program = p .program in
-            marks-by old new coverage marks marks₂ room (a .size ∙ size₁)
-            (λ x l.
-            let b : ltb x (edgeCount new) ≡ true = lt-ltb x (edgeCount new) l in
-            a .carries o p c coverage h r eo x (omega arith)
-            ∙ ap (λ (k : ℕ). carried (getD marks₁ x 0) (any k (carriesTo old new coverage x)) (any k (carriesOnlyTo old new coverage x))) eo
-            ∙ ap (λ (m : ℕ). carried m (any (edgeCount old) (carriesTo old new coverage x)) (any (edgeCount old) (carriesOnlyTo old new coverage x)))
-            (ap (λ (m : List ℕ). getD m x 0) e ∙ filled-in marks news 48 (omega arith) x (omega arith))
-            ∙ ap₂ (carried 48) (any-agree _ (carriesOf old new coverage x) (edgeCount old) (λ k _. yes-and _ b)) (any-agree _ (carriesOnly old new coverage x) (edgeCount old) (λ k _. yes-and _ b))
-            ∙ mark-left old new coverage x (sym ea ∙ y))
-            (λ x l.
-            below-or x (length marks)
-            (λ s.
-            let b : ltb x (edgeCount new) ≡ false = le-ltb x (edgeCount new) l in
-            let out : (g : ℕ → Bool) (k : ℕ) → any k (λ e. ltb x (edgeCount new) and g e) ≡ false
-            = λ g k. fails _ (λ t. let u = any-at (λ e. ltb x (edgeCount new) and g e) k t in both-ways (and-left _ _ (u .2)) b) in
-            a .carries o p c coverage h r eo x (omega arith)
-            ∙ ap₂ (carried (getD marks₁ x 0)) (out (carriesOf old new coverage x) olds) (out (carriesOnly old new coverage x) olds)
-            ∙ carried-none (getD marks₁ x 0) ∙ ap (λ (m : List ℕ). getD m x 0) e ∙ filled-past marks news 48 x (omega arith))
-            (λ s. List·getD-eq-default marks₂ 0 (omega (arith, a .size)) ∙ sym (List·getD-eq-default marks 0 s)));
-        size = a .size ∙ size₁;
-      }
+past-end : (marks marks′ : List ℕ) → length marks′ ≡ length marks → (x : ℕ) → (x < length marks → getD marks′ x 0 ≡ getD marks x 0) → getD marks′ x 0 ≡ getD marks x 0
+past-end marks marks′ size x h = below-or x (length marks) h (λ s. List·getD-eq-default marks′ 0 (omega arith) ∙ sym (List·getD-eq-default marks 0 s))
 
-pub ruleset marks = (fill-start, fill-on, fill-full, fill-end, marks-repeated, marks-carried)
+-- The mark of a repeated test, where `endangered` is said by its old edges.
+open-mark : (old new : Program) (coverage : Coverage) (x : ℕ) → meets (dangers old new) coverage ≡ true
+    → choose (has (probes old new) x) 63 (lifted 49 (carried 48 (any (edgeCount old) (carriesOf old new coverage x)) (any (edgeCount old) (carriesOnly old new coverage x)))
+    (any (edgeCount old) (λ e. carriesOf old new coverage x e and has (afterDangers old new) e))) ≡ markByte (mark old new coverage x)
+unfolding endangered
+open-mark = mark-open
+
+module _ (on ol nn nl w rows : List ℕ) (i olds news : ℕ) (marks marks₁ marks₂ : List ℕ) (e : marks₁ ≡ sets marks 0 (replicate news 48)) (a : AllCarried on ol nn nl w rows i olds olds marks₁ marks₂) where
+  carried-size : length marks₂ ≡ length marks
+  carried-size = a .size ∙ ap length e ∙ length-sets marks 0 (replicate news 48)
+
+  module _ (o p : Listing) (c : ℕ) (coverage : Coverage) (h : Compared on ol nn nl w c o p) (r : Row (edgeCount (o .program)) rows i coverage) (eo : olds ≡ edgeCount (o .program))
+      (en : news ≡ edgeCount (p .program)) (room : edgeCount (p .program) ≤ length marks) where
+    abbrev old : Program
+    old = o .program
+
+    abbrev new : Program
+    new = p .program
+
+    -- The mark of a new edge after all old edges; what stands behind the marks.
+    carried-at : (x : ℕ) → x < edgeCount new → getD marks₂ x 0 ≡ carried 48 (any (edgeCount old) (carriesOf old new coverage x)) (any (edgeCount old) (carriesOnly old new coverage x))
+    unfolding CarriesTo
+    carried-at x l =
+        let b : ltb x (edgeCount new) ≡ true = lt-ltb x (edgeCount new) l in
+        let long : length marks₁ ≡ length marks = ap length e ∙ length-sets marks 0 (replicate news 48) in
+        a .carries o p c coverage h r eo x (omega arith)
+        ∙ ap (λ (k : ℕ). carried (getD marks₁ x 0) (any k (carriesTo old new coverage x)) (any k (carriesOnlyTo old new coverage x))) eo
+        ∙ ap (λ (m : ℕ). carried m (any (edgeCount old) (carriesTo old new coverage x)) (any (edgeCount old) (carriesOnlyTo old new coverage x)))
+        (ap (λ (m : List ℕ). getD m x 0) e ∙ filled-in marks news 48 (omega arith) x (omega arith))
+        ∙ ap₂ (carried 48) (any-agree _ (carriesOf old new coverage x) (edgeCount old) (λ k _. yes-and _ b)) (any-agree _ (carriesOnly old new coverage x) (edgeCount old) (λ k _. yes-and _ b))
+
+    carried-past : (x : ℕ) → edgeCount new ≤ x → x < length marks → getD marks₂ x 0 ≡ getD marks x 0
+    unfolding CarriesTo
+    carried-past x l s =
+        let long : length marks₁ ≡ length marks = ap length e ∙ length-sets marks 0 (replicate news 48) in
+        a .carries o p c coverage h r eo x (omega arith)
+        ∙ ap₂ (carried (getD marks₁ x 0)) (none-past new x l (carriesOf old new coverage x) olds) (none-past new x l (carriesOnly old new coverage x) olds)
+        ∙ carried-none (getD marks₁ x 0) ∙ ap (λ (m : List ℕ). getD m x 0) e ∙ filled-past marks news 48 x (omega arith)
+
+  module _ (again : Bool) (probed after : List ℕ) where
+    pub marks-left : again ≡ false → MarksFound on ol nn nl w rows i olds news again probed after marks marks₂
+    unfolding Finds
+    marks-left y =
+        record {
+          finds = λ o p c coverage h r eo en ea sets room.
+              marks-by (o .program) (p .program) coverage marks marks₂ room carried-size
+              (λ x l. carried-at o p c coverage h r eo en room x l ∙ mark-left (o .program) (p .program) coverage x (sym ea ∙ y))
+              (λ x l. past-end marks marks₂ carried-size x (carried-past o p c coverage h r eo en room x l));
+          size = carried-size;
+        }
+
+    pub marks-open : (marks₃ marks₄ : List ℕ) → again ≡ true → AllOpened on ol nn nl w rows i after olds olds marks₂ marks₃ → SetOpened probed news marks₃ marks₄
+        → MarksFound on ol nn nl w rows i olds news again probed after marks marks₄
+    unfolding Finds OpensTo
+    marks-open marks₃ marks₄ y m n =
+        let size : length marks₄ ≡ length marks = n .size ∙ m .size ∙ carried-size in
+        record {
+          finds = λ o p c coverage h r eo en ea sets room.
+              let two = sets y in
+              let at : (x : ℕ) → x < length marks
+              → getD marks₄ x 0 ≡ choose (ltb x (edgeCount (p .program)) and bitIn probed x) 63 (lifted 49 (getD marks₂ x 0) (any (edgeCount (o .program)) (opensTo (o .program) (p .program) coverage x)))
+              = λ x s.
+              n .opens x (omega (arith, m .size, carried-size))
+              ∙ ap₂ (λ (k v : ℕ). choose (ltb x k and bitIn probed x) 63 v) en
+              (m .opens o p c coverage h r (two .1) eo x (omega (arith, carried-size)) ∙ ap (λ (k : ℕ). lifted 49 (getD marks₂ x 0) (any k (opensTo (o .program) (p .program) coverage x))) eo) in
+              marks-by (o .program) (p .program) coverage marks marks₄ room size
+              (λ x l.
+              let b : ltb x (edgeCount (p .program)) ≡ true = lt-ltb x (edgeCount (p .program)) l in
+              at x (omega arith)
+              ∙ ap₂ (λ (q : Bool) (v : ℕ). choose q 63 v) (yes-and _ b ∙ two .0 x l)
+              (ap₂ (lifted 49) (carried-at o p c coverage h r eo en room x l) (any-agree _ _ (edgeCount (o .program)) (λ k _. yes-and _ b)))
+              ∙ open-mark (o .program) (p .program) coverage x (sym ea ∙ y))
+              (λ x l.
+              past-end marks marks₄ size x (λ s.
+              at x s
+              ∙ choose-no _ _ (fails _ (λ t. both-ways (and-left _ _ t) (le-ltb x (edgeCount (p .program)) l)))
+              ∙ ap (lifted 49 (getD marks₂ x 0)) (none-past (p .program) x l (λ e. carriesOf (o .program) (p .program) coverage x e and has (afterDangers (o .program) (p .program)) e) (edgeCount (o .program)))
+              ∙ lifted-none 49 (getD marks₂ x 0) ∙ carried-past o p c coverage h r eo en room x l s));
+          size = size;
+        }
+
+pub ruleset marks = (fill-start, fill-on, fill-full, fill-end, marks-left, marks-open)

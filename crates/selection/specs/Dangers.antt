@@ -9,9 +9,13 @@ use Rattle.rules.specs.Graph.{Program}
 use Rattle.rules.specs.Closing.{dangers}
 use Rattle.pairset.specs.Store.{dangerIn}
 
+-- Of the edges below n the set, words of 64 bits, lowest bit first, has just those of the list.
+abbrev pub SetOf : ℕ → List ℕ → List ℕ → Type 0
+SetOf n l set = (e : ℕ) → e < n → bitIn set e ≡ has l e
+
 -- The set, 16 words of 64 bits, lowest bit first, has just the dangerous edges.
 pub record DangerSet (old new : Program) (set : List ℕ) : Type 0 where
-  pub bits : (e : ℕ) → e < 1024 → bitIn set e ≡ has (dangers old new) e
+  pub bits : SetOf 1024 (dangers old new) set
 
 -- `copy_dangers`: where the table holds the dangerous edges, the first 16 words are the set, and else they are left open; what stands behind them stays.
 unfoldable pub Copies : List ℕ → List ℕ → List ℕ → Type 0

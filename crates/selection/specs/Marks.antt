@@ -2,20 +2,22 @@
 -- and `1` (49) once a crossed one has it as its only counterpart. Each claim is for tables that hold two programs, their pairs and the test's row; the marks for others are left
 -- open, their number excepted.
 use mathlib.Core.Path.{_≡_}
-use mathlib.Core.Bool.{Bool, true, false}
+use mathlib.Core.Bool.{Bool, true}
 use mathlib.Core.List.{List}
 use Prim.Native.Nat.{ℕ, _-_, _≤_, _<_}
-use lib.Dec.{eqb, ltb}
+use lib.Dec.{eqb, leb, ltb}
 use lib.ListN.{getD, length, set}
 use lib.Seq.{sets}
-use Rattle.laws.specs.Tests.{_and_, _⇒_, any, choose, every, first, found, isnt, listed}
+use Rattle.laws.specs.Tests.{_and_, _⇒_, any, choose, every, first, found, has, isnt, listed}
+use Rattle.laws.specs.Bits.{bitIn}
 use Rattle.rules.specs.Graph.{Program, edgeCount, sourceAt}
-use Rattle.rules.specs.Closing.{Coverage, carries, carriesOnly, dangers, joined, meets, pairs}
+use Rattle.rules.specs.Closing.{Coverage, afterDangers, carries, carriesOnly, dangers, joined, meets, pairs, probes}
 use Rattle.rules.specs.Sheet.{marksOf}
 use Rattle.rules.specs.ProgramFile.{Listing}
 use Rattle.pairset.specs.Store.{pairsIn}
 use Rattle.coverage.specs.Rows.{Row}
 use Rattle.selection.specs.Compared.{Compared, counterpart}
+use Rattle.selection.specs.Dangers.{SetOf}
 
 -- `joins`: 1 + the edge of the new node m that is joined with the old edge e, which leaves the node n, for the pair of n and m, or 0.
 unfoldable pub Joins : List ℕ → List ℕ → List ℕ → List ℕ → List ℕ → ℕ → ℕ → ℕ → ℕ → Type 0
@@ -40,26 +42,30 @@ Only on ol nn nl w e r =
     (o p : Listing) (c : ℕ) → Compared on ol nn nl w c o p → e < edgeCount (o .program)
     → r ≡ found (first (edgeCount (p .program)) (sole (edgeCount (p .program)) (joined (o .program) (p .program) (pairs (o .program) (p .program)) e)))
 
+-- A mark that is not above `most` is raised to `?`, where `is` says so: with 48 a `0`, with 49 a `0` or `1`.
+unfoldable pub lifted : ℕ → ℕ → Bool → ℕ
+lifted most m is = choose (is and leb m most) 63 m
+
 -- A mark after an old edge: of which the new edge is a counterpart, or is not; the only one, or not.
 unfoldable pub carried : ℕ → Bool → Bool → ℕ
-carried m is only = choose only 49 (choose (is and eqb m 48) 63 m)
+carried m is only = choose only 49 (lifted 48 m is)
 
--- `raise`: a mark `0` of the edge f - 1 becomes `?`.
-unfoldable pub raised : List ℕ → ℕ → List ℕ
-raised marks f = choose (ltb 0 f and eqb (getD marks (f - 1) 0) 48) (set marks (f - 1) 63) marks
+-- `raise`: the mark of the edge f - 1 is raised.
+unfoldable pub raised : List ℕ → ℕ → ℕ → List ℕ
+raised marks f most = choose (ltb 0 f and leb (getD marks (f - 1) 0) most) (set marks (f - 1) 63) marks
 
 -- `mark_one`: the mark of the edge f - 1 becomes `1`.
 unfoldable pub markedOne : List ℕ → ℕ → List ℕ
 markedOne marks f = choose (ltb 0 f) (set marks (f - 1) 49) marks
 
--- `raise_all`: each mark `0` of a counterpart of the old edge e becomes `?`.
-unfoldable pub Raises : List ℕ → List ℕ → List ℕ → List ℕ → List ℕ → ℕ → List ℕ → List ℕ → Type 0
-Raises on ol nn nl w e marks marks′ =
+-- `raise_all`: each mark of a counterpart of the old edge e is raised.
+unfoldable pub Raises : List ℕ → List ℕ → List ℕ → List ℕ → List ℕ → ℕ → ℕ → List ℕ → List ℕ → Type 0
+Raises on ol nn nl w e most marks marks′ =
     (o p : Listing) (c : ℕ) → Compared on ol nn nl w c o p → e < edgeCount (o .program) → (x : ℕ) → x < length marks
-    → getD marks′ x 0 ≡ carried (getD marks x 0) (ltb x (edgeCount (p .program)) and joined (o .program) (p .program) (pairs (o .program) (p .program)) e x) false
+    → getD marks′ x 0 ≡ lifted most (getD marks x 0) (ltb x (edgeCount (p .program)) and joined (o .program) (p .program) (pairs (o .program) (p .program)) e x)
 
-pub record AllRaised (on ol nn nl w : List ℕ) (e : ℕ) (marks marks′ : List ℕ) : Type 0 where
-  pub raises : Raises on ol nn nl w e marks marks′
+pub record AllRaised (on ol nn nl w : List ℕ) (e most : ℕ) (marks marks′ : List ℕ) : Type 0 where
+  pub raises : Raises on ol nn nl w e most marks marks′
   pub size : length marks′ ≡ length marks
 
 -- The old edge e was crossed and has the new edge x as a counterpart; as its only one.
@@ -89,13 +95,45 @@ pub record AllCarried (on ol nn nl w rows : List ℕ) (i edges k : ℕ) (marks m
   pub carries : CarriesTo on ol nn nl w rows i edges k marks marks′
   pub size : length marks′ ≡ length marks
 
--- `find_marks`: the marks of the test i, one for each new edge, and what stands behind them.
-unfoldable pub Finds : List ℕ → List ℕ → List ℕ → List ℕ → List ℕ → List ℕ → ℕ → ℕ → ℕ → Bool → List ℕ → List ℕ → Type 0
-Finds on ol nn nl w rows i olds news again marks marks′ =
-    (o p : Listing) (c : ℕ) (coverage : Coverage) → Compared on ol nn nl w c o p → Row (edgeCount (o .program)) rows i coverage → olds ≡ edgeCount (o .program) → news ≡ edgeCount (p .program)
-    → again ≡ meets (dangers (o .program) (p .program)) coverage → edgeCount (p .program) ≤ length marks
-    → marks′ ≡ sets marks 0 (marksOf (o .program) (p .program) coverage (edgeCount (p .program)))
+-- The old edge e, which was crossed, has the new edge x as a counterpart and lies after a danger.
+abbrev pub opensTo : Program → Program → Coverage → ℕ → ℕ → Bool
+opensTo old new coverage x e = ltb x (edgeCount new) and (carries old new coverage x e and has (afterDangers old new) e)
 
-pub record MarksFound (on ol nn nl w rows : List ℕ) (i olds news : ℕ) (again : Bool) (marks marks′ : List ℕ) : Type 0 where
-  pub finds : Finds on ol nn nl w rows i olds news again marks marks′
+-- `open_edge`: the marks after the old edge e, where the set has the edges after a danger.
+unfoldable pub Opens : List ℕ → List ℕ → List ℕ → List ℕ → List ℕ → List ℕ → ℕ → List ℕ → ℕ → List ℕ → List ℕ → Type 0
+Opens on ol nn nl w rows i after e marks marks′ =
+    (o p : Listing) (c : ℕ) (coverage : Coverage) → Compared on ol nn nl w c o p → Row (edgeCount (o .program)) rows i coverage
+    → SetOf (edgeCount (o .program)) (afterDangers (o .program) (p .program)) after → e < edgeCount (o .program) → (x : ℕ) → x < length marks
+    → getD marks′ x 0 ≡ lifted 49 (getD marks x 0) (opensTo (o .program) (p .program) coverage x e)
+
+pub record Opened (on ol nn nl w rows : List ℕ) (i : ℕ) (after : List ℕ) (e : ℕ) (marks marks′ : List ℕ) : Type 0 where
+  pub opens : Opens on ol nn nl w rows i after e marks marks′
+  pub size : length marks′ ≡ length marks
+
+-- `open_all`: the marks after the first k old edges.
+unfoldable pub OpensTo : List ℕ → List ℕ → List ℕ → List ℕ → List ℕ → List ℕ → ℕ → List ℕ → ℕ → ℕ → List ℕ → List ℕ → Type 0
+OpensTo on ol nn nl w rows i after edges k marks marks′ =
+    (o p : Listing) (c : ℕ) (coverage : Coverage) → Compared on ol nn nl w c o p → Row (edgeCount (o .program)) rows i coverage
+    → SetOf (edgeCount (o .program)) (afterDangers (o .program) (p .program)) after → edges ≡ edgeCount (o .program) → (x : ℕ) → x < length marks
+    → getD marks′ x 0 ≡ lifted 49 (getD marks x 0) (any k (opensTo (o .program) (p .program) coverage x))
+
+pub record AllOpened (on ol nn nl w rows : List ℕ) (i : ℕ) (after : List ℕ) (edges k : ℕ) (marks marks′ : List ℕ) : Type 0 where
+  pub opens : OpensTo on ol nn nl w rows i after edges k marks marks′
+  pub size : length marks′ ≡ length marks
+
+-- `open_set`: the edges of the set, of the first k, are marked `?`.
+pub record SetOpened (set : List ℕ) (k : ℕ) (marks marks′ : List ℕ) : Type 0 where
+  pub opens : (x : ℕ) → x < length marks → getD marks′ x 0 ≡ choose (ltb x k and bitIn set x) 63 (getD marks x 0)
+  pub size : length marks′ ≡ length marks
+
+-- `find_marks`: the marks of the test i, one for each new edge, and what stands behind them. The two sets count only for a test that is repeated.
+unfoldable pub Finds : List ℕ → List ℕ → List ℕ → List ℕ → List ℕ → List ℕ → ℕ → ℕ → ℕ → Bool → List ℕ → List ℕ → List ℕ → List ℕ → Type 0
+Finds on ol nn nl w rows i olds news again probed after marks marks′ =
+    (o p : Listing) (c : ℕ) (coverage : Coverage) → Compared on ol nn nl w c o p → Row (edgeCount (o .program)) rows i coverage → olds ≡ edgeCount (o .program) → news ≡ edgeCount (p .program)
+    → again ≡ meets (dangers (o .program) (p .program)) coverage
+    → (again ≡ true → SetOf (edgeCount (p .program)) (probes (o .program) (p .program)) probed × SetOf (edgeCount (o .program)) (afterDangers (o .program) (p .program)) after)
+    → edgeCount (p .program) ≤ length marks → marks′ ≡ sets marks 0 (marksOf (o .program) (p .program) coverage (edgeCount (p .program)))
+
+pub record MarksFound (on ol nn nl w rows : List ℕ) (i olds news : ℕ) (again : Bool) (probed after marks marks′ : List ℕ) : Type 0 where
+  pub finds : Finds on ol nn nl w rows i olds news again probed after marks marks′
   pub size : length marks′ ≡ length marks

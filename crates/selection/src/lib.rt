@@ -5,7 +5,7 @@ ghost use lib.ListN.{replicate};
 ghost use lib.Seq.{sets};
 ghost use Rattle.selection.specs.Compared.{Fitting};
 ghost use Rattle.selection.specs.Dangers.{DangersCopied};
-ghost use Rattle.selection.specs.Marks.{AllCarried, AllRaised, Carried, Joins, MarksFound, Only, differs, eitherOf, markedOne, raised};
+ghost use Rattle.selection.specs.Marks.{AllCarried, AllOpened, AllRaised, Carried, Joins, MarksFound, Only, Opened, SetOpened, differs, eitherOf, markedOne, raised};
 
 // ---- an old edge at a pair
 
@@ -118,9 +118,9 @@ fn only_counterpart(
 
 // ---- marks
 
-// Makes a mark `0` of the edge f - 1 a `?`.
-fn raise(marks: &mut [u8], f: usize)
-    ensures { λ _. ⌜ now (marks .exit) ≡ raised (now (marks .entry)) f ⌝ }
+// Makes the mark of the edge f - 1 a `?` where it is not above `most`: 48 for `0` alone, 49 for `0` and `1`.
+fn raise(marks: &mut [u8], f: usize, most: u8)
+    ensures { λ _. ⌜ now (marks .exit) ≡ raised (now (marks .entry)) f most ⌝ }
 {
     if f == 0 {
         return;
@@ -129,12 +129,12 @@ fn raise(marks: &mut [u8], f: usize)
     if marks.len() <= x {
         return;
     }
-    if marks[x] == 48 {
+    if marks[x] <= most {
         marks[x] = 63;
     }
 }
 
-// Makes each mark `0` of a counterpart of the old edge e a `?`.
+// Makes each mark, not above `most`, of a counterpart of the old edge e a `?`.
 fn raise_all(
     on: &[usize],
     ol: &[usize],
@@ -142,9 +142,10 @@ fn raise_all(
     nl: &[usize],
     w: &[usize],
     e: usize,
+    most: u8,
     marks: &mut [u8],
 )
-    ensures { λ _. ⌜ AllRaised (now (on .entry)) (now (ol .entry)) (now (nn .entry)) (now (nl .entry)) (now (w .entry)) e (now (marks .entry)) (now (marks .exit)) ⌝ }
+    ensures { λ _. ⌜ AllRaised (now (on .entry)) (now (ol .entry)) (now (nn .entry)) (now (nl .entry)) (now (w .entry)) e most (now (marks .entry)) (now (marks .exit)) ⌝ }
 {
     let n = versions::source(ol, e);
     let mut place = pairset::last_pair(w, n);
@@ -152,7 +153,7 @@ fn raise_all(
         let k = place - 1;
         let m = pairset::new_of(w, k);
         let f = joins(on, ol, nn, nl, w, e, n, m);
-        raise(marks, f);
+        raise(marks, f, most);
         place = pairset::pair_before(w, k);
     }
 }
@@ -188,7 +189,7 @@ fn carry(
     if coverage::covers(rows, test, e) {
         let f = only_counterpart(on, ol, nn, nl, w, e);
         if f == 0 {
-            raise_all(on, ol, nn, nl, w, e, marks);
+            raise_all(on, ol, nn, nl, w, e, 48, marks);
             return;
         }
         mark_one(marks, f);
@@ -218,6 +219,71 @@ fn carry_all(
     }
 }
 
+// Leaves the counterparts of the old edge e open, if the test covers it and it lies after a danger: each is marked `?`.
+fn open_edge(
+    on: &[usize],
+    ol: &[usize],
+    nn: &[usize],
+    nl: &[usize],
+    w: &[usize],
+    rows: &[u64],
+    test: usize,
+    after: &[u64],
+    e: usize,
+    marks: &mut [u8],
+)
+    requires { ⌜ test ≤ 200 ⌝ }
+    ensures { λ _. ⌜ Opened (now (on .entry)) (now (ol .entry)) (now (nn .entry)) (now (nl .entry)) (now (w .entry)) (now (rows .entry)) test (now (after .entry)) e (now (marks .entry)) (now (marks .exit)) ⌝ }
+{
+    if coverage::covers(rows, test, e) {
+        if coverage::in_set(after, e) {
+            raise_all(on, ol, nn, nl, w, e, 49, marks);
+            return;
+        }
+    }
+}
+
+// Leaves open what every old edge does.
+fn open_all(
+    on: &[usize],
+    ol: &[usize],
+    nn: &[usize],
+    nl: &[usize],
+    w: &[usize],
+    rows: &[u64],
+    test: usize,
+    after: &[u64],
+    edges: usize,
+    marks: &mut [u8],
+)
+    requires { ⌜ test ≤ 200 ⌝ }
+    ensures { λ _. ⌜ AllOpened (now (on .entry)) (now (ol .entry)) (now (nn .entry)) (now (nl .entry)) (now (w .entry)) (now (rows .entry)) test (now (after .entry)) edges edges (now (marks .entry)) (now (marks .exit)) ⌝ }
+{
+    let mut e = 0;
+    while e < edges {
+        open_edge(on, ol, nn, nl, w, rows, test, after, e, marks);
+        e += 1;
+    }
+}
+
+// Marks the edges of the set, of the first n, with `?`, as far as the slice goes.
+fn open_set(marks: &mut [u8], n: usize, set: &[u64])
+    ensures { λ _. ⌜ SetOpened (now (set .entry)) n (now (marks .entry)) (now (marks .exit)) ⌝ }
+{
+    let mut x = 0;
+    while x < n {
+        if marks.len() <= x {
+            return;
+        }
+        if coverage::in_set(set, x) {
+            marks[x] = 63;
+            x += 1;
+        } else {
+            x += 1;
+        }
+    }
+}
+
 // Puts the byte b at the first n places, as far as the slice goes.
 fn fill(marks: &mut [u8], n: usize, b: u8)
     ensures { λ _. ⌜ now (marks .exit) ≡ sets (now (marks .entry)) 0 (replicate n b) ⌝ }
@@ -232,8 +298,9 @@ fn fill(marks: &mut [u8], n: usize, b: u8)
     }
 }
 
-// Finds the marks of a test, where the versions have so many edges: all are `?` if it is repeated. For tables that do not hold two programs, their
-// pairs and the test's row the marks are left open.
+// Finds the marks of a test, where the versions have so many edges. If it is repeated, those are left open, as `?`, of the new edges that have a
+// probe, and of the counterparts of covered edges after a danger. For tables that do not hold two programs, their pairs, the test's row and, if it
+// is repeated, these two sets the marks are left open.
 pub fn find_marks(
     on: &[usize],
     ol: &[usize],
@@ -245,15 +312,17 @@ pub fn find_marks(
     old_edges: usize,
     new_edges: usize,
     again: bool,
+    probes: &[u64],
+    after: &[u64],
     marks: &mut [u8],
 )
     requires { ⌜ test ≤ 200 ⌝ }
-    ensures { λ _. ⌜ MarksFound (now (on .entry)) (now (ol .entry)) (now (nn .entry)) (now (nl .entry)) (now (w .entry)) (now (rows .entry)) test «old_edges» «new_edges» again (now (marks .entry)) (now (marks .exit)) ⌝ }
+    ensures { λ _. ⌜ MarksFound (now (on .entry)) (now (ol .entry)) (now (nn .entry)) (now (nl .entry)) (now (w .entry)) (now (rows .entry)) test «old_edges» «new_edges» again (now (probes .entry)) (now (after .entry)) (now (marks .entry)) (now (marks .exit)) ⌝ }
 {
-    if again {
-        fill(marks, new_edges, 63);
-        return;
-    }
     fill(marks, new_edges, 48);
     carry_all(on, ol, nn, nl, w, rows, test, old_edges, marks);
+    if again {
+        open_all(on, ol, nn, nl, w, rows, test, after, old_edges, marks);
+        open_set(marks, new_edges, probes);
+    }
 }

@@ -7,10 +7,10 @@ use Rattle.selection.proofs.raise_all.Statement.{statement}
 use Rattle.selection.proofs.raise_all.Tie as tie
 
 abbrev Inv-loop : tie.InvT-loop
-Inv-loop on ol nn nl w e marks₀ n place₀ marks place = (length marks ≡ length marks₀) × RaisedFrom on ol nn nl w e n marks₀ marks place
+Inv-loop on ol nn nl w e most marks₀ n place₀ marks place = (length marks ≡ length marks₀) × RaisedFrom on ol nn nl w e most n marks₀ marks place
 
 abbrev μ-loop : tie.MeasureT-loop
-μ-loop on ol nn nl w e marks₀ n place₀ marks place = place
+μ-loop on ol nn nl w e most marks₀ n place₀ marks place = place
 
 source-requires : tie.Need-source-requires Inv-loop μ-loop
 source-requires c κs = search (all, needs)
