@@ -20,18 +20,18 @@ use Rattle.pairset.specs.Store.{lastPair, newAt, oldAt, pairBefore, pairsIn}
 use Rattle.pairset.specs.StoreLaws.{walked}
 use Rattle.versions.specs.Found.{none-found}
 use Rattle.versions.specs.Claims.{GoesOn}
-use Rattle.selection.specs.Compared.{Compared, Fitting, Leads, counterpart, joins-lead, pair-there}
-use Rattle.selection.specs.Marks.{Joins, Only, differs, eitherOf, sole}
+use Rattle.selection.specs.Compared.{Compared, Fitting, Joins, Leads, counterpart, joins-lead, pair-there}
+use Rattle.selection.specs.Marks.{Only, differs, eitherOf, sole}
 use Rattle.selection.proofs.Dangers.{goes-is, source-of}
 
 -- ---- `joins`
 
-module _ (on ol nn nl w : List ℕ) (e n m : ℕ) (g : Bool) (go : GoesOn on ol nn nl w n m g) where
-  pub joins-stays : g ≡ false → Joins on ol nn nl w e n m 0
+module _ (on ol nn nl w : List ℕ) (e n m : ℕ) (g met : Bool) (go : GoesOn on ol nn nl w n m g) where
+  pub joins-stays : g ≡ false → Joins on ol nn nl w e n m met 0
   unfolding Joins counterpart
   joins-stays z o p c h i en j = sym (choose-no _ 0 (rw (← en) (sym (goes-is on ol nn nl w e n m g go o p c h i en j) ∙ z)))
 
-  pub joins-goes : (t : ℕ) → g ≡ true → Fitting ol nl w e m t → Joins on ol nn nl w e n m t
+  pub joins-goes : (t : ℕ) → g ≡ true → Fitting ol nl w e m met t → Joins on ol nn nl w e n m met t
   unfolding Joins Fitting counterpart
   joins-goes t z f o p c h i en j =
       let x : goesOn (o .program) (p .program) (pairsIn w c) (sourceAt (o .program) e) m ≡ true = rw (← en) (sym (goes-is on ol nn nl w e n m g go o p c h i en j) ∙ z) in
@@ -141,15 +141,15 @@ unfoldable pub SeenTo : List ℕ → List ℕ → List ℕ → List ℕ → List
 SeenTo on ol nn nl w e n seen place =
     (o p : Listing) (c : ℕ) → Compared on ol nn nl w c o p → e < edgeCount (o .program)
     → (n ≡ sourceAt (o .program) e)
-    × Seen (joined (o .program) (p .program) (pairs (o .program) (p .program)) e) (edgeCount (p .program)) (oldAt w) (λ k. counterpart (o .program) (p .program) (pairsIn w c) e (newAt w k))
+    × Seen (joined (o .program) (p .program) (pairs (o .program) (p .program)) e) (edgeCount (p .program)) (oldAt w) (λ k. counterpart (o .program) (p .program) (pairsIn w c) true e (newAt w k))
     (sourceAt (o .program) e) c seen place
 
 -- What `joins` found for the pair k, in a walk along the pairs of the node that the old edge leaves.
-pub joins-here : {on ol nn nl w : List ℕ} {c : ℕ} {o p : Listing} → Compared on ol nn nl w c o p → (e n k m f : ℕ) → e < edgeCount (o .program) → n ≡ sourceAt (o .program) e → k < c → oldAt w k ≡ n → m ≡ newAt w k
-    → Joins on ol nn nl w e n m f → f ≡ counterpart (o .program) (p .program) (pairsIn w c) e (newAt w k)
+pub joins-here : {on ol nn nl w : List ℕ} {c : ℕ} {o p : Listing} → Compared on ol nn nl w c o p → (e n k m f : ℕ) (met : Bool) → e < edgeCount (o .program) → n ≡ sourceAt (o .program) e → k < c → oldAt w k ≡ n → m ≡ newAt w k
+    → Joins on ol nn nl w e n m met f → f ≡ counterpart (o .program) (p .program) (pairsIn w c) met e (newAt w k)
 unfolding Joins
-joins-here {w = w} {c = c} {o = o} {p = p} h e n k m f i en l a em j =
-    j o p c h i en (rw (← a, em) (pair-there w c k l)) ∙ ap (counterpart (o .program) (p .program) (pairsIn w c) e) em
+joins-here {w = w} {c = c} {o = o} {p = p} h e n k m f met i en l a em j =
+    j o p c h i en (rw (← a, em) (pair-there w c k l)) ∙ ap (counterpart (o .program) (p .program) (pairsIn w c) met e) em
 
 pub only-start : (on ol nn nl w : List ℕ) (e n place : ℕ) → n ≡ getD ol (edgeBase e) 0 → place ≡ lastPair w n → SeenTo on ol nn nl w e n 0 place
 unfolding SeenTo
@@ -163,13 +163,13 @@ module _ (on ol nn nl w : List ℕ) (e n seen place : ℕ) (inv : SeenTo on ol n
   only-end z o p c h i =
       seen-last (joins-lead h e) (lastPair w) (pairBefore w) (walked (h .held .store) (suc (sourceAt (o .program) e))) seen place (inv o p c h i .1) z
 
-  module _ (k m f : ℕ) (pos : 0 < place) (d : k ≡ place - 1) (em : m ≡ newAt w k) (j : Joins on ol nn nl w e n m f) (t : Bool) (et : t ≡ differs seen f) where
-    found-here : (o p : Listing) (c : ℕ) (h : Compared on ol nn nl w c o p) (i : e < edgeCount (o .program)) → f ≡ counterpart (o .program) (p .program) (pairsIn w c) e (newAt w (place - 1))
+  module _ (k m f : ℕ) (pos : 0 < place) (d : k ≡ place - 1) (em : m ≡ newAt w k) (j : Joins on ol nn nl w e n m true f) (t : Bool) (et : t ≡ differs seen f) where
+    found-here : (o p : Listing) (c : ℕ) (h : Compared on ol nn nl w c o p) (i : e < edgeCount (o .program)) → f ≡ counterpart (o .program) (p .program) (pairsIn w c) true e (newAt w (place - 1))
     unfolding SeenTo
     found-here o p c h i =
         let s = inv o p c h i in
         let l : k < c = omega (arith, s .1 .walk .within) in
-        joins-here h e n k m f i (s .0) l (ap (oldAt w) d ∙ s .1 .walk .owner pos ∙ sym (s .0)) em j ∙ ap (λ (x : ℕ). counterpart (o .program) (p .program) (pairsIn w c) e (newAt w x)) d
+        joins-here h e n k m f true i (s .0) l (ap (oldAt w) d ∙ s .1 .walk .owner pos ∙ sym (s .0)) em j ∙ ap (λ (x : ℕ). counterpart (o .program) (p .program) (pairsIn w c) true e (newAt w x)) d
 
     pub only-two : t ≡ true → Only on ol nn nl w e 0
     unfolding SeenTo Only

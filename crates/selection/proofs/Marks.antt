@@ -26,8 +26,8 @@ use Rattle.pairset.specs.StoreLaws.{walked}
 use Rattle.coverage.specs.Rows.{Row, edgeBit}
 use Rattle.versions.specs.Found.{found-at, found-none}
 use Rattle.laws.specs.Those.{any-more, any-skip}
-use Rattle.selection.specs.Compared.{Compared, counterpart, joins-lead, leads-any}
-use Rattle.selection.specs.Marks.{AllCarried, AllOpened, AllRaised, Carried, Carries, CarriesTo, Finds, Joins, MarksFound, Only, Opened, Opens, OpensTo, Raises, SetOpened, carried, carriesOnlyTo, carriesTo, lifted, markedOne, opensTo, raised, sole}
+use Rattle.selection.specs.Compared.{Compared, Joins, counterpart, joins-lead, leads-any}
+use Rattle.selection.specs.Marks.{AllCarried, AllOpened, AllRaised, Carried, Carries, CarriesTo, Finds, MarksFound, Only, Opened, Opens, OpensTo, Raises, SetOpened, carried, carriesOnlyTo, carriesTo, lifted, markedOne, opensTo, raised, sole}
 use Rattle.selection.specs.MarkLaws.{carried-lifted, carried-more, carried-none, carried-only, lifted-before, lifted-more, lifted-none, mark-left, mark-open, marks-by}
 use Rattle.selection.proofs.Dangers.{source-of}
 use Rattle.selection.proofs.Counterparts.{joins-here}
@@ -115,8 +115,8 @@ RaisesFrom on ol nn nl w e most n marks marks′ place =
     (o p : Listing) (c : ℕ) → Compared on ol nn nl w c o p → e < edgeCount (o .program)
     → (n ≡ sourceAt (o .program) e)
     × ((x : ℕ) → x < length marks → Left (oldAt w) (sourceAt (o .program) e) c
-    (lifted most (getD marks x 0) (any c (λ k. eqb (oldAt w k) (sourceAt (o .program) e) and eqb (counterpart (o .program) (p .program) (pairsIn w c) e (newAt w k)) (suc x))))
-    (λ j. lifted most (getD marks′ x 0) (any j (λ k. eqb (oldAt w k) (sourceAt (o .program) e) and eqb (counterpart (o .program) (p .program) (pairsIn w c) e (newAt w k)) (suc x)))) place)
+    (lifted most (getD marks x 0) (any c (λ k. eqb (oldAt w k) (sourceAt (o .program) e) and eqb (counterpart (o .program) (p .program) (pairsIn w c) true e (newAt w k)) (suc x))))
+    (λ j. lifted most (getD marks′ x 0) (any j (λ k. eqb (oldAt w k) (sourceAt (o .program) e) and eqb (counterpart (o .program) (p .program) (pairsIn w c) true e (newAt w k)) (suc x)))) place)
 
 pub record RaisedFrom (on ol nn nl w : List ℕ) (e most n : ℕ) (marks marks′ : List ℕ) (place : ℕ) : Type 0 where
   pub from : RaisesFrom on ol nn nl w e most n marks marks′ place
@@ -135,7 +135,7 @@ all-start on ol nn nl w e most n place marks en ep =
           let s : n ≡ sourceAt (o .program) e = source-of e n h i en in (
             s,
             λ x l. rw (ep, s) (left-start (walked (h .held .store) (suc (sourceAt (o .program) e))) (sourceAt (o .program) e) (omega arith)
-                (raises-blind w (sourceAt (o .program) e) (λ k. counterpart (o .program) (p .program) (pairsIn w c) e (newAt w k)) x most (getD marks x 0))),
+                (raises-blind w (sourceAt (o .program) e) (λ k. counterpart (o .program) (p .program) (pairsIn w c) true e (newAt w k)) x most (getD marks x 0))),
           );
       size = refl;
     }
@@ -148,14 +148,14 @@ module _ (on ol nn nl w : List ℕ) (e most n : ℕ) (marks marks₁ : List ℕ)
         raises = λ o p c h i x l.
             let r = inv .from o p c h i .1 x l in
             let y : place ≡ 0 = omega arith in
-            let to : ℕ → ℕ = λ k. counterpart (o .program) (p .program) (pairsIn w c) e (newAt w k) in
+            let to : ℕ → ℕ = λ k. counterpart (o .program) (p .program) (pairsIn w c) true e (newAt w k) in
             sym (lifted-none most (getD marks₁ x 0))
             ∙ ap (λ (j : ℕ). lifted most (getD marks₁ x 0) (any j (λ k. eqb (oldAt w k) (sourceAt (o .program) e) and eqb (to k) (suc x)))) (sym y)
             ∙ sym (r .rest) ∙ ap (λ (t : Bool). lifted most (getD marks x 0) t) (leads-any (joins-lead h e) x);
         size = inv .size;
       }
 
-  pub all-on : (k m f next : ℕ) (marks₂ : List ℕ) → 0 < place → k ≡ place - 1 → m ≡ newAt w k → Joins on ol nn nl w e n m f → marks₂ ≡ raised marks₁ f most → next ≡ pairBefore w k
+  pub all-on : (k m f next : ℕ) (marks₂ : List ℕ) → 0 < place → k ≡ place - 1 → m ≡ newAt w k → Joins on ol nn nl w e n m true f → marks₂ ≡ raised marks₁ f most → next ≡ pairBefore w k
       → RaisedFrom on ol nn nl w e most n marks marks₂ next
   unfolding RaisesFrom
   all-on k m f next marks₂ pos d em j er en =
@@ -163,13 +163,13 @@ module _ (on ol nn nl w : List ℕ) (e most n : ℕ) (marks marks₁ : List ℕ)
         from = λ o p c h i.
             let r = inv .from o p c h i in
             let a : ℕ = sourceAt (o .program) e in
-            let to : ℕ → ℕ = λ k. counterpart (o .program) (p .program) (pairsIn w c) e (newAt w k) in (
+            let to : ℕ → ℕ = λ k. counterpart (o .program) (p .program) (pairsIn w c) true e (newAt w k) in (
               r .0,
               λ x l.
                   let y = r .1 x l in
                   let b : k < c = omega (arith, y .within) in
                   let own : oldAt w k ≡ a = ap (oldAt w) d ∙ y .owner pos in
-                  let q : f ≡ to k = joins-here h e n k m f i (r .0) b (own ∙ sym (r .0)) em j in
+                  let q : f ≡ to k = joins-here h e n k m f true i (r .0) b (own ∙ sym (r .0)) em j in
                   let T : ℕ → Bool = λ k. eqb (oldAt w k) a and eqb (to k) (suc x) in
                   let here : T k ≡ eqb f (suc x) = yes-and _ (eq-eqb _ _ own) ∙ ap (λ (u : ℕ). eqb u (suc x)) (sym q) in
                   let g : getD marks₂ x 0 ≡ lifted most (getD marks₁ x 0) (T k)

@@ -16,14 +16,8 @@ use Rattle.rules.specs.Sheet.{marksOf}
 use Rattle.rules.specs.ProgramFile.{Listing}
 use Rattle.pairset.specs.Store.{pairsIn}
 use Rattle.coverage.specs.Rows.{Row}
-use Rattle.selection.specs.Compared.{Compared, counterpart}
+use Rattle.selection.specs.Compared.{Compared}
 use Rattle.selection.specs.Dangers.{SetOf}
-
--- `joins`: 1 + the edge of the new node m that is joined with the old edge e, which leaves the node n, for the pair of n and m, or 0.
-unfoldable pub Joins : List ℕ → List ℕ → List ℕ → List ℕ → List ℕ → ℕ → ℕ → ℕ → ℕ → Type 0
-Joins on ol nn nl w e n m r =
-    (o p : Listing) (c : ℕ) → Compared on ol nn nl w c o p → e < edgeCount (o .program) → n ≡ sourceAt (o .program) e → listed (pairsIn w c) n m ≡ true
-    → r ≡ counterpart (o .program) (p .program) (pairsIn w c) e m
 
 -- `differ`: both are numbers found, and not the same one. `either`: the first, or the second where the first is none.
 unfoldable pub differs : ℕ → ℕ → Bool

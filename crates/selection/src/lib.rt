@@ -3,16 +3,29 @@ ghost use mathlib.Core.Path.{_≡_};
 ghost use Prim.Native.Nat.{_≤_};
 ghost use lib.ListN.{replicate};
 ghost use lib.Seq.{sets};
-ghost use Rattle.selection.specs.Compared.{Fitting};
+ghost use Rattle.selection.specs.Compared.{Fitting, Joins, sameBool};
 ghost use Rattle.selection.specs.Dangers.{DangersCopied};
-ghost use Rattle.selection.specs.Marks.{AllCarried, AllOpened, AllRaised, Carried, Joins, MarksFound, Only, Opened, SetOpened, differs, eitherOf, markedOne, raised};
+ghost use Rattle.selection.specs.Marks.{AllCarried, AllOpened, AllRaised, Carried, MarksFound, Only, Opened, SetOpened, differs, eitherOf, markedOne, raised};
 
 // ---- an old edge at a pair
 
-// 1 + the edge of the new node m that fits the old edge e, or 0, where the node that e leaves and m are a pair that may go on: then the ends are
-// alike just where they are a pair.
-fn fitting(ol: &[usize], nl: &[usize], w: &[usize], e: usize, m: usize) -> usize
-    ensures { λ r. ⌜ Fitting (now (ol .entry)) (now (nl .entry)) (now (w .entry)) e m r ⌝ }
+// Whether both are true or both are not.
+fn same_bool(a: bool, b: bool) -> bool
+    ensures { λ r. ⌜ r ≡ sameBool a b ⌝ }
+{
+    if a {
+        return b;
+    }
+    if b {
+        return false;
+    }
+    true
+}
+
+// 1 + the edge of the new node m that has the word of the old edge e, if the ends are alike, or, if `met` is false, are not; or 0; where the node that
+// e leaves and m are a pair that may go on: then the ends are alike just where they are a pair.
+fn fitting(ol: &[usize], nl: &[usize], w: &[usize], e: usize, m: usize, met: bool) -> usize
+    ensures { λ r. ⌜ Fitting (now (ol .entry)) (now (nl .entry)) (now (w .entry)) e m met r ⌝ }
 {
     let t = versions::taken(ol, nl, e, m);
     if t == 0 {
@@ -20,8 +33,30 @@ fn fitting(ol: &[usize], nl: &[usize], w: &[usize], e: usize, m: usize) -> usize
     }
     let a = versions::target(ol, e);
     let b = versions::target(nl, t - 1);
-    if pairset::has(w, a, b) {
+    let paired = pairset::has(w, a, b);
+    if same_bool(paired, met) {
         return t;
+    }
+    0
+}
+
+// For the pair of n, which the old edge e leaves, and m: 1 + the edge of m that is joined with e, or, if `met` is false, that parts from it: it has the
+// word of e, and the ends are not alike; or 0. For tables that do not hold two programs and their pairs it is left open.
+pub fn joins(
+    on: &[usize],
+    ol: &[usize],
+    nn: &[usize],
+    nl: &[usize],
+    w: &[usize],
+    e: usize,
+    n: usize,
+    m: usize,
+    met: bool,
+) -> usize
+    ensures { λ r. ⌜ Joins (now (on .entry)) (now (ol .entry)) (now (nn .entry)) (now (nl .entry)) (now (w .entry)) e n m met r ⌝ }
+{
+    if versions::goes_on(on, ol, nn, nl, w, n, m) {
+        return fitting(ol, nl, w, e, m, met);
     }
     0
 }
@@ -43,25 +78,6 @@ pub fn copy_dangers(w: &[usize], set: &mut [u64])
 }
 
 // ---- counterparts
-
-// 1 + the edge of the new node m that is joined with the old edge e, which leaves the node n, for the pair of n and m, or 0.
-fn joins(
-    on: &[usize],
-    ol: &[usize],
-    nn: &[usize],
-    nl: &[usize],
-    w: &[usize],
-    e: usize,
-    n: usize,
-    m: usize,
-) -> usize
-    ensures { λ r. ⌜ Joins (now (on .entry)) (now (ol .entry)) (now (nn .entry)) (now (nl .entry)) (now (w .entry)) e n m r ⌝ }
-{
-    if versions::goes_on(on, ol, nn, nl, w, n, m) {
-        return fitting(ol, nl, w, e, m);
-    }
-    0
-}
 
 // Whether both are edges found, and not the same one.
 fn differ(a: usize, b: usize) -> bool
@@ -106,7 +122,7 @@ fn only_counterpart(
     while 0 < place {
         let k = place - 1;
         let m = pairset::new_of(w, k);
-        let f = joins(on, ol, nn, nl, w, e, n, m);
+        let f = joins(on, ol, nn, nl, w, e, n, m, true);
         if differ(seen, f) {
             return 0;
         }
@@ -152,7 +168,7 @@ fn raise_all(
     while 0 < place {
         let k = place - 1;
         let m = pairset::new_of(w, k);
-        let f = joins(on, ol, nn, nl, w, e, n, m);
+        let f = joins(on, ol, nn, nl, w, e, n, m, true);
         raise(marks, f, most);
         place = pairset::pair_before(w, k);
     }

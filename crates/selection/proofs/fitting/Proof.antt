@@ -21,6 +21,9 @@ target-requires-2 c κs = search needs
 has-requires : tie.Need-has-requires
 has-requires c κs = search needs
 
+same-bool-requires : tie.Need-same-bool-requires
+same-bool-requires c κs = search needs
+
 returns-2 : tie.Need-returns-2
 returns-2 c = search (all, needs)
 
@@ -37,5 +40,6 @@ fitting-spec =
     sub-target
     target-requires-2
     has-requires
+    same-bool-requires
     returns-2
     returns-3)
