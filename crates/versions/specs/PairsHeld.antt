@@ -1,13 +1,13 @@
 -- A table that holds exactly the pairs of two programs, and what follows for the rules: lists that list the same pairs give the same answers.
-use mathlib.Core.Path.{_≡_, ap, ap₂}
+use mathlib.Core.Path.{_≡_, ap}
 use mathlib.Core.Bool.{Bool}
 use mathlib.Core.List.{List}
 use Prim.Native.Nat.{ℕ}
 use lib.ListN.{length}
-use Rattle.laws.specs.Tests.{_and_, _⇒_, listed}
+use Rattle.laws.specs.Tests.{_⇒_, listed}
 use Rattle.laws.specs.Counting.{every-agree}
-use Rattle.rules.specs.Graph.{C, Program, calleeCount, called, exit, kindAt, sameKind, sourceAt}
-use Rattle.rules.specs.Closing.{exitsMet, fits, goesOn, joined, pairs}
+use Rattle.rules.specs.Graph.{C, Program, calleeCount, called, exit, kindAt, sameKind}
+use Rattle.rules.specs.Closing.{exitsMet, goesOn, pairs}
 use Rattle.pairset.specs.Store.{Store, pairsIn}
 
 pub record PairsHeld (old new : Program) (w : List ℕ) (c : ℕ) : Type 0 where
@@ -20,8 +20,3 @@ module _ (old new : Program) (M N : List (ℕ × ℕ)) (h : (a b : ℕ) → list
   unfolding goesOn exitsMet
   goesOn-agree n m =
       ap (λ (t : Bool). sameKind (kindAt old n) C ⇒ t) (every-agree _ _ (calleeCount old n) (λ i _. h (exit old (called old n i)) (exit new (called new m i))))
-
-  pub joined-agree : (e f : ℕ) → joined old new M e f ≡ joined old new N e f
-  unfolding joined
-  joined-agree e f =
-      ap₂ (λ (t u : Bool). t and (u and fits old new e f)) (h (sourceAt old e) (sourceAt new f)) (goesOn-agree (sourceAt old e) (sourceAt new f))

@@ -304,28 +304,30 @@ module _ (old new : Program) (wo : WellFormed old) (wn : WellFormed new) where
     λ d. let r = danger-of e d in anyPair-of (dangerousAt old new (pairs old new) e) (pairs old new) (sourceAt old e) (d .partner) (r .0) (r .1),
   )
 
-  -- The test of an edge at which the runs may part passes just these.
-  parting-true : (e e′ : ℕ) → e < edgeCount old → e′ < edgeCount new → parted old new (pairs old new) e e′ ≡ true → Parting old new e′
+  -- The test of an edge at which the runs may part passes just these; the old edge is dangerous there.
+  pub parted-danger : (e e′ : ℕ) → e < edgeCount old → e′ < edgeCount new → parted old new (pairs old new) e e′ ≡ true → (d : Dangerous old new e) × (sourceAt new e′ ≡ d .partner)
   unfolding parted
-  parting-true e e′ h h′ t =
+  parted-danger e e′ h h′ t =
       let g = and-right _ _ t in
       let w = and-right _ _ g in
       let only : (f : ℕ) → f < edgeCount new → sourceAt new f ≡ sourceAt new e′ → fits old new e f ≡ true → f ≡ e′
-      = λ f i a x. wn .words e′ f h′ i a (sym (same-word old new e f (fits-word old new e f x)) ∙ same-word old new e e′ (and-left _ _ w)) in
-      record {
-        isNew = h′;
-        cause = e;
-        danger = record {
+      = λ f i a x. wn .words e′ f h′ i a (sym (same-word old new e f (fits-word old new e f x)) ∙ same-word old new e e′ (and-left _ _ w)) in (
+        record {
           isOld = h;
           partner = sourceAt new e′;
           pair = pairs-sound old new _ _ (and-left _ _ t);
           mayGoOn = λ k j i. pairs-sound old new _ _ (goesOn-at old new (pairs old new) _ _ (and-left _ _ g) k j i);
           unfit = λ f i a x.
               both-ways (subst (λ (y : ℕ). alike old new (targetAt old e) (targetAt new y) ≡ true) (only f i a x) (fits-ends old new e f x)) (isnt-true _ (and-right _ _ w));
-        };
-        there = refl;
-        word = and-left _ _ w;
-      }
+        },
+        refl,
+      )
+
+  parting-true : (e e′ : ℕ) → e < edgeCount old → e′ < edgeCount new → parted old new (pairs old new) e e′ ≡ true → Parting old new e′
+  unfolding parted
+  parting-true e e′ h h′ t =
+      let d = parted-danger e e′ h h′ t in
+      record { isNew = h′; cause = e; danger = d .0; there = d .1; word = and-left _ _ (and-right _ _ (and-right _ _ t)) }
 
   parting-of : (e′ : ℕ) (p : Parting old new e′) → parted old new (pairs old new) (p .cause) e′ ≡ true
   unfolding parted

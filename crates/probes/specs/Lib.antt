@@ -1,0 +1,2 @@
+-- What is found of the edges that need a probe, and of those after a danger.
+pub mod Starts
