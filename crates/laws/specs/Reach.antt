@@ -1,5 +1,5 @@
 -- What is reached from some numbers by a relation: the smallest set that has them and, with a number, those to which it leads; the same by computation, for numbers below n.
-use mathlib.Core.Path.{_≡_, refl}
+use mathlib.Core.Path.{_≡_, refl, ap}
 use mathlib.Core.Logic.{⊎-elim}
 use mathlib.Core.Bool.{Bool, true, false}
 use mathlib.Core.List.{List}
@@ -133,6 +133,11 @@ module _ (n : ℕ) (leads : ℕ → ℕ → Bool) where
         let back : (i : ℕ) → has (reached n leads first) i ≡ true → (i < n) × (f i ≡ true)
         = reached-only (λ i. (i < n) × (f i ≡ true)) (λ i l p. (l, h i l p)) (λ a b p l t. (l, onward a b (p .0) (p .1) l t)) in
         rw (r .1) (those-agree f (r .0) n (λ i l. same-test _ _ (λ t. those-at (r .0) n i (rw (r .1) at (sound i l t)) .1) (λ t. back i (rw (r .1) (those-of (r .0) n i l t)) .1)))
+
+-- Tests that agree below n give the same list.
+pub reached-agree : (n : ℕ) (leads : ℕ → ℕ → Bool) (f g : ℕ → Bool) → ((i : ℕ) → i < n → f i ≡ g i) → reached n leads f ≡ reached n leads g
+unfolding reached
+reached-agree n leads f g h = ap (spreads n leads n) (those-agree f g n h)
 
 -- By computation just what is reached, where `first` and `leads` test First and Leads, which give numbers below n.
 pub reached-iff : (n : ℕ) (leads : ℕ → ℕ → Bool) (first : ℕ → Bool) (First : ℕ → Type 0) (Leads : ℕ → ℕ → Type 0)

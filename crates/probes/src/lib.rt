@@ -1,6 +1,7 @@
 // The new edges that need a probe, and the old edges after a dangerous one, as sets of bits, lowest edge first.
 ghost use mathlib.Core.Path.{_≡_};
 ghost use Rattle.probes.specs.Starts.{AllStart, Parts, Starts, added};
+ghost use Rattle.probes.specs.Sets.{AfterFound, OpenFound, ProbesFound};
 
 // ---- where the runs may part
 
@@ -73,5 +74,61 @@ fn start_all(
     while e < edges {
         start(on, ol, nn, nl, w, dangers, e, set);
         e += 1;
+    }
+}
+
+// ---- the sets
+
+// Makes the set, which is empty, that of the new edges that need a probe, where the old version has so many edges and the new one so many nodes. For
+// tables that do not hold two programs, their pairs and their dangerous edges it is left open.
+pub fn find_probes(
+    on: &[usize],
+    ol: &[usize],
+    nn: &[usize],
+    nl: &[usize],
+    w: &[usize],
+    dangers: &[u64],
+    edges: usize,
+    nodes: usize,
+    set: &mut [u64],
+)
+    ensures { λ _. ⌜ ProbesFound (now (on .entry)) (now (ol .entry)) (now (nn .entry)) (now (nl .entry)) (now (w .entry)) (now (dangers .entry)) edges nodes (now (set .entry)) (now (set .exit)) ⌝ }
+{
+    start_all(on, ol, nn, nl, w, dangers, edges, set);
+    after::spread(nn, nl, nodes, set);
+}
+
+// Makes the set that of the old edges after a dangerous one, itself included, where the old version has so many nodes. For tables that do not hold it,
+// and the dangerous edges, it is left open.
+pub fn find_after(on: &[usize], ol: &[usize], dangers: &[u64], nodes: usize, set: &mut [u64])
+    ensures { λ _. ⌜ AfterFound (now (on .entry)) (now (ol .entry)) (now (dangers .entry)) nodes (now (set .entry)) (now (set .exit)) ⌝ }
+{
+    text::copy_words(set, 0, dangers);
+    after::spread(on, ol, nodes, set);
+}
+
+// Both sets, from empty ones, if the test is repeated: what is left open in its marks. Otherwise they are left open.
+pub fn find_open(
+    on: &[usize],
+    ol: &[usize],
+    nn: &[usize],
+    nl: &[usize],
+    w: &[usize],
+    dangers: &[u64],
+    edges: usize,
+    old_nodes: usize,
+    new_nodes: usize,
+    again: bool,
+    probed: &mut [u64],
+    after: &mut [u64],
+)
+    ensures { λ _. ⌜ OpenFound again
+        (ProbesFound (now (on .entry)) (now (ol .entry)) (now (nn .entry)) (now (nl .entry)) (now (w .entry)) (now (dangers .entry)) edges «new_nodes» (now (probed .entry)) (now (probed .exit)))
+        (AfterFound (now (on .entry)) (now (ol .entry)) (now (dangers .entry)) «old_nodes» (now (after .entry)) (now (after .exit))) ⌝ }
+{
+    if again {
+        find_probes(on, ol, nn, nl, w, dangers, edges, new_nodes, probed);
+        find_after(on, ol, dangers, old_nodes, after);
+        return;
     }
 }

@@ -5,9 +5,10 @@ use mathlib.Core.List.{List}
 use Prim.Native.Nat.{ℕ, suc, _+_, _*_, _≤_, _<_}
 use native.Mathlib.Omega.{arith}
 use borrow.Author.Tests.{le-leb, le-ltb, lt-ltb}
-use lib.ListN.{length, take}
+use lib.ListN.{length, length-replicate, replicate, take}
 use Rattle.laws.specs.Lists.{choose-no, choose-yes}
 use Rattle.laws.specs.Slices.{below-or}
+use Rattle.laws.specs.BitSets.{clear-bits}
 use Rattle.rules.specs.Text.{Bytes}
 use Rattle.rules.specs.Graph.{Program, edgeCount}
 use Rattle.rules.specs.ProgramFile.{Listing}
@@ -26,6 +27,7 @@ use Rattle.selection.specs.DangerLaws.{row-meets}
 use Rattle.selection.specs.Marks.{Finds, MarksFound}
 use Rattle.selection.specs.MarkLaws.{marks-front}
 use Rattle.coverage.specs.Rows.{rowMeets}
+use Rattle.probes.specs.Sets.{AfterFound, FindsAfter, FindsProbes, OpenFound, ProbesFound}
 use Rattle.suite.specs.Tables.{Holds}
 use Rattle.suite.specs.TableLaws.{suite-read}
 use Rattle.writer.specs.Sheets.{RecordWrites, RecordWritten, SheetWrites, SheetWritten, selection, writing-written}
@@ -171,20 +173,22 @@ module _ (limit over : ℕ) (v v′ : Memory) (tt tests rows : List ℕ) (had : 
   unfolding RecordDone RecordFrom
   record-few w′ set set′ c i below s k m r out′ h =
       record {
-        claim = λ g y l. h .claim limit over (v .text) (v′ .text) g c y (chosen w′ set set′ c s k g y l) m below;
+        claim = λ g y l. h .claim limit over (v .text) (v′ .text) g c y (chosen w′ set set′ c s k g y l) (s .set-size ∙ k) m below;
         size = s .size;
         room = h .room;
       }
 
 -- ---- `record_from`
 
-pub record-put : (on ol nn nl tt tests rows : List ℕ) (had : Counts) (w : List ℕ) (out : Bytes) (set marks marks′ : List ℕ) (i : ℕ) (again : Bool) (r : Answer) (out′ : Bytes)
-    → Few had → again ≡ rowMeets rows set i → length marks ≡ 1024 → MarksFound on ol nn nl w rows i (had .«old_edges») (had .«new_edges») again marks marks′
+pub record-put : (on ol nn nl tt tests rows : List ℕ) (had : Counts) (w : List ℕ) (out : Bytes) (set none probed none′ after marks marks′ : List ℕ) (i : ℕ) (again : Bool) (r : Answer) (out′ : Bytes)
+    → Few had → again ≡ rowMeets rows set i → none ≡ replicate 16 0 → none′ ≡ replicate 16 0
+    → OpenFound again (ProbesFound on ol nn nl w set (had .«old_edges») (had .«new_nodes») none probed) (AfterFound on ol set (had .«old_nodes») none′ after)
+    → length marks ≡ 1024 → MarksFound on ol nn nl w rows i (had .«old_edges») (had .«new_edges») again probed after marks marks′
     → RecordWritten tt tests rows i marks′ (had .«new_edges») out r out′ → Done w w out out′ (RecordFrom on ol nn nl tt tests rows had i w set out r out′)
-unfolding RecordFrom Finds RecordWrites recordBytes
-record-put on ol nn nl tt tests rows had w out set marks marks′ i again r out′ few rep long f h =
+unfolding RecordFrom Finds FindsProbes FindsAfter RecordWrites recordBytes
+record-put on ol nn nl tt tests rows had w out set none probed none′ after marks marks′ i again r out′ few rep zero zero′ op long f h =
     record {
-      claim = λ limit over ot nt g c y x m is.
+      claim = λ limit over ot nt g c y x size m is.
           let v = memory ot on ol in
           let v′ = memory nt nn nl in
           let old = y .o .program in
@@ -195,7 +199,14 @@ record-put on ol nn nl tt tests rows had w out set marks marks′ i again r out�
           let few-new : edgeCount new ≤ 1024 = omega (arith, y .new-edges-n, few .few-new-edges) in
           let row = y .tests-in .row i below in
           let meets-is = rep ∙ row-meets old new set few-old (x .marked m) rows i coverage row in
-          let found = f .finds (y .o) (y .p) c coverage (record { old-text = ot; new-text = nt; old-in = y .old-in; new-in = y .new-in; held = x .held m }) row (y .old-edges-n) (y .new-edges-n) meets-is (omega arith) in
+          let held = record { old-text = ot; new-text = nt; old-in = y .old-in; new-in = y .new-in; held = x .held m } in
+          let long₁ : 16 ≤ length none = omega (arith, ap length zero, length-replicate {A = ℕ} 16 0) in
+          let long₂ : 16 ≤ length none′ = omega (arith, ap length zero′, length-replicate {A = ℕ} 16 0) in
+          let found = f .finds (y .o) (y .p) c coverage held row (y .old-edges-n) (y .new-edges-n) meets-is
+          (λ t. (
+            op .probed t .finds (y .o) (y .p) c held (x .marked m) (y .old-edges-n) (y .new-nodes-n) long₁ (clear-bits none 16 zero),
+            op .after t .finds ot (y .o) (y .p) (y .old-in) (x .marked m) (y .old-nodes-n) size long₂,
+          )) (omega arith) in
           let t = h .writes old new (y .l)
           (record {
             few = few-old;

@@ -44,7 +44,8 @@ SheetDone limit over v v′ tt tests rows had w out r out′ =
 -- `record_from`: the record line of a test, from the pairs and the dangerous edges.
 unfoldable pub RecordFrom : List ℕ → List ℕ → List ℕ → List ℕ → Bytes → List ℕ → List ℕ → Counts → ℕ → List ℕ → List ℕ → Bytes → Answer → Bytes → Type 0
 RecordFrom on ol nn nl tt tests rows had i w set out r out′ =
-    (limit over : ℕ) (ot nt : Bytes) (g : Given) (c : ℕ) (y : Ready (memory ot on ol) (memory nt nn nl) tt tests rows had g) → Chosen limit (y .o .program) (y .p .program) w set c → c ≤ limit → i < had .tests → Told (recording limit over g i (length out)) r out out′
+    (limit over : ℕ) (ot nt : Bytes) (g : Given) (c : ℕ) (y : Ready (memory ot on ol) (memory nt nn nl) tt tests rows had g) → Chosen limit (y .o .program) (y .p .program) w set c → length set ≡ 16 → c ≤ limit → i < had .tests
+    → Told (recording limit over g i (length out)) r out out′
 
 -- `write_record`: the record line of a test; 6, `over` or 16. What the table w holds afterwards is left open.
 unfoldable pub RecordDone : ℕ → ℕ → Memory → Memory → Bytes → List ℕ → List ℕ → Counts → ℕ → List ℕ → Bytes → Answer → Bytes → Type 0

@@ -93,9 +93,27 @@ pub fn record_from(
     ensures { λ r. ⌜ Done (now (w .entry)) (now (w .entry)) (now (out .entry)) (now (out .exit)) (RecordFrom (now (on .entry)) (now (ol .entry)) (now (nn .entry)) (now (nl .entry)) (now (tt .entry)) (now (tests .entry)) (now (rows .entry)) had i (now (w .entry)) (now (set .entry)) (now (out .entry)) r (now (out .exit))) ⌝ }
 {
     let mut marks = [0u8; 1024];
+    let mut probed = [0u64; 16];
+    let mut after = [0u64; 16];
     let old_edges = had.old_edges;
     let new_edges = had.new_edges;
+    let olds = had.old_nodes;
+    let news = had.new_nodes;
     let again = coverage::row_meets(rows, i, set);
+    probes::find_open(
+        on,
+        ol,
+        nn,
+        nl,
+        w,
+        set,
+        old_edges,
+        olds,
+        news,
+        again,
+        &mut probed,
+        &mut after,
+    );
     selection::find_marks(
         on,
         ol,
@@ -107,6 +125,8 @@ pub fn record_from(
         old_edges,
         new_edges,
         again,
+        &probed,
+        &after,
         &mut marks,
     );
     writer::write_record(tt, tests, rows, i, &marks, new_edges, out)

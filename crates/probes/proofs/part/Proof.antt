@@ -1,8 +1,8 @@
 use borrow.Author.Needs.{needs}
-use Rattle.probes.proofs.Laws.{all}
+use Rattle.probes.proofs.All.{all}
 use mathlib.Core.Path.{_≡_}
 use lib.ListN.{length}
-use Rattle.probes.proofs.Laws.{PartsFrom}
+use Rattle.probes.proofs.Starts.{PartsFrom}
 use Rattle.probes.proofs.part.Statement.{statement}
 use Rattle.probes.proofs.part.Tie as tie
 

@@ -1,5 +1,5 @@
 use borrow.Author.Needs.{needs}
-use Rattle.probes.proofs.Laws.{all}
+use Rattle.probes.proofs.All.{all}
 use mathlib.Core.Path.{_≡_}
 use Prim.Native.Nat.{_≤_, _-_}
 use lib.ListN.{length}

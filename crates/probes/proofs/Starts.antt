@@ -1,4 +1,4 @@
--- The turns and the returns of this crate's functions, as `search` finds them: the premises are what the code holds there.
+-- The turns and the returns of the functions that find where the runs may part, as `search` finds them: the premises are what the code holds there.
 use mathlib.Core.Path.{_≡_, refl, sym, ap, ap₂, _∙_}
 use mathlib.Core.Bool.{Bool, true, false}
 use mathlib.Core.List.{List}
@@ -197,4 +197,4 @@ module _ (on ol nn nl w dangers : List ℕ) (edges : ℕ) (set : List ℕ) where
     pub all-end : e ≤ edges → edges ≤ e → AllStart on ol nn nl w dangers edges edges set set₁
     all-end a b = let q : e ≡ edges = omega arith in rw q at inv
 
-pub ruleset all = (before-less, add-none, add-one-more, part-start, part-end, part-on, start-on, start-past, all-none, all-on, all-end)
+pub ruleset starts = (before-less, add-none, add-one-more, part-start, part-end, part-on, start-on, start-past, all-none, all-on, all-end)
