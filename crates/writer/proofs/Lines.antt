@@ -5,8 +5,9 @@ use native.Mathlib.Omega.{arith}
 use lib.ListN.{length}
 use Rattle.rules.specs.Text.{Bytes, decimal, joinBy, textOf}
 use Rattle.rules.specs.Proofs.TextLaws.{decimal-most}
-use Rattle.rules.specs.Sheet.{dLine, endLine, headLine, mLine, rLine, vLine}
+use Rattle.rules.specs.Sheet.{endLine, headLine, mLine, rLine, vLine}
 use Rattle.text.specs.Puts.{Puts, puts-then, puts-length}
+use Rattle.writer.specs.Texts.{edgeLine}
 use Rattle.writer.specs.Writes.{Writes, writes-byte, writes-of, writes-then, writes-length}
 
 -- A number has at most 20 digits.
@@ -36,9 +37,9 @@ module _ {o o₁ o₂ o₃ : List ℕ} {at r₁ r₂ r₃ : ℕ} where
   pub named-puts : {b : ℕ} {name : Bytes} → length name ≤ 12 → Puts o at (b ∷ []) r₁ o₁ → Puts o₁ r₁ (44 ∷ []) r₂ o₂ → Puts o₂ r₂ name r₃ o₃ → Writes o at (b ∷ 44 ∷ name) 14 r₃ o₃
   named-puts h p q n = writes-of 14 (puts-then p (puts-then q n)) (omega arith)
 
-  pub danger-puts : (e : ℕ) → Puts o at (68 ∷ []) r₁ o₁ → Writes o₁ r₁ (44 ∷ decimal e) 21 r₂ o₂ → Puts o₂ r₂ (10 ∷ []) r₃ o₃ → Writes o at (textOf (dLine e ∷ [])) 23 r₃ o₃
-  unfolding textOf dLine joinBy
-  danger-puts e p q n = writes-byte (writes-then (writes-of 1 p (omega arith)) q) n
+  pub edge-puts : (b e : ℕ) → Puts o at (b ∷ []) r₁ o₁ → Writes o₁ r₁ (44 ∷ decimal e) 21 r₂ o₂ → Puts o₂ r₂ (10 ∷ []) r₃ o₃ → Writes o at (textOf (edgeLine b e ∷ [])) 23 r₃ o₃
+  unfolding textOf edgeLine joinBy
+  edge-puts b e p q n = writes-byte (writes-then (writes-of 1 p (omega arith)) q) n
 
 module _ {o o₁ o₂ o₃ o₄ : List ℕ} {at r₁ r₂ r₃ r₄ : ℕ} where
   pub pair-puts : (n k : ℕ) → Puts o at (77 ∷ []) r₁ o₁ → Writes o₁ r₁ (44 ∷ decimal n) 21 r₂ o₂ → Writes o₂ r₂ (44 ∷ decimal k) 21 r₃ o₃ → Puts o₃ r₃ (10 ∷ []) r₄ o₄
@@ -59,4 +60,4 @@ module _ {o o₁ o₂ o₃ o₄ : List ℕ} {at r₁ r₂ r₃ r₄ : ℕ} where
     record-puts {name} {marks} n h p q s t z =
         writes-byte (writes-then p (writes-then q (writes-of 1025 (puts-then s t) (omega arith)))) z
 
-pub ruleset lines = (decimal-room, field-puts, head-puts, repeat-puts, named-puts, danger-puts, pair-puts, end-puts, record-puts, writes-length, puts-length)
+pub ruleset lines = (decimal-room, field-puts, head-puts, repeat-puts, named-puts, edge-puts, pair-puts, end-puts, record-puts, writes-length, puts-length)

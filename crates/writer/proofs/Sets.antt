@@ -10,12 +10,12 @@ use Rattle.laws.specs.Tests.{count, those}
 use Rattle.laws.specs.TestLaws.{count-skip, count-more}
 use Rattle.laws.specs.Bits.{bitIn}
 use Rattle.rules.specs.Text.{Bytes, textOf}
-use Rattle.rules.specs.Sheet.{dLine, rLine}
+use Rattle.rules.specs.Sheet.{rLine}
 use Rattle.coverage.specs.Rows.{rowMeets}
 use Rattle.suite.specs.Reading.{nameAt}
 use Rattle.writer.specs.Writes.{Writes, writes-none, writes-then}
 use Rattle.writer.specs.Laws.{text-append, those-more, those-skip}
-use Rattle.writer.specs.Texts.{dangerText, shortName, repeatText}
+use Rattle.writer.specs.Texts.{edgeLine, edgeText, shortName, repeatText}
 
 -- ---- the lines of the numbers below n that pass, one more
 
@@ -48,28 +48,28 @@ count-start g = refl
 
 -- ---- edges
 
-module _ (set : List ℕ) (e : ℕ) (t : Bool) (is : t ≡ bitIn set e) {o o₁ : List ℕ} {at k : ℕ} (inv : Writes o at (dangerText set e) (23 * e) k o₁) where
-  pub dangers-on : {o₂ : List ℕ} {r : ℕ} → t ≡ true → Writes o₁ k (textOf (dLine e ∷ [])) 23 r o₂ → Writes o at (dangerText set (e + 1)) (23 * (e + 1)) r o₂
-  unfolding dangerText
-  dangers-on y p = turn-on (bitIn set) e dLine 23 inv (sym is ∙ y) p
+module _ (b : ℕ) (set : List ℕ) (e : ℕ) (t : Bool) (is : t ≡ bitIn set e) {o o₁ : List ℕ} {at k : ℕ} (inv : Writes o at (edgeText b set e) (23 * e) k o₁) where
+  pub edges-on : {o₂ : List ℕ} {r : ℕ} → t ≡ true → Writes o₁ k (textOf (edgeLine b e ∷ [])) 23 r o₂ → Writes o at (edgeText b set (e + 1)) (23 * (e + 1)) r o₂
+  unfolding edgeText
+  edges-on y p = turn-on (bitIn set) e (edgeLine b) 23 inv (sym is ∙ y) p
 
-  pub dangers-skip : t ≡ false → Writes o at (dangerText set (e + 1)) (23 * (e + 1)) k o₁
-  unfolding dangerText
-  dangers-skip y = turn-skip (bitIn set) e dLine 23 inv (sym is ∙ y)
+  pub edges-skip : t ≡ false → Writes o at (edgeText b set (e + 1)) (23 * (e + 1)) k o₁
+  unfolding edgeText
+  edges-skip y = turn-skip (bitIn set) e (edgeLine b) 23 inv (sym is ∙ y)
 
-module _ (o set : List ℕ) (at : ℕ) where
-  pub dangers-none : Writes o at (dangerText set 0) 0 at o
-  unfolding dangerText those textOf
-  dangers-none = writes-none o at
+module _ (o : List ℕ) (b : ℕ) (set : List ℕ) (at : ℕ) where
+  pub edges-none : Writes o at (edgeText b set 0) 0 at o
+  unfolding edgeText those textOf
+  edges-none = writes-none o at
 
-pub dangers-room : {o o₁ vs : List ℕ} {at k e : ℕ} (edges : ℕ) → Writes o at vs (23 * e) k o₁ → e < edges → edges ≤ 1024 → at ≤ 2 ^ 31 → k ≤ 2 ^ 32
-dangers-room edges p h l s = omega (arith, p .within)
+pub edges-room : {o o₁ vs : List ℕ} {at k e : ℕ} (edges : ℕ) → Writes o at vs (23 * e) k o₁ → e < edges → edges ≤ 1024 → at ≤ 2 ^ 31 → k ≤ 2 ^ 32
+edges-room edges p h l s = omega (arith, p .within)
 
-pub dangers-done : (set : List ℕ) (e edges : ℕ) {o o₁ : List ℕ} {at k : ℕ} → Writes o at (dangerText set e) (23 * e) k o₁ → e ≤ edges → edges ≤ e
-    → Writes o at (dangerText set edges) (23 * edges) k o₁
-dangers-done set e edges p h l = let q : e ≡ edges = omega arith in rw q at p
+pub edges-done : (b : ℕ) (set : List ℕ) (e edges : ℕ) {o o₁ : List ℕ} {at k : ℕ} → Writes o at (edgeText b set e) (23 * e) k o₁ → e ≤ edges → edges ≤ e
+    → Writes o at (edgeText b set edges) (23 * edges) k o₁
+edges-done b set e edges p h l = let q : e ≡ edges = omega arith in rw q at p
 
-pub ruleset edges = (dangers-on, dangers-skip, dangers-none, dangers-room, dangers-done)
+pub ruleset edges = (edges-on, edges-skip, edges-none, edges-room, edges-done)
 
 -- ---- tests
 

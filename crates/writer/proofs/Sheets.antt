@@ -19,6 +19,7 @@ use Rattle.rules.specs.SuiteFile.{TestListing, coverageAt, readTests, testCount
 use Rattle.rules.specs.Sheet.{Sheet, crossed, dLine, endLine, headLine, mLine, rLine, recordText, selected, sheetLines, sheetText, vLine}
 use Rattle.rules.specs.Job.{outputAfter, refusal, written, wrote}
 use Rattle.rules.specs.Proofs.Closure.{dangers-inside, pairs-ascend, pairs-inside}
+use Rattle.answer.specs.declared.Answer.{Answer}
 use Rattle.answer.specs.Outcomes.{Told, refusal-told, told-as}
 use Rattle.text.specs.Puts.{Puts, puts-front, puts-length, puts-measure, puts-then}
 use Rattle.pairset.specs.Store.{newAt, oldAt, pairsIn}
@@ -28,9 +29,9 @@ use Rattle.suite.specs.Tables.{Holds}
 use Rattle.coverage.specs.RowLaws.{meets-are, ones-are}
 use Rattle.suite.specs.TableLaws.{name-read, suite-read}
 use Rattle.versions.specs.PairsHeld.{PairsHeld}
-use Rattle.writer.specs.Laws.{asc-same, text-append, text-more, those-map, those-self}
+use Rattle.writer.specs.Laws.{asc-same, d-lines, text-append, text-more, those-map, those-self}
 use Rattle.writer.specs.Writes.{Writes, writes-length}
-use Rattle.writer.specs.Texts.{dangerText, pairText, repeatText, shortName, tableText}
+use Rattle.writer.specs.Texts.{edgeText, pairText, repeatText, shortName, tableText}
 use Rattle.writer.specs.Claims.{NewBelow, Pairs, PairsPut}
 use Rattle.writer.specs.Sheets.{Marked, RecordWrites, RecordWritten, Selection, Selects, SheetPut, SheetPuts, SheetWrites, SheetWritten, TextWritten, recordLine, recordOf, sheetOf}
 
@@ -76,9 +77,9 @@ module _ (old new : Program) (set : List ℕ) (few : edgeCount old ≤ 1024) (is
       those-agree (bitIn set) (has (dangers old new)) (edgeCount old) (λ e h. is e (omega arith))
       ∙ those-self (dangerous old new (pairs old new)) (edgeCount old)
 
-  danger-text : dangerText set (edgeCount old) ≡ textOf (map dLine (dangers old new))
-  unfolding dangerText
-  danger-text = ap (λ (l : List ℕ). textOf (map dLine l)) set-dangers
+  danger-text : edgeText 68 set (edgeCount old) ≡ textOf (map dLine (dangers old new))
+  unfolding edgeText
+  danger-text = ap₂ (λ (f : ℕ → Bytes) (l : List ℕ). textOf (map f l)) d-lines set-dangers
 
   danger-count : count (edgeCount old) (bitIn set) ≡ length (dangers old new)
   danger-count = sym (those-count (bitIn set) (edgeCount old)) ∙ ap length set-dangers
@@ -147,13 +148,13 @@ module _ (old new : Program) (l : TestListing) (s : Selection) (h : Selects old 
   -- The parts that are written are the sheet.
   parts-are : textOf (headLine ∷ [])
       ++ (tableText (s .table) (s .pairCount) (s .olds) (s .news)
-      ++ (dangerText (s .set) (s .edges) ++ (repeatText (s .text) (s .tests) (s .rows) (s .set) (s .tested) ++ textOf (endLine (s .pairCount) d r ∷ []))))
+      ++ (edgeText 68 (s .set) (s .edges) ++ (repeatText (s .text) (s .tests) (s .rows) (s .set) (s .tested) ++ textOf (endLine (s .pairCount) d r ∷ []))))
       ≡ sheetOf old new l
   unfolding selected
   parts-are =
       ap (λ (t : Bytes). textOf (headLine ∷ []) ++ t)
       (ap₂ (λ (t u : Bytes). t ++ u) (ap₂ (tableText (s .table) (s .pairCount)) (h .old-nodes) (h .new-nodes) ∙ table-text old new (s .table) (s .pairCount) (h .held))
-      (ap₂ (λ (t u : Bytes). t ++ u) (ap (dangerText (s .set)) (h .old-edges) ∙ danger-text old new (s .set) few (h .dangerous))
+      (ap₂ (λ (t u : Bytes). t ++ u) (ap (edgeText 68 (s .set)) (h .old-edges) ∙ danger-text old new (s .set) few (h .dangerous))
       (ap₂ (λ (t u : Bytes). t ++ u) (repeat-text old new (s .set) few (h .dangerous) (s .text) (s .tests) (s .rows) (s .tested) l read hold)
       (ap (λ (t : Bytes). textOf (t ∷ [])) counts-are))))
       ∙ sym (sheet-parts (l .suite .names) (selected old new (l .suite .coverages)))
@@ -164,7 +165,7 @@ module _ (old new : Program) (l : TestListing) (s : Selection) (h : Selects old 
 pub sheet-puts : {o o₁ o₂ o₃ o₄ o₅ : List ℕ} {r₁ r₂ r₃ r₄ r₅ : ℕ} (s : Selection) (d r : ℕ) → s .edges ≤ 1024
     → d ≡ count (s .edges) (bitIn (s .set)) → r ≡ count (s .tested) (rowMeets (s .rows) (s .set))
     → Writes o 0 (textOf (headLine ∷ [])) 8 r₁ o₁ → PairsPut o₁ r₁ (s .table) (s .olds) (s .news) r₂ o₂
-    → Writes o₂ r₂ (dangerText (s .set) (s .edges)) (23 * s .edges) r₃ o₃
+    → Writes o₂ r₂ (edgeText 68 (s .set) (s .edges)) (23 * s .edges) r₃ o₃
     → Writes o₃ r₃ (repeatText (s .text) (s .tests) (s .rows) (s .set) (s .tested)) (15 * s .tested) r₄ o₄
     → Writes o₄ r₄ (textOf (endLine (s .pairCount) d r ∷ [])) 67 r₅ o₅ → SheetPut s o r₅ o₅
 unfolding SheetPuts Pairs
@@ -177,7 +178,7 @@ sheet-puts {o = o} {o₅ = o₅} {r₅ = r₅} s d r most ed er a b c e z =
 
 -- ---- measuring, then writing
 
--- What is written into no bytes leaves none.
+-- What is written into no bytes leaves none: the output after measuring is o₁ before o, and o₁ is no bytes.
 none-left : (o₁ o : List ℕ) → length o₁ ≡ 0 → o₁ ++ o ≡ o
 none-left [] o h = refl
 none-left (x ∷ o₁) o h = absurd (let z : ⊥ = omega arith in z)
@@ -213,7 +214,23 @@ module _ {vs o₁ : List ℕ} {n : ℕ} (o : List ℕ) (p : Puts [] 0 vs n o₁)
       let e : k ≡ n = omega (arith, w .next) in
       subst (λ (q : ℕ). Told (written (length o) vs) (record { number = 0; place = q }) o o₂) e (told-put o (omega arith) w)
 
--- `write_sheet`: the output after measuring is o₁ before o, and o₁ is no bytes.
+-- Any text, measured and then written.
+module _ {vs o₁ : List ℕ} {m n : ℕ} (o : List ℕ) (p : Writes [] 0 vs m n o₁) where
+  kept : o₁ ++ o ≡ o
+  kept = none-left o₁ o (writes-length p)
+
+  pub measured-short : length (o₁ ++ o) < n → TextWritten vs o (record { number = 16; place = 0 }) (o₁ ++ o)
+  measured-short h =
+      let k : length o < n = rw kept at h in
+      rw kept (record { told = told-short o (p .puts) k; size = refl })
+
+  pub measured-written : {o₂ : List ℕ} {r : ℕ} → n ≤ length (o₁ ++ o) → Writes (o₁ ++ o) 0 vs m r o₂ → TextWritten vs o (record { number = 0; place = n }) o₂
+  measured-written {o₂} {r} h q =
+      let k : n ≤ length o = rw kept at h in
+      let w : Writes o 0 vs m r o₂ = rw kept at q in
+      record { told = told-written o (p .puts) k (w .puts); size = writes-length w }
+
+-- `write_sheet`
 module _ {s : Selection} {o₁ : List ℕ} {n : ℕ} (o : List ℕ) (p : SheetPut s [] n o₁) where
   back : o₁ ++ o ≡ o
   back = none-left o₁ o (p .size)
@@ -260,34 +277,21 @@ module _ (text : Bytes) (tests rows : List ℕ) (i : ℕ) (marks : Bytes) (edges
   unfolding recordLine
   line-is = cc
 
-  measured : Puts [] 0 (recordLine text tests rows i marks edges) n o₁
-  measured = subst (λ (vs : Bytes). Puts [] 0 vs n o₁) line-is (p .puts)
-
-  front-back : o₁ ++ o ≡ o
-  front-back = none-left o₁ o (writes-length p)
+  -- The line, as a text that was written, is the record line.
+  record-told : (r : Answer) (o₂ : List ℕ) → TextWritten (textOf (vLine name crossed line ∷ [])) o r o₂ → RecordWritten text tests rows i marks edges o r o₂
+  unfolding RecordWrites
+  record-told r o₂ t =
+      record {
+        writes = λ old new l m. subst (λ (b : Bytes). Told (written (length o) b) r o o₂) (line-is ∙ record-is old new l text tests rows i marks edges m) (t .told);
+        size = t .size;
+      }
 
   pub record-short : length (o₁ ++ o) < n → RecordWritten text tests rows i marks edges o (record { number = 16; place = 0 }) (o₁ ++ o)
-  unfolding RecordWrites
-  record-short h =
-      let k : length o < n = rw front-back at h in
-      rw front-back (record {
-        writes = λ old new l m. subst (λ (b : Bytes). Told (written (length o) b) (record { number = 16; place = 0 }) o o) (record-is old new l text tests rows i marks edges m)
-            (told-short o measured k);
-        size = refl;
-      })
+  record-short h = record-told _ _ (measured-short o p h)
 
   pub record-written : {o₂ : List ℕ} {r : ℕ} → n ≤ length (o₁ ++ o) → Writes (o₁ ++ o) 0 (textOf (vLine name crossed line ∷ [])) 1061 r o₂
       → RecordWritten text tests rows i marks edges o (record { number = 0; place = n }) o₂
-  unfolding RecordWrites
-  record-written {o₂} {r} h q =
-      let k : n ≤ length o = rw front-back at h in
-      let w : Puts o 0 (recordLine text tests rows i marks edges) r o₂ =
-      subst (λ (vs : Bytes). Puts o 0 vs r o₂) line-is (subst (λ (t : List ℕ). Puts t 0 (textOf (vLine name crossed line ∷ [])) r o₂) front-back (q .puts)) in
-      record {
-        writes = λ old new l m. subst (λ (b : Bytes). Told (written (length o) b) (record { number = 0; place = n }) o o₂) (record-is old new l text tests rows i marks edges m)
-            (told-written o measured k w);
-        size = puts-length w;
-      }
+  record-written h q = record-told _ _ (measured-written o p h q)
 
 pub ruleset records = (marks-short, record-short, record-written)
 

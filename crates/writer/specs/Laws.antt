@@ -1,4 +1,5 @@
--- Laws over any lists and numbers: the numbers that pass, ascending, one more; the first that passes; what is picked of a row; ascending lists; lines of text.
+-- Laws over any lists and numbers: the numbers that pass, ascending, one more; the first that passes; what is picked of a row; ascending lists; lines of text; the lines of a set of
+-- edges.
 use mathlib.Core.Path.{_≡_, refl, sym, ap, ap₂, _∙_, subst}
 use mathlib.Core.Logic.{_⊎_, inl, inr, ⊎-elim}
 use mathlib.Core.Bool.{Bool, true, false, true≢false}
@@ -14,7 +15,14 @@ use Rattle.laws.specs.Tests.{_and_, first, found, gridRow, has, ifTrue, keep, l
 use Rattle.laws.specs.TestLaws.{Ascending, Before, and-both, and-left, and-right, asc-more, asc-none, both-ways, eqb-self, fails, first-at, first-none, or-cases, or-left, same-test}
 use Rattle.laws.specs.Lists.{none-listed, listed-rest}
 use Rattle.laws.specs.Those.{those-agree, those-has}
+use Rattle.laws.specs.Reach.{reached-first, reached-found, reached-onward}
+use Rattle.laws.specs.Bits.{bitIn}
 use Rattle.rules.specs.Text.{Bytes, textOf}
+use Rattle.rules.specs.Graph.{Program, edgeCount}
+use Rattle.rules.specs.After.{edgesAfter}
+use Rattle.rules.specs.Closing.{probes}
+use Rattle.rules.specs.Sheet.{dLine, probesText, qLine}
+use Rattle.writer.specs.Texts.{edgeLine, edgeText}
 
 -- ---- lines
 
@@ -54,6 +62,30 @@ those-map f g p (suc n) h = go (p n) (those-map f g p n (λ i l. h i (omega arit
         ∙ ap₂ (λ (l : List Bytes) (x : Bytes). l ++ (x ∷ [])) q (h n (omega arith))
         ∙ sym (map-append g (those n p) (n ∷ []))
     go false q = q
+
+-- ---- the lines of a set of edges
+
+-- D lines and Q lines, by their first byte.
+pub d-lines : edgeLine 68 ≡ dLine
+unfolding edgeLine dLine
+d-lines = refl
+
+pub q-lines : edgeLine 81 ≡ qLine
+unfolding edgeLine qLine
+q-lines = refl
+
+-- Of a set that has just the edges that need a probe they are the list of probes.
+module _ (old new : Program) where
+  probes-self : those (edgeCount new) (has (probes old new)) ≡ probes old new
+  unfolding probes edgesAfter
+  probes-self = reached-found _ _ _ _ (reached-first _ _ _) (λ a b h t. reached-onward _ _ _ a b t) (λ i h t. t)
+
+  pub probes-text : (set : List ℕ) (edges : ℕ) → edges ≡ edgeCount new → ((e : ℕ) → e < edgeCount new → bitIn set e ≡ has (probes old new) e)
+      → edgeText 81 set edges ≡ probesText old new
+  unfolding edgeText probesText
+  probes-text set edges n h =
+      let q : those edges (bitIn set) ≡ probes old new = ap (λ (m : ℕ). those m (bitIn set)) n ∙ those-agree (bitIn set) (has (probes old new)) (edgeCount new) h ∙ probes-self in
+      ap₂ (λ (f : ℕ → Bytes) (l : List ℕ). textOf (map f l)) q-lines q
 
 -- ---- the next number that passes
 

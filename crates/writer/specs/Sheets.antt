@@ -1,4 +1,4 @@
--- The sheet and the record lines: what they are written from, and what the writers answer and leave.
+-- The sheet, the probes and the record lines: what they are written from, and what the writers answer and leave.
 use mathlib.Core.Path.{_≡_}
 use mathlib.Core.List.{List, [], _∷_}
 use Prim.Native.Nat.{ℕ, _≤_, _<_}
@@ -19,7 +19,7 @@ use Rattle.text.specs.Puts.{Puts}
 use Rattle.coverage.specs.Rows.{rowOnes}
 use Rattle.suite.specs.Tables.{Holds}
 use Rattle.versions.specs.PairsHeld.{PairsHeld}
-use Rattle.writer.specs.Texts.{shortName}
+use Rattle.writer.specs.Texts.{edgeText, shortName}
 
 -- ---- answers
 
@@ -82,6 +82,12 @@ SheetWrites s o r o′ = (old new : Program) (l : TestListing) → Selects old n
 pub record SheetWritten (s : Selection) (o : List ℕ) (r : Answer) (o′ : List ℕ) : Type 0 where
   pub writes : SheetWrites s o r o′
   pub size : length o′ ≡ length o
+
+-- ---- probes
+
+-- `write_probes`: the Q lines of the edges that the set has, written, or refused and nothing changed.
+abbrev pub ProbesWritten : List ℕ → ℕ → List ℕ → Answer → List ℕ → Type 0
+ProbesWritten set edges = TextWritten (edgeText 81 set edges)
 
 -- ---- record lines
 

@@ -1,11 +1,11 @@
 -- What is written of a table of pairs, of a set of edges and of the tables of the tests.
-use mathlib.Core.List.{List, map}
+use mathlib.Core.List.{List, [], _∷_, map}
 use Prim.Native.Nat.{ℕ}
 use lib.ListN.{take}
 use Rattle.laws.specs.Tests.{grid, gridRow, listed, pick, those}
 use Rattle.laws.specs.Bits.{bitIn}
-use Rattle.rules.specs.Text.{Bytes, textOf}
-use Rattle.rules.specs.Sheet.{dLine, mLine, rLine}
+use Rattle.rules.specs.Text.{Bytes, commas, decimal, textOf}
+use Rattle.rules.specs.Sheet.{mLine, rLine}
 use Rattle.pairset.specs.Store.{pairsIn}
 use Rattle.coverage.specs.Rows.{rowMeets}
 use Rattle.suite.specs.Reading.{nameAt}
@@ -21,9 +21,13 @@ partnersText w c a n = pairText (pick (listed (pairsIn w c)) (gridRow a n))
 unfoldable pub tableText : List ℕ → ℕ → ℕ → ℕ → Bytes
 tableText w c a n = pairText (pick (listed (pairsIn w c)) (grid a n))
 
--- The D lines of the edges below n that the set has.
-unfoldable pub dangerText : List ℕ → ℕ → Bytes
-dangerText set n = textOf (map dLine (those n (bitIn set)))
+-- The line of an edge, by its first byte: a D line has 68, a Q line 81.
+unfoldable pub edgeLine : ℕ → ℕ → Bytes
+edgeLine b e = commas ((b ∷ []) ∷ decimal e ∷ [])
+
+-- The lines of the edges below n that the set has.
+unfoldable pub edgeText : ℕ → List ℕ → ℕ → Bytes
+edgeText b set n = textOf (map (edgeLine b) (those n (bitIn set)))
 
 -- The name that the tables give for the test i, cut to the 12 bytes that a name has at most.
 unfoldable pub shortName : Bytes → List ℕ → ℕ → Bytes

@@ -1,4 +1,4 @@
-// Sheets, record lines and texts, written into a lent output. A writer stores only inside its output and answers the place behind what it writes, so
+// Sheets, lists of probes, record lines and texts, written into a lent output. A writer stores only inside its output and answers the place behind what it writes, so
 // that writing into no bytes measures. What is written for tables that hold no selection, or no test and marks, is left open, the output's length
 // excepted.
 use answer::Answer;
@@ -9,11 +9,11 @@ ghost use lib.ListN.{length};
 ghost use Rattle.laws.specs.Bits.{bitIn};
 ghost use Rattle.laws.specs.Tests.{count as countOf};
 ghost use Rattle.rules.specs.Text.{decimal, textOf};
-ghost use Rattle.rules.specs.Sheet.{dLine, endLine, headLine, mLine, rLine, vLine};
+ghost use Rattle.rules.specs.Sheet.{endLine, headLine, mLine, rLine, vLine};
 ghost use Rattle.coverage.specs.Rows.{rowMeets};
 ghost use Rattle.writer.specs.Claims.{PairsPut, PartnersPut};
-ghost use Rattle.writer.specs.Sheets.{RecordWritten, SheetPut, SheetWritten, TextWritten, selection};
-ghost use Rattle.writer.specs.Texts.{dangerText, repeatText, shortName};
+ghost use Rattle.writer.specs.Sheets.{ProbesWritten, RecordWritten, SheetPut, SheetWritten, TextWritten, selection};
+ghost use Rattle.writer.specs.Texts.{edgeLine, edgeText, repeatText, shortName};
 ghost use Rattle.writer.specs.Writes.{Writes};
 
 // ---- lines
@@ -57,14 +57,14 @@ fn put_pair(out: &mut [u8], at: usize, old: usize, new: usize) -> usize
     text::put_byte(out, c, 10)
 }
 
-// `D,edge`, a dangerous edge.
-fn put_danger(out: &mut [u8], at: usize, edge: usize) -> usize
+// `b,edge`, an edge: `D` for a dangerous one, `Q` for one that needs a probe.
+fn put_edge(out: &mut [u8], at: usize, b: u8, edge: usize) -> usize
     requires { ⌜ at ≤ 2 ^ 32 ⌝ }
-    ensures { λ r. ⌜ Writes (now (out .entry)) at (textOf (dLine edge ∷ [])) 23 r (now (out .exit)) ⌝ }
+    ensures { λ r. ⌜ Writes (now (out .entry)) at (textOf (edgeLine b edge ∷ [])) 23 r (now (out .exit)) ⌝ }
 {
-    let a = text::put_byte(out, at, b'D');
-    let b = put_field(out, a, edge);
-    text::put_byte(out, b, 10)
+    let a = text::put_byte(out, at, b);
+    let c = put_field(out, a, edge);
+    text::put_byte(out, c, 10)
 }
 
 // `R,name`, a test to repeat.
@@ -137,7 +137,7 @@ fn put_pairs(out: &mut [u8], at: usize, w: &[usize], olds: usize, news: usize) -
     k
 }
 
-// ---- dangerous edges
+// ---- sets of edges
 
 // How many of the edges the set has.
 fn count_dangers(set: &[u64], edges: usize) -> usize
@@ -157,16 +157,16 @@ fn count_dangers(set: &[u64], edges: usize) -> usize
     sum
 }
 
-// A D line for each of the edges that the set has.
-fn put_dangers(out: &mut [u8], at: usize, set: &[u64], edges: usize) -> usize
+// A line with the first byte b for each of the edges that the set has.
+fn put_edges(out: &mut [u8], at: usize, b: u8, set: &[u64], edges: usize) -> usize
     requires { ⌜ (at ≤ 2 ^ 31) × (edges ≤ 1024) ⌝ }
-    ensures { λ r. ⌜ Writes (now (out .entry)) at (dangerText (now (set .entry)) edges) (23 * edges) r (now (out .exit)) ⌝ }
+    ensures { λ r. ⌜ Writes (now (out .entry)) at (edgeText b (now (set .entry)) edges) (23 * edges) r (now (out .exit)) ⌝ }
 {
     let mut k = at;
     let mut e = 0;
     while e < edges {
         if coverage::in_set(set, e) {
-            k = put_danger(out, k, e);
+            k = put_edge(out, k, b, e);
             e += 1;
         } else {
             e += 1;
@@ -257,7 +257,7 @@ fn put_sheet(
     let repeats = count_repeats(rows, n.count, set);
     let a = put_head(out, 0);
     let b = put_pairs(out, a, w, n.olds, n.news);
-    let c = put_dangers(out, b, set, n.edges);
+    let c = put_edges(out, b, b'D', set, n.edges);
     let d = put_repeats(out, c, text, tests, rows, n.count, set);
     put_end(out, d, n.pairs, dangers, repeats)
 }
@@ -300,6 +300,27 @@ pub fn write_sheet(
     }
     let place = put_sheet(out, w, set, text, tests, rows, n);
     Answer { number: 0, place }
+}
+
+// ---- probes
+
+// Writes a Q line for each of the edges that the set has: measures them, and refuses with 16 where the output is shorter.
+pub fn write_probes(set: &[u64], edges: usize, out: &mut [u8]) -> Answer
+    requires { ⌜ edges ≤ 1024 ⌝ }
+    ensures { λ r. ⌜ ProbesWritten (now (set .entry)) edges (now (out .entry)) r (now (out .exit)) ⌝ }
+{
+    let len = put_edges(&mut out[..0], 0, b'Q', set, edges);
+    if out.len() < len {
+        return Answer {
+            number: 16,
+            place: 0,
+        };
+    }
+    put_edges(out, 0, b'Q', set, edges);
+    Answer {
+        number: 0,
+        place: len,
+    }
 }
 
 // ---- record lines

@@ -15,8 +15,8 @@ put-head-requires c κs = search needs
 put-pairs-requires : tie.Need-put-pairs-requires
 put-pairs-requires c κs = search needs
 
-put-dangers-requires : tie.Need-put-dangers-requires
-put-dangers-requires c κs = search needs
+put-edges-requires : tie.Need-put-edges-requires
+put-edges-requires c κs = search needs
 
 put-repeats-requires : tie.Need-put-repeats-requires
 put-repeats-requires c κs = search needs
@@ -28,7 +28,7 @@ same-length : tie.Need-same-length
 same-length c = search needs
 
 returns : tie.Need-returns
-returns c = sheet-puts _ _ _ (c .before .before .before .before .before .before .before .before .before .before .before .before .before .before .before .before .before .before .before .before .before .before .before .before .before .before .before .before .pre .2) (c .before .before .before .before .before .before .before .before .before .before .before .before .before .before .before .before .before .before .before .before .before .count-dangers .ensures) (c .before .before .before .before .before .before .before .before .before .before .before .before .before .before .before .before .before .before .before .before .count-repeats .ensures) (c .before .before .before .before .before .before .before .before .before .before .before .before .before .before .before .before .before .before .put-head .ensures) (c .before .before .before .before .before .before .before .before .before .before .before .before .before .before .put-pairs .ensures) (c .before .before .before .before .before .before .before .before .before .before .put-dangers .ensures) (c .before .before .before .before .before .before .put-repeats .ensures) (c .before .before .put-end .ensures)
+returns c = sheet-puts _ _ _ (c .before .before .before .before .before .before .before .before .before .before .before .before .before .before .before .before .before .before .before .before .before .before .before .before .before .before .before .before .pre .2) (c .before .before .before .before .before .before .before .before .before .before .before .before .before .before .before .before .before .before .before .before .before .count-dangers .ensures) (c .before .before .before .before .before .before .before .before .before .before .before .before .before .before .before .before .before .before .before .before .count-repeats .ensures) (c .before .before .before .before .before .before .before .before .before .before .before .before .before .before .before .before .before .before .put-head .ensures) (c .before .before .before .before .before .before .before .before .before .before .before .before .before .before .put-pairs .ensures) (c .before .before .before .before .before .before .before .before .before .before .put-edges .ensures) (c .before .before .before .before .before .before .put-repeats .ensures) (c .before .before .put-end .ensures)
 
 pub put-sheet-spec : {M : Type 1} → statement M
 put-sheet-spec =
@@ -38,7 +38,7 @@ put-sheet-spec =
     count-repeats-requires
     put-head-requires
     put-pairs-requires
-    put-dangers-requires
+    put-edges-requires
     put-repeats-requires
     put-end-requires
     same-length

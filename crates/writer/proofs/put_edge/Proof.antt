@@ -1,7 +1,7 @@
 use borrow.Author.Needs.{needs}
 use Rattle.writer.proofs.All.{all}
-use Rattle.writer.proofs.put_danger.Statement.{statement}
-use Rattle.writer.proofs.put_danger.Tie as tie
+use Rattle.writer.proofs.put_edge.Statement.{statement}
+use Rattle.writer.proofs.put_edge.Tie as tie
 
 put-byte-requires : tie.Need-put-byte-requires
 put-byte-requires c κs = search needs
@@ -18,7 +18,7 @@ same-length c = search needs
 returns : tie.Need-returns
 returns c = search (all, needs)
 
-pub put-danger-spec : {M : Type 1} → statement M
-put-danger-spec =
+pub put-edge-spec : {M : Type 1} → statement M
+put-edge-spec =
     tie.close
     (tie.spec put-byte-requires put-field-requires put-byte-requires-2 same-length returns)

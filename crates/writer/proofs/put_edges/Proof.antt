@@ -2,15 +2,15 @@ use borrow.Author.Needs.{needs}
 use Rattle.writer.proofs.All.{all}
 use Prim.Native.Nat.{_≤_, _-_, _*_}
 use Rattle.writer.specs.Writes.{Writes}
-use Rattle.writer.specs.Texts.{dangerText}
-use Rattle.writer.proofs.put_dangers.Statement.{statement}
-use Rattle.writer.proofs.put_dangers.Tie as tie
+use Rattle.writer.specs.Texts.{edgeText}
+use Rattle.writer.proofs.put_edges.Statement.{statement}
+use Rattle.writer.proofs.put_edges.Tie as tie
 
 abbrev Inv-loop : tie.InvT-loop
-Inv-loop out₀ at set edges k₀ e₀ out k e = (e ≤ edges) × Writes out₀ at (dangerText set e) (23 * e) k out
+Inv-loop out₀ at b set edges k₀ e₀ out k e = (e ≤ edges) × Writes out₀ at (edgeText b set e) (23 * e) k out
 
 abbrev μ-loop : tie.MeasureT-loop
-μ-loop out₀ at set edges k₀ e₀ out k e = edges - e
+μ-loop out₀ at b set edges k₀ e₀ out k e = edges - e
 
 loop-holds : tie.Need-loop-holds Inv-loop μ-loop
 loop-holds c = search (all, needs)
@@ -18,8 +18,8 @@ loop-holds c = search (all, needs)
 in-set-requires : tie.Need-in-set-requires Inv-loop μ-loop
 in-set-requires c κs = search (all, needs)
 
-put-danger-requires : tie.Need-put-danger-requires Inv-loop μ-loop
-put-danger-requires c κs = search (all, needs)
+put-edge-requires : tie.Need-put-edge-requires Inv-loop μ-loop
+put-edge-requires c κs = search (all, needs)
 
 add-e : tie.Need-add-e Inv-loop μ-loop
 add-e c = search (all, needs)
@@ -45,15 +45,15 @@ same-length c = search (all, needs)
 returns : tie.Need-returns Inv-loop μ-loop
 returns c = search (all, needs)
 
-pub put-dangers-spec : {M : Type 1} → statement M
-put-dangers-spec =
+pub put-edges-spec : {M : Type 1} → statement M
+put-edges-spec =
     tie.close
     (tie.spec
     Inv-loop
     μ-loop
     loop-holds
     in-set-requires
-    put-danger-requires
+    put-edge-requires
     add-e
     loop-less
     loop-again
