@@ -12,7 +12,7 @@ use lib.ListN.{length, getD}
 use Rattle.laws.specs.Tests.{_and_, after, count, first}
 use Rattle.laws.specs.Counting.{count-few}
 use Rattle.laws.specs.Bits.{bitAt, bitIn, bit-and, count-word, first-word, first-no-word, zeros-fit}
-use Rattle.laws.specs.BitSets.{bit-in, bit-out, word-bit}
+use Rattle.laws.specs.BitSets.{bit-in, bit-out, without-in, without-out, word-bit}
 use Rattle.text.proofs.Laws.{get-out}
 use Rattle.coverage.specs.declared.Found.{Found}
 use Rattle.coverage.specs.declared.Found.the-variants.{At, Nothing}
@@ -25,7 +25,7 @@ ones-fit w h = omega (arith, ones-le 64 w h)
 
 pub ruleset words = (get-out, ones-fit, zeros-fit)
 
--- ---- `covers`, `in_set`, `set_bit`, `ones`
+-- ---- `covers`, `in_set`, `set_bit`, `clear_bit`, `ones`
 
 pub covers-is : (rows : List ℕ) (i e w : ℕ) → w ≡ getD rows (16 * i + e / 64) 0 → eqb (w / 2 ^ (e % 64) % 2) 1 ≡ edgeBit rows i e
 unfolding edgeBit bitAt
@@ -62,7 +62,7 @@ pub ones-start : (rows : List ℕ) (i : ℕ) → 0 ≡ count (64 * 0) (edgeBit r
 unfolding count
 ones-start rows i = refl
 
-pub ruleset counts = (covers-is, set-bit, bit-out, bit-in, ones-room, ones-on, ones-done, ones-start)
+pub ruleset counts = (covers-is, set-bit, bit-out, bit-in, without-out, without-in, ones-room, ones-on, ones-done, ones-start)
 
 -- ---- `common_word`
 

@@ -5,7 +5,7 @@ ghost use lib.Bits.{bitAnd};
 ghost use lib.Count.{ones as onesOf, trailingZeros};
 ghost use lib.ListN.{getD};
 ghost use Rattle.laws.specs.Bits.{bitIn};
-ghost use Rattle.laws.specs.BitSets.{withBit};
+ghost use Rattle.laws.specs.BitSets.{withBit, withoutBit};
 ghost use Rattle.coverage.specs.Rows.{edgeBit, edgeFound, firstCommon, rowMeets, rowOnes};
 
 // What a search for an edge answers: the edge, or that there is none.
@@ -68,6 +68,18 @@ pub fn set_bit(set: &mut [u64], i: usize)
     if k < set.len() {
         let bit: u64 = 1 << shift;
         set[k] = set[k] | bit;
+    }
+}
+
+// Takes the bit i out of the set; past its end, nothing.
+pub fn clear_bit(set: &mut [u64], i: usize)
+    ensures { λ _. ⌜ now (set .exit) ≡ withoutBit (now (set .entry)) i ⌝ }
+{
+    let k = i / 64;
+    let shift = i % 64;
+    if k < set.len() {
+        let bit: u64 = 1 << shift;
+        set[k] = (set[k] | bit) ^ bit;
     }
 }
 

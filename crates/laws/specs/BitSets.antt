@@ -1,26 +1,30 @@
--- Sets of numbers as bits in words of 64 bits: one bit set, the other bits staying as they were; the bits of a word from a number on.
+-- Sets of numbers as bits in words of 64 bits: one bit set or cleared, the other bits staying as they were; the bits of a word from a number on.
 use mathlib.Core.Path.{_≡_, refl, sym, ap, ap₂, _∙_}
-use mathlib.Core.Bool.{Bool, false}
+use mathlib.Core.Bool.{Bool, true, false}
 use mathlib.Core.List.{List}
-use Prim.Native.Nat.{ℕ, zero, suc, _+_, _*_, _/_, _%_, _^_, _≤_, _<_, max}
+use Prim.Native.Nat.{ℕ, zero, suc, _+_, _-_, _*_, _/_, _%_, _^_, _≤_, _<_, max}
 use native.Mathlib.Numerals.{one-add}
 use native.Mathlib.Nat.{div-one, mul-assoc, mul-comm, mul-one, one-mul, pow-suc, zero-max}
 use native.Mathlib.Omega.{arith}
 use lib.Arith.{digits-mod}
-use lib.Bits.{bitOr, or-shr, or-step}
+use lib.Bits.{bitOr, bitXor, differ, or-shr, or-step, xor-shr, xor-step}
 use lib.Dec.{eqb, leb}
 use lib.ListN.{length, getD, set, replicate, length-replicate, getD-replicate, List·getD-eq-default}
-use lib.Pow.{shl-exact, shr-shr}
+use lib.Pow.{pow-pos, shl-exact, shr-shr}
 use lib.Seq.{getD-set-other, getD-set-same, set-out}
 use borrow.Author.Tests.{eq-eqb, le-leb, lt-leb, ne-eqb}
-use Rattle.laws.specs.Tests.{_and_, _or_}
-use Rattle.laws.specs.TestLaws.{or-swap}
+use Rattle.laws.specs.Tests.{_and_, _or_, isnt}
+use Rattle.laws.specs.TestLaws.{and-not, or-swap}
 use Rattle.laws.specs.Slices.{below-or, same-or}
 use Rattle.laws.specs.Bits.{bitAt, bitIn, bit-none, bit-suc, bit-zero}
 
 -- The words with the bit i set.
 unfoldable pub withBit : List ℕ → ℕ → List ℕ
 withBit ws i = set ws (i / 64) (bitOr (getD ws (i / 64) 0) (2 ^ (i % 64)))
+
+-- The words with the bit i cleared: set, and then changed.
+unfoldable pub withoutBit : List ℕ → ℕ → List ℕ
+withoutBit ws i = set ws (i / 64) (bitXor (bitOr (getD ws (i / 64) 0) (2 ^ (i % 64))) (2 ^ (i % 64)))
 
 -- ---- the bits of one of two numbers, and of a power of 2
 
@@ -59,6 +63,13 @@ bit-power (suc s) (suc j) =
     let e : 2 ^ suc s / 2 ≡ 2 ^ s = omega arith in
     bit-suc (2 ^ suc s) j ∙ ap (λ (w : ℕ). bitAt w j) e ∙ bit-power s j ∙ same-suc s j
 
+-- Two bits of one word are one exactly if they stand at one place of it.
+same-place : (i j : ℕ) → j / 64 ≡ i / 64 → eqb (i % 64) (j % 64) ≡ eqb i j
+same-place i j e =
+    same-or i j
+    (λ q. eq-eqb (i % 64) (j % 64) (omega arith) ∙ sym (eq-eqb i j q))
+    (λ q. ne-eqb (i % 64) (j % 64) (λ r. q (omega arith)) ∙ sym (ne-eqb i j q))
+
 -- The bit i is set, and every other bit is as it was.
 pub bit-with : (ws : List ℕ) (i j : ℕ) → i < 64 * length ws → bitIn (withBit ws i) j ≡ (eqb i j or bitIn ws j)
 unfolding withBit bitIn _or_
@@ -66,15 +77,11 @@ bit-with ws i j h =
     let v : ℕ = bitOr (getD ws (i / 64) 0) (2 ^ (i % 64)) in
     same-or (j / 64) (i / 64)
     (λ e.
-    let low : eqb (i % 64) (j % 64) ≡ eqb i j =
-    same-or i j
-    (λ q. eq-eqb (i % 64) (j % 64) (omega arith) ∙ sym (eq-eqb i j q))
-    (λ q. ne-eqb (i % 64) (j % 64) (λ r. q (omega arith)) ∙ sym (ne-eqb i j q)) in
     ap (λ (k : ℕ). bitAt (getD (set ws (i / 64) v) k 0) (j % 64)) e
     ∙ ap (λ (w : ℕ). bitAt w (j % 64)) (getD-set-same ws (i / 64) v 0 (omega arith))
     ∙ bit-or (getD ws (i / 64) 0) (2 ^ (i % 64)) (j % 64)
     ∙ or-swap (bitAt (getD ws (i / 64) 0) (j % 64)) (bitAt (2 ^ (i % 64)) (j % 64))
-    ∙ ap₂ (λ (x : Bool) (k : ℕ). x or bitAt (getD ws k 0) (j % 64)) (bit-power (i % 64) (j % 64) ∙ low) (sym e))
+    ∙ ap₂ (λ (x : Bool) (k : ℕ). x or bitAt (getD ws k 0) (j % 64)) (bit-power (i % 64) (j % 64) ∙ same-place i j e) (sym e))
     (λ e.
     ap (λ (w : ℕ). bitAt w (j % 64)) (getD-set-other ws (i / 64) (j / 64) v 0 e)
     ∙ ap (λ (x : Bool). x or bitAt (getD ws (j / 64) 0) (j % 64)) (sym (ne-eqb i j (λ q. e (let z : j / 64 ≡ i / 64 = omega arith in z)))))
@@ -88,6 +95,70 @@ pub bit-in : (ws : List ℕ) (i : ℕ) → set ws (i / 64) (bitOr (getD ws (i / 
 unfolding withBit
 bit-in ws i =
     ap (λ (x : ℕ). set ws (i / 64) (bitOr (getD ws (i / 64) 0) x))
+    (shl-exact {a = 1} 1 (i % 64) 64 (omega arith) (omega arith) ∙ one-mul (2 ^ (i % 64)))
+
+-- ---- a bit cleared
+
+others-set : (x y : ℕ) → x < 2 → y < 2 → (differ (max x y) y < 2) × (eqb (differ (max x y) y) 1 ≡ (isnt (eqb y 1) and eqb x 1))
+unfolding _and_ isnt
+others-set zero zero h k = (omega arith, refl)
+others-set zero (suc zero) h k = (omega arith, refl)
+others-set (suc zero) zero h k = (omega arith, refl)
+others-set (suc zero) (suc zero) h k = (omega arith, refl)
+others-set zero (suc (suc y)) h k = absurd (let z : ⊥ = omega arith in z)
+others-set (suc zero) (suc (suc y)) h k = absurd (let z : ⊥ = omega arith in z)
+others-set (suc (suc x)) y h k = absurd (let z : ⊥ = omega arith in z)
+
+-- The bits of a number that a second has not.
+pub bit-others : (a b j : ℕ) → bitAt (bitXor (bitOr a b) b) j ≡ (isnt (bitAt b j) and bitAt a j)
+unfolding bitAt
+bit-others a b j =
+    let x : ℕ = a / 2 ^ j in
+    let y : ℕ = b / 2 ^ j in
+    let r = others-set (x % 2) (y % 2) (omega arith) (omega arith) in
+    let or-low : bitOr x y % 2 ≡ max (x % 2) (y % 2) = ap (λ (n : ℕ). n % 2) (or-step x y) ∙ digits-mod (bitOr (x / 2) (y / 2)) (omega arith) in
+    let step : bitXor (bitOr x y) y ≡ bitXor (bitOr x y / 2) (y / 2) * 2 + differ (max (x % 2) (y % 2)) (y % 2)
+    = xor-step (bitOr x y) y ∙ ap (λ (n : ℕ). bitXor (bitOr x y / 2) (y / 2) * 2 + differ n (y % 2)) or-low in
+    ap (λ (n : ℕ). eqb (n % 2) 1) (xor-shr (bitOr a b) b j ∙ ap (λ (n : ℕ). bitXor n y) (or-shr a b j) ∙ step)
+    ∙ ap (λ (n : ℕ). eqb n 1) (digits-mod (bitXor (bitOr x y / 2) (y / 2)) (r .0))
+    ∙ r .1
+
+-- Past the words no bit is set.
+pub past-bit : (ws : List ℕ) (i : ℕ) → length ws ≤ i / 64 → bitIn ws i ≡ false
+unfolding bitIn
+past-bit ws i h = ap (λ (w : ℕ). bitAt w (i % 64)) (List·getD-eq-default ws 0 h) ∙ bit-none (i % 64)
+
+-- The bit i is cleared, and every other bit is as it was.
+pub bit-without : (ws : List ℕ) (i j : ℕ) → bitIn (withoutBit ws i) j ≡ (isnt (eqb i j) and bitIn ws j)
+unfolding withoutBit bitIn _and_ isnt
+bit-without ws i j =
+    let v : ℕ = bitXor (bitOr (getD ws (i / 64) 0) (2 ^ (i % 64))) (2 ^ (i % 64)) in
+    same-or (j / 64) (i / 64)
+    (λ e.
+    below-or (i / 64) (length ws)
+    (λ h.
+    ap (λ (k : ℕ). bitAt (getD (set ws (i / 64) v) k 0) (j % 64)) e
+    ∙ ap (λ (w : ℕ). bitAt w (j % 64)) (getD-set-same ws (i / 64) v 0 h)
+    ∙ bit-others (getD ws (i / 64) 0) (2 ^ (i % 64)) (j % 64)
+    ∙ ap₂ (λ (x : Bool) (k : ℕ). isnt x and bitAt (getD ws k 0) (j % 64)) (bit-power (i % 64) (j % 64) ∙ same-place i j e) (sym e))
+    (λ h.
+    let out : bitAt (getD ws (j / 64) 0) (j % 64) ≡ false = past-bit ws j (omega arith) in
+    ap (λ (l : List ℕ). bitAt (getD l (j / 64) 0) (j % 64)) (set-out ws (i / 64) v h) ∙ out
+    ∙ sym (ap (λ (t : Bool). isnt (eqb i j) and t) out ∙ and-not (isnt (eqb i j)))))
+    (λ e.
+    ap (λ (w : ℕ). bitAt w (j % 64)) (getD-set-other ws (i / 64) (j / 64) v 0 e)
+    ∙ ap (λ (x : Bool). isnt x and bitAt (getD ws (j / 64) 0) (j % 64)) (sym (ne-eqb i j (λ q. e (let z : j / 64 ≡ i / 64 = omega arith in z)))))
+
+-- Past the words nothing is cleared; within them, as the code clears it.
+pub without-out : (ws : List ℕ) (i : ℕ) → length ws ≤ i / 64 → ws ≡ withoutBit ws i
+unfolding withoutBit
+without-out ws i h = sym (set-out ws (i / 64) _ h)
+
+pub without-in : (ws : List ℕ) (i : ℕ)
+    → set ws (i / 64) (bitXor (bitOr (getD ws (i / 64) 0) (1 * 2 ^ (i % 64) % 18446744073709551616)) (1 * 2 ^ (i % 64) % 18446744073709551616)) ≡ withoutBit ws i
+unfolding withoutBit
+without-in ws i =
+    ap (λ (x : ℕ). set ws (i / 64) (bitXor (bitOr (getD ws (i / 64) 0) x) x))
     (shl-exact {a = 1} 1 (i % 64) 64 (omega arith) (omega arith) ∙ one-mul (2 ^ (i % 64)))
 
 -- ---- words in a row
@@ -110,6 +181,21 @@ clear-word n k =
 pub clear-bits : (s : List ℕ) (n : ℕ) → s ≡ replicate n 0 → (e : ℕ) → bitIn s e ≡ false
 unfolding bitIn
 clear-bits s n q e = ap (λ (l : List ℕ). bitAt (getD l (e / 64) 0) (e % 64)) q ∙ ap (λ (x : ℕ). bitAt x (e % 64)) (clear-word n (e / 64)) ∙ bit-none (e % 64)
+
+-- Words that are all ones, and have every bit set.
+pub full-bit : (k j : ℕ) → j < k → bitAt (2 ^ k - 1) j ≡ true
+full-bit zero j h = absurd (let z : ⊥ = omega arith in z)
+full-bit (suc k) zero h = bit-zero (2 ^ suc k - 1) ∙ eq-eqb ((2 ^ suc k - 1) % 2) 1 (omega (arith, pow-pos k))
+full-bit (suc k) (suc j) h =
+    let e : (2 ^ suc k - 1) / 2 ≡ 2 ^ k - 1 = omega (arith, pow-pos k) in
+    bit-suc (2 ^ suc k - 1) j ∙ ap (λ (w : ℕ). bitAt w j) e ∙ full-bit k j (omega arith)
+
+pub full-bits : (s : List ℕ) (n : ℕ) → s ≡ replicate n 18446744073709551615 → (e : ℕ) → e < 64 * n → bitIn s e ≡ true
+unfolding bitIn
+full-bits s n q e h =
+    ap (λ (l : List ℕ). bitAt (getD l (e / 64) 0) (e % 64)) q
+    ∙ ap (λ (x : ℕ). bitAt x (e % 64)) (getD-replicate n (e / 64) 18446744073709551615 0 (omega arith))
+    ∙ full-bit 64 (e % 64) (omega arith)
 
 -- ---- the bits from a number on
 
