@@ -9,12 +9,12 @@ use native.Mathlib.Omega.{arith}
 use lib.Arith.{digits-mod}
 use lib.Bits.{bitOr, bitXor, differ, or-shr, or-step, xor-shr, xor-step}
 use lib.Dec.{eqb, leb}
-use lib.ListN.{length, getD, set, replicate, length-replicate, getD-replicate, List·getD-eq-default}
+use lib.ListN.{length, getD, set, replicate, length-set, length-replicate, getD-replicate, List·getD-eq-default}
 use lib.Pow.{pow-pos, shl-exact, shr-shr}
 use lib.Seq.{getD-set-other, getD-set-same, set-out}
 use borrow.Author.Tests.{eq-eqb, le-leb, lt-leb, ne-eqb}
 use Rattle.laws.specs.Tests.{_and_, _or_, isnt}
-use Rattle.laws.specs.TestLaws.{and-not, or-swap}
+use Rattle.laws.specs.TestLaws.{and-not, and-right, eqb-self, or-swap}
 use Rattle.laws.specs.Slices.{below-or, same-or}
 use Rattle.laws.specs.Bits.{bitAt, bitIn, bit-none, bit-suc, bit-zero}
 
@@ -148,6 +148,27 @@ bit-without ws i j =
     (λ e.
     ap (λ (w : ℕ). bitAt w (j % 64)) (getD-set-other ws (i / 64) (j / 64) v 0 e)
     ∙ ap (λ (x : Bool). isnt x and bitAt (getD ws (j / 64) 0) (j % 64)) (sym (ne-eqb i j (λ q. e (let z : j / 64 ≡ i / 64 = omega arith in z)))))
+
+-- The bit i itself; another one; none is set that was not.
+pub bit-cleared : (ws : List ℕ) (i : ℕ) → bitIn (withoutBit ws i) i ≡ false
+unfolding _and_ isnt
+bit-cleared ws i = bit-without ws i i ∙ ap (λ (t : Bool). isnt t and bitIn ws i) (eqb-self i)
+
+pub bit-kept : (ws : List ℕ) (i j : ℕ) → (i ≡ j → ⊥) → bitIn (withoutBit ws i) j ≡ bitIn ws j
+unfolding _and_ isnt
+bit-kept ws i j h = bit-without ws i j ∙ ap (λ (t : Bool). isnt t and bitIn ws j) (ne-eqb i j h)
+
+pub bit-before : (ws : List ℕ) (i j : ℕ) → bitIn (withoutBit ws i) j ≡ true → bitIn ws j ≡ true
+bit-before ws i j t = and-right _ _ (sym (bit-without ws i j) ∙ t)
+
+-- There are as many words as before.
+pub with-size : (ws : List ℕ) (i : ℕ) → length (withBit ws i) ≡ length ws
+unfolding withBit
+with-size ws i = length-set ws (i / 64) _
+
+pub without-size : (ws : List ℕ) (i : ℕ) → length (withoutBit ws i) ≡ length ws
+unfolding withoutBit
+without-size ws i = length-set ws (i / 64) _
 
 -- Past the words nothing is cleared; within them, as the code clears it.
 pub without-out : (ws : List ℕ) (i : ℕ) → length ws ≤ i / 64 → ws ≡ withoutBit ws i

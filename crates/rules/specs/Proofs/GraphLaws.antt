@@ -107,6 +107,12 @@ module _ (p : Program) (wf : WellFormed p) where
       let r = first-found (nodeCount p) (isOf p q X) (wf .exits q h) in
       rw (r .4) (r .3 n l (isOf-of p q X n a b))
 
+  pub exit-owner : (q : ℕ) → q < procCount p → ownerAt p (exit p q) ≡ q
+  unfolding exit orZero
+  exit-owner q h =
+      let r = first-found (nodeCount p) (isOf p q X) (wf .exits q h) in
+      rw (r .4) (isOf-true p q X (r .0) (r .2) .0)
+
   -- The procedure that is looked up for a name exists, also where no procedure has it; that of a callee of a call has the callee's name.
   procOf-below : (name : Bytes) → procOf p name < procCount p
   unfolding procOf orZero
