@@ -20,7 +20,7 @@ use Rattle.rules.specs.Proofs.ClosingLaws.{alike-kind}
 use Rattle.rules.specs.Proofs.Closure.{goesOn-at, goesOn-of, pair-alike}
 use Rattle.rules.specs.Proofs.GraphLaws.{called-below, sameKind-true}
 use Rattle.graph.specs.Table.{edgeBase, headBase, nodeBase}
-use Rattle.graph.specs.Reads.{upTo}
+use Rattle.graph.specs.Reads.{upTo, upTo-le}
 use Rattle.pairset.specs.Store.{Emptied, Empties, dangerIn, newAt, oldAt, pairsIn}
 use Rattle.pairset.specs.StoreLaws.{listed-at, listed-of}
 use Rattle.versions.specs.Memory.{InMemory, Memory, memory}
@@ -44,10 +44,6 @@ unfoldable pub Following : Memory → Memory → List ℕ → ℕ → List ℕ �
 Following a b t limit w₀ c₀ n m w c place =
     (o p : Listing) → InMemory a o → InGroups b t p → State (o .program) (p .program) limit w₀ c₀ → Pair (o .program) (p .program) n m → MayGoOn (o .program) (p .program) n m
     → FollowedTo (o .program) (p .program) limit w₀ c₀ n m w c place
-
-upTo-le : (e x : ℕ) → upTo e x ≤ e
-unfolding upTo
-upTo-le e x = below-or e x (λ l. omega (arith, choose-no x 0 (lt-leb x e l))) (λ l. omega (arith, choose-yes x 0 (le-leb x e l)))
 
 -- The walk goes down.
 pub follow-less : (place e r x : ℕ) → 0 < place → e ≡ place - 1 → r ≡ upTo e x → r < place

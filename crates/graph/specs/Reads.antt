@@ -5,7 +5,10 @@ use Prim.Native.Nat.{ℕ, _+_, _≤_}
 use native.Mathlib.Omega.{arith}
 use lib.Dec.{leb}
 use lib.ListN.{getD, take, drop, length, List·getD-eq-default}
+use borrow.Author.Tests.{le-leb, lt-leb}
 use Rattle.laws.specs.Tests.{choose}
+use Rattle.laws.specs.Lists.{choose-no, choose-yes}
+use Rattle.laws.specs.Slices.{below-or}
 use Rattle.rules.specs.Text.{Bytes}
 
 -- The part of the text whose start stands at i in the links, and its length behind that.
@@ -26,3 +29,7 @@ part-past text links i k h l =
 -- x where it is at most m, else 0.
 unfoldable pub upTo : ℕ → ℕ → ℕ
 upTo m x = choose (leb x m) x 0
+
+pub upTo-le : (m x : ℕ) → upTo m x ≤ m
+unfolding upTo
+upTo-le m x = below-or m x (λ l. omega (arith, choose-no x 0 (lt-leb x m l))) (λ l. omega (arith, choose-yes x 0 (le-leb x m l)))
