@@ -20,7 +20,7 @@ use Rattle.rules.specs.SuiteFile.{coverageAt, readTests, testCount, testName}
 use Rattle.rules.specs.Closing.{repeated}
 use Rattle.rules.specs.Sheet.{crossed, leftOff, vLine}
 use Rattle.rules.specs.Job.{Given, Request, Span, Version, answering, bySide, check-sheet, hasNode, labelAnswer, labelPart, labelShown, labelSpan, labelling, nowhere, outcome, packed, packedSpan, passed, readJob, readNewAnswer, readOldAnswer, readTestsAnswer, refusal, requestBy, serving, show-label, spanShown, success, write-record, write-sheet, wrote}
-use Rattle.rules.specs.Promises.{MarksTrue, Plain, RunsAlike, comesWithText, writes}
+use Rattle.rules.specs.Promises.{MarksHold, MarksTrue, Plain, RunsAlike, comesWithText, writes}
 use Rattle.rules.specs.Theorems.{answers-plain, demand3, label-shown, program-placed, too-long}
 use Rattle.rules.specs.Proofs.Exported.{written, zero-passed}
 use Rattle.rules.specs.Proofs.JobLaws.{known, outcome-wrote}
@@ -291,11 +291,12 @@ module _ {ℓ κ} (St : Type ℓ) (Out : Type κ) where
     -- A test with no R line on the sheet that the job writes is not repeated.
     pub unlisted : (room : ℕ) (sheet : Bytes) → sheetCall k room ≡ wrote sheet → (g : Given) → readTexts k ≡ accepted g
         → (i : ℕ) → leftOff sheet (testName (g .suite) i) ≡ true → has (repeated (g .old) (g .new) (g .suite .coverages)) i ≡ false
-    -- The record line of a test is its name, how many edges it crossed, and a mark for each new edge; and if the test is not repeated, the marks are true.
+    -- The record line of a test is its name, how many edges it crossed, and a mark for each new edge; if the test is not repeated, the marks are true, and in any case they may be relied
+    -- on where the old run ended.
     pub marked : (i room : ℕ) (line : Bytes) → recordCall k i room ≡ wrote line
         → (g : Given) × (readTexts k ≡ accepted g) × (marks : Bytes) × (length marks ≡ edgeCount (g .new))
         × (line ≡ textOf (vLine (testName (g .suite) i) (crossed (g .old) (coverageAt (g .suite) i)) marks ∷ []))
-        × (has (repeated (g .old) (g .new) (g .suite .coverages)) i ≡ false → MarksTrue St Out g i marks)
+        × (has (repeated (g .old) (g .new) (g .suite .coverages)) i ≡ false → MarksTrue St Out g i marks) × MarksHold St Out g i marks
 
 pub lent-demand3 {ℓ κ} : (St : Type ℓ) (Out : Type κ) (k : LentJob) → LentDemand3 St Out k
 lent-demand3 St Out k =
@@ -336,11 +337,12 @@ module _ {ℓ κ} (St : Type ℓ) (Out : Type κ) (k : LentJob) where
     -- A test with no R line among these bytes is left off by the selector: it is not repeated.
     pub unlisted : (a b : ℕ) (input : Bytes) (r : ℕ) (j j′ : Job) (w w′ out out′ : List ℕ) → Called (lentCall (requestBy 0 a b) k input (length out)) r j j′ w w′ out out′ → r < 4294967296
         → (g : Given) → readTexts k ≡ accepted g → (i : ℕ) → leftOff (take r out′) (testName (g .suite) i) ≡ true → has (repeated (g .old) (g .new) (g .suite .coverages)) i ≡ false
-    -- The request 1 for the test i returns one below it: so many bytes of a record line, whose marks are true if the selector leaves the test off.
+    -- The request 1 for the test i returns one below it: so many bytes of a record line, whose marks are true if the selector leaves the test off, and may be relied on where the
+    -- old run ended.
     pub marked : (i b : ℕ) (input : Bytes) (r : ℕ) (j j′ : Job) (w w′ out out′ : List ℕ) → Called (lentCall (requestBy 1 i b) k input (length out)) r j j′ w w′ out out′ → r < 4294967296
         → (g : Given) × (readTexts k ≡ accepted g) × (marks : Bytes) × (length marks ≡ edgeCount (g .new))
         × (out′ ≡ textOf (vLine (testName (g .suite) i) (crossed (g .old) (coverageAt (g .suite) i)) marks ∷ []) ++ drop r out)
-        × (has (repeated (g .old) (g .new) (g .suite .coverages)) i ≡ false → MarksTrue St Out g i marks)
+        × (has (repeated (g .old) (g .new) (g .suite .coverages)) i ≡ false → MarksTrue St Out g i marks) × MarksHold St Out g i marks
 
 pub lent-exported {ℓ κ} : (St : Type ℓ) (Out : Type κ) (k : LentJob) → LentExported St Out k
 unfolding requestBy choose packed
@@ -360,5 +362,5 @@ lent-exported St Out k =
       marked = λ i b input r j j′ w w′ out out′ c l.
           let u = call-written (write-record i) k input r j j′ w w′ out out′ c l in
           let m = d .marked i (length out) (u .0) (sym (input-any (write-record i) k input (length out) refl) ∙ u .1) in
-          (m .0, m .1, m .2, m .3, u .3 ∙ ap (λ (x : Bytes). x ++ drop r out) (m .4), m .5);
+          (m .0, m .1, m .2, m .3, u .3 ∙ ap (λ (x : Bytes). x ++ drop r out) (m .4), m .5, m .6);
     }

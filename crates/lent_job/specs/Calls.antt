@@ -9,7 +9,7 @@ use lib.ListN.{length, replicate, take}
 use Rattle.laws.specs.Tests.{_and_, after, choose}
 use Rattle.rules.specs.Text.{Bytes, Reading, refused, accepted, maxBytes, maxEdges, maxNodes, maxProcs}
 use Rattle.rules.specs.ProgramFile.{Listing}
-use Rattle.rules.specs.Job.{Given, Outcome, Request, Span, Version, check-sheet, givenOf, labelShown, make-request, no-request, nowhere, ofStage, outcome, outputAfter, packed, packedSpan, serving, show-label, spanShown, write-program, write-record, write-sheet}
+use Rattle.rules.specs.Job.{Given, Outcome, Request, Span, Version, check-sheet, givenOf, labelShown, make-request, no-request, nowhere, ofStage, outcome, outputAfter, packed, packedSpan, serving, show-label, spanShown, write-probes, write-program, write-record, write-sheet}
 use Rattle.rules.specs.WriteBack.{otherAlone}
 use Rattle.reader.specs.declared.Count.{Count}
 use Rattle.writeback.specs.Back.{backText}
@@ -94,6 +94,7 @@ takesParts (write-record i) = false
 takesParts check-sheet = false
 takesParts (show-label side n) = false
 takesParts (write-program side) = true
+takesParts write-probes = false
 takesParts no-request = false
 
 -- What the job and the tables hold for a request.

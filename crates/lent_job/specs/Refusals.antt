@@ -12,7 +12,7 @@ use Rattle.laws.specs.Tests.{choose}
 use Rattle.rules.specs.Text.{Reading, Bytes, refused}
 use Rattle.rules.specs.ProgramFile.{Listing}
 use Rattle.rules.specs.SuiteFile.{TestListing}
-use Rattle.rules.specs.Job.{Outcome, Request, check-sheet, no-request, ofStage, outcome, outputAfter, refusal, show-label, write-program, write-record, write-sheet}
+use Rattle.rules.specs.Job.{Outcome, Request, check-sheet, no-request, ofStage, outcome, outputAfter, refusal, show-label, write-probes, write-program, write-record, write-sheet}
 use Rattle.records.specs.declared.Job.{Job}
 use Rattle.records.specs.declared.Node.{Node}
 use Rattle.records.specs.Jobs.{fresh, sameJob}
@@ -102,6 +102,7 @@ texts-asked (write-record i) other k = refl
 texts-asked check-sheet other k = refl
 texts-asked (show-label side n) other k = refl
 texts-asked (write-program side) other k = absurd (other side refl)
+texts-asked write-probes other k = refl
 texts-asked no-request other k = refl
 
 pub texts-spoilt : (q : Request) → ((side : ℕ) → q ≡ write-program side → ⊥) → (k : LentJob) (input : Bytes) (room : ℕ) → k .job .stage ≡ 3 → held k ≡ none → lentCall q k input room ≡ refusal 14 0
