@@ -14,7 +14,7 @@ use Rattle.rules.specs.Graph.{Program, edgeCount}
 use Rattle.rules.specs.ProgramFile.{Listing}
 use Rattle.rules.specs.SuiteFile.{coverageAt, readTests, testCount}
 use Rattle.rules.specs.Closing.{pairs}
-use Rattle.rules.specs.Job.{Given, recordBytes, recording, refusal, sheetBytes, writing}
+use Rattle.rules.specs.Job.{Given, probesBytes, recordBytes, recording, refusal, sheetBytes, writing, written}
 use Rattle.rules.specs.Proofs.ReadBack.{selected-short}
 use Rattle.answer.specs.declared.Answer.{Answer}
 use Rattle.answer.specs.Outcomes.{Told, refusal-told, told-as}
@@ -30,10 +30,12 @@ use Rattle.coverage.specs.Rows.{rowMeets}
 use Rattle.probes.specs.Sets.{AfterFound, FindsAfter, FindsProbes, OpenFound, ProbesFound}
 use Rattle.suite.specs.Tables.{Holds}
 use Rattle.suite.specs.TableLaws.{suite-read}
-use Rattle.writer.specs.Sheets.{RecordWrites, RecordWritten, SheetWrites, SheetWritten, selection, writing-written}
+use Rattle.probes.specs.Probes.{ProbesFound}
+use Rattle.writer.specs.Laws.{probes-text}
+use Rattle.writer.specs.Sheets.{ProbesWritten, RecordWrites, RecordWritten, SheetWrites, SheetWritten, selection, writing-written}
 use Rattle.intake.specs.declared.Counts.{Counts}
 use Rattle.intake.specs.Ready.{Few, Ready}
-use Rattle.work.specs.Work.{Chosen, Done, RecordDone, RecordFrom, Selected, SelectDone, SheetDone}
+use Rattle.work.specs.Work.{Chosen, Done, ProbesDone, RecordDone, RecordFrom, Selected, SelectDone, SheetDone}
 
 -- ---- `select`
 
@@ -98,6 +100,18 @@ module _ (limit over : ℕ) (v v′ : Memory) (tt tests rows : List ℕ) (had : 
       → length (pairs (y .o .program) (y .p .program)) ≤ limit
   held-few g y w′ set′ c x h = omega (arith, x .held h .counted)
 
+  -- Whatever is to be written: refused where there are more pairs than the limit, and else as it is written.
+  module _ (b : Given → Bytes) (w′ set′ : List ℕ) (c : ℕ) (g : Given) (y : Ready v v′ tt tests rows had g) (x : Chosen limit (y .o .program) (y .p .program) w′ set′ c) where
+    told-many : limit < c → Told (writing limit over g (length out) (b g)) (record { number = over; place = 0 }) out out
+    told-many m =
+        subst (λ (g : Given). Told (writing limit over g (length out) (b g)) (record { number = over; place = 0 }) out out) (sym (y .given-is))
+        (told-as (writing-many limit over (giving g y) (length out) (b (giving g y)) (too-many limit (y .o .program) (y .p .program) w′ set′ c x m)) (refusal-told over 0 out))
+
+    told-few : c ≤ limit → (r : Answer) (out′ : Bytes) → Told (written (length out) (b (giving g y))) r out out′ → Told (writing limit over g (length out) (b g)) r out out′
+    told-few m r out′ t =
+        subst (λ (g : Given). Told (writing limit over g (length out) (b g)) r out out′) (sym (y .given-is))
+        (told-as (writing-written limit over (giving g y) (length out) (b (giving g y)) (held-few g y w′ set′ c x m)) t)
+
   -- ---- `write_sheet`
 
   pub sheet-many : (w′ set set′ : List ℕ) (c : ℕ) → Selected limit v v′ w w′ set set′ c → length set ≡ 16 → limit < c
@@ -105,10 +119,7 @@ module _ (limit over : ℕ) (v v′ : Memory) (tt tests rows : List ℕ) (had : 
   unfolding SheetDone
   sheet-many w′ set set′ c s k m =
       record {
-        claim = λ g y l.
-            let x = chosen w′ set set′ c s k g y l in
-            subst (λ (g : Given). Told (writing limit over g (length out) (sheetBytes g)) (record { number = over; place = 0 }) out out) (sym (y .given-is))
-            (told-as (writing-many limit over (giving g y) (length out) (sheetBytes (giving g y)) (too-many limit (y .o .program) (y .p .program) w′ set′ c x m)) (refusal-told over 0 out));
+        claim = λ g y l. told-many sheetBytes w′ set′ c g y (chosen w′ set set′ c s k g y l) m;
         size = s .size;
         room = refl;
       }
@@ -133,8 +144,7 @@ module _ (limit over : ℕ) (v v′ : Memory) (tt tests rows : List ℕ) (had : 
               short = selected-short limit (giving g y) (edgeCount (y .o .program)) (suite-read (edgeCount (y .o .program)) tt (y .l) (y .tests-read)) (held-few g y w′ set′ c x m) most
                   (sound v (y .o) (y .old-in)) (sound v′ (y .p) (y .new-in));
             }) in
-            subst (λ (g : Given). Told (writing limit over g (length out) (sheetBytes g)) r out out′) (sym (y .given-is))
-            (told-as (writing-written limit over (giving g y) (length out) (sheetBytes (giving g y)) (held-few g y w′ set′ c x m)) t);
+            told-few sheetBytes w′ set′ c g y x m r out′ t;
         size = s .size;
         room = h .size;
       }
@@ -176,6 +186,35 @@ module _ (limit over : ℕ) (v v′ : Memory) (tt tests rows : List ℕ) (had : 
         claim = λ g y l. h .claim limit over (v .text) (v′ .text) g c y (chosen w′ set set′ c s k g y l) (s .set-size ∙ k) m below;
         size = s .size;
         room = h .room;
+      }
+
+-- ---- `write_probes`
+
+module _ (limit over : ℕ) (v v′ : Memory) (had : Counts) (w : List ℕ) (out : Bytes) (w′ dangers dangers′ : List ℕ) (c : ℕ)
+    (s : Selected limit v v′ w w′ dangers dangers′ c) (k : length dangers ≡ 16) where
+  pub probes-many : limit < c → Done w w′ out out (ProbesDone limit over v v′ had w out (record { number = over; place = 0 }) out)
+  unfolding ProbesDone
+  probes-many m =
+      record {
+        claim = λ tt tests rows g y l.
+            told-many limit over v v′ tt tests rows had w out probesBytes w′ dangers′ c g y (chosen limit over v v′ tt tests rows had w out w′ dangers dangers′ c s k g y l) m;
+        size = s .size;
+        room = refl;
+      }
+
+  pub probes-few : c ≤ limit → (set set′ : List ℕ) → length set ≡ 16 → ProbesFound (v .nodes) (v .links) (v′ .nodes) (v′ .links) w′ dangers′ (had .«old_edges») (had .«new_nodes») set set′
+      → (r : Answer) (out′ : Bytes) → ProbesWritten set′ (had .«new_edges») out r out′ → Done w w′ out out′ (ProbesDone limit over v v′ had w out r out′)
+  unfolding ProbesDone probesBytes
+  probes-few m set set′ n f r out′ h =
+      record {
+        claim = λ tt tests rows g y l.
+            let x = chosen limit over v v′ tt tests rows had w out w′ dangers dangers′ c s k g y l in
+            let found = f .finds (y .o) (y .p) c (record { old-text = v .text; new-text = v′ .text; old-in = y .old-in; new-in = y .new-in; held = x .held m }) (x .marked m) (y .old-edges-n)
+            (y .new-nodes-n) (omega arith) in
+            let is = probes-text (y .o .program) (y .p .program) set′ (had .«new_edges») (y .new-edges-n) found in
+            told-few limit over v v′ tt tests rows had w out probesBytes w′ dangers′ c g y x m r out′ (told-as (ap (written (length out)) (sym is)) (h .told));
+        size = s .size;
+        room = h .size;
       }
 
 -- ---- `record_from`
@@ -223,4 +262,4 @@ record-put on ol nn nl tt tests rows had w out set none probed none′ after mar
       room = h .size;
     }
 
-pub ruleset all = (select-many, select-few, sheet-many, sheet-few, record-put, record-none, record-many, record-few)
+pub ruleset all = (select-many, select-few, sheet-many, sheet-few, probes-many, probes-few, record-put, record-none, record-many, record-few)

@@ -9,7 +9,7 @@ use Rattle.rules.specs.Text.{Bytes}
 use Rattle.rules.specs.Graph.{Program}
 use Rattle.rules.specs.ProgramFile.{Listing}
 use Rattle.rules.specs.Closing.{pairs}
-use Rattle.rules.specs.Job.{Given, recording, sheetBytes, writing}
+use Rattle.rules.specs.Job.{Given, probesBytes, recording, sheetBytes, writing}
 use Rattle.answer.specs.declared.Answer.{Answer}
 use Rattle.answer.specs.Outcomes.{Told}
 use Rattle.pairset.specs.Store.{pairBase}
@@ -40,6 +40,11 @@ pub record Selected (limit : ℕ) (v v′ : Memory) (w w′ set set′ : List �
 unfoldable pub SheetDone : ℕ → ℕ → Memory → Memory → Bytes → List ℕ → List ℕ → Counts → List ℕ → Bytes → Answer → Bytes → Type 0
 SheetDone limit over v v′ tt tests rows had w out r out′ =
     (g : Given) → Ready v v′ tt tests rows had g → pairBase + 3 * limit ≤ length w → Told (writing limit over g (length out) (sheetBytes g)) r out out′
+
+-- `write_probes`: the list of probes; `over` or 16. What the table w holds afterwards is left open.
+unfoldable pub ProbesDone : ℕ → ℕ → Memory → Memory → Counts → List ℕ → Bytes → Answer → Bytes → Type 0
+ProbesDone limit over v v′ had w out r out′ =
+    (tt : Bytes) (tests rows : List ℕ) (g : Given) → Ready v v′ tt tests rows had g → pairBase + 3 * limit ≤ length w → Told (writing limit over g (length out) (probesBytes g)) r out out′
 
 -- `record_from`: the record line of a test, from the pairs and the dangerous edges.
 unfoldable pub RecordFrom : List ℕ → List ℕ → List ℕ → List ℕ → Bytes → List ℕ → List ℕ → Counts → ℕ → List ℕ → List ℕ → Bytes → Answer → Bytes → Type 0

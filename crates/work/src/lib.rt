@@ -1,4 +1,4 @@
-// The work of a job whose texts were read: the selection, the sheet, the record lines. Programs and tests are in memory, as reading them
+// The work of a job whose texts were read: the selection, the sheet, the list of probes, the record lines. Programs and tests are in memory, as reading them
 // leaves them; `w` is the table of the pairs, with room for `limit` of them: the answer is `over` where more exist. What a call that writes
 // leaves in it is left open.
 use answer::Answer;
@@ -6,7 +6,7 @@ use intake::Counts;
 ghost use Prim.Native.Nat.{_≤_};
 ghost use Rattle.intake.specs.Ready.{Few};
 ghost use Rattle.versions.specs.Memory.{memory};
-ghost use Rattle.work.specs.Work.{Done, RecordDone, RecordFrom, Selected, SheetDone};
+ghost use Rattle.work.specs.Work.{Done, ProbesDone, RecordDone, RecordFrom, Selected, SheetDone};
 
 // The limit on pairs, and the number of the refusal where more exist, as the callers give them.
 pub const MAX_PAIRS: usize = 4096;
@@ -71,6 +71,39 @@ pub fn write_sheet(
     let news = had.new_nodes;
     let count = had.tests;
     writer::write_sheet(w, c, olds, news, &set, edges, tt, tests, rows, count, out)
+}
+
+// Writes the list of probes. What the table of the pairs holds afterwards is left open.
+pub fn write_probes(
+    limit: usize,
+    over: usize,
+    ot: &[u8],
+    on: &[usize],
+    ol: &[usize],
+    nt: &[u8],
+    nn: &[usize],
+    nl: &[usize],
+    had: Counts,
+    w: &mut [usize],
+    out: &mut [u8],
+) -> Answer
+    requires { ⌜ limit ≤ 4096 ⌝ }
+    requires { ⌜ Few had ⌝ }
+    ensures { λ r. ⌜ Done (now (w .entry)) (now (w .exit)) (now (out .entry)) (now (out .exit)) (ProbesDone limit over (memory (now (ot .entry)) (now (on .entry)) (now (ol .entry))) (memory (now (nt .entry)) (now (nn .entry)) (now (nl .entry))) had (now (w .entry)) (now (out .entry)) r (now (out .exit))) ⌝ }
+{
+    let mut dangers = [0u64; 16];
+    let c = select(limit, ot, on, ol, nt, nn, nl, w, &mut dangers);
+    if limit < c {
+        return Answer {
+            number: over,
+            place: 0,
+        };
+    }
+    let mut set = [0u64; 16];
+    let old_edges = had.old_edges;
+    let new_nodes = had.new_nodes;
+    probes::find_probes(on, ol, nn, nl, w, &dangers, old_edges, new_nodes, &mut set);
+    writer::write_probes(&set, had.new_edges, out)
 }
 
 // Writes the record line of a test, from the pairs and the dangerous edges.
