@@ -19,7 +19,7 @@ use Rattle.records.specs.declared.Job.{Job}
 use Rattle.reader.specs.declared.Count.{Count}
 use Rattle.text.specs.Puts.{Puts, puts-front}
 use Rattle.requests.specs.declared.Request.{Request}
-use Rattle.requests.specs.declared.Request.the-variants.{Check, Label as LabelOf, Program, Record, Sheet, Unknown}
+use Rattle.requests.specs.declared.Request.the-variants.{Check, Label as LabelOf, Probes, Program, Record, Sheet, Unknown}
 use Rattle.requests.specs.Requests.{asked}
 use Rattle.writer.specs.Writes.{Writes}
 use Rattle.writeback.specs.Parts.{partsSame}
@@ -52,6 +52,10 @@ module _ (q : Request) where
   pub takes-program : (side : ℕ) → q ≡ Program side → true ≡ takesParts (asked q)
   unfolding asked
   takes-program side e = sym (ap (λ (x : Request). takesParts (asked x)) e)
+
+  pub takes-probes : q ≡ Probes → false ≡ takesParts (asked q)
+  unfolding asked
+  takes-probes e = sym (ap (λ (x : Request). takesParts (asked x)) e)
 
   pub takes-unknown : q ≡ Unknown → false ≡ takesParts (asked q)
   unfolding asked
@@ -142,4 +146,4 @@ module _ (q : Asked) (j : Job) (olds : ℕ) (ot on ol : List ℕ) (news : ℕ) (
     unfolding _and_ choose
     back-no-new v input out r ev a b er = let f : choose (u and v) (held back-job) none ≡ none = simp (a, b) in none-told input out r (held-by v ev ∙ f) er
 
-pub ruleset all = (takes-sheet, takes-record, takes-check, takes-label, takes-program, takes-unknown, limit-is, not-stage, not-left)
+pub ruleset all = (takes-sheet, takes-record, takes-check, takes-label, takes-program, takes-probes, takes-unknown, limit-is, not-stage, not-left)

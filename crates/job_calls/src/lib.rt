@@ -137,6 +137,9 @@ fn takes_parts(request: Request) -> bool
         Request::Program(side) => {
             return true;
         }
+        Request::Probes => {
+            return false;
+        }
         Request::Unknown => {
             return false;
         }

@@ -24,9 +24,9 @@ use Rattle.writer.specs.Sheets.{TextWritten}
 use Rattle.intake.specs.declared.Counts.{Counts}
 use Rattle.intake.specs.Ready.{Ready}
 use Rattle.checker.specs.Checking.{Checks}
-use Rattle.work.specs.Work.{Done, RecordDone, SheetDone}
+use Rattle.work.specs.Work.{Done, ProbesDone, RecordDone, SheetDone}
 use Rattle.requests.specs.declared.Request.{Request}
-use Rattle.requests.specs.declared.Request.the-variants.{Check, Label, Program, Record, Sheet, Unknown}
+use Rattle.requests.specs.declared.Request.the-variants.{Check, Label, Probes, Program, Record, Sheet, Unknown}
 use Rattle.requests.specs.Requests.{LabelTold, ProgramTold, Served, asked, nodesOn, textOn}
 
 -- ---- `by_number`
@@ -52,9 +52,13 @@ module _ (n a b : ℕ) where
   unfolding requestBy asked choose
   by-4 z y x w e = simp (ne-eqb _ _ z, ne-eqb _ _ y, ne-eqb _ _ x, ne-eqb _ _ w, eq-eqb _ _ e)
 
-  pub by-none : (n ≡ 0 → ⊥) → (n ≡ 1 → ⊥) → (n ≡ 2 → ⊥) → (n ≡ 3 → ⊥) → (n ≡ 4 → ⊥) → asked Unknown ≡ requestBy n a b
+  pub by-5 : (n ≡ 0 → ⊥) → (n ≡ 1 → ⊥) → (n ≡ 2 → ⊥) → (n ≡ 3 → ⊥) → (n ≡ 4 → ⊥) → n ≡ 5 → asked Probes ≡ requestBy n a b
   unfolding requestBy asked choose
-  by-none z y x w v = simp (ne-eqb _ _ z, ne-eqb _ _ y, ne-eqb _ _ x, ne-eqb _ _ w, ne-eqb _ _ v)
+  by-5 z y x w v e = simp (ne-eqb _ _ z, ne-eqb _ _ y, ne-eqb _ _ x, ne-eqb _ _ w, ne-eqb _ _ v, eq-eqb _ _ e)
+
+  pub by-none : (n ≡ 0 → ⊥) → (n ≡ 1 → ⊥) → (n ≡ 2 → ⊥) → (n ≡ 3 → ⊥) → (n ≡ 4 → ⊥) → (n ≡ 5 → ⊥) → asked Unknown ≡ requestBy n a b
+  unfolding requestBy asked choose
+  by-none z y x w v u = simp (ne-eqb _ _ z, ne-eqb _ _ y, ne-eqb _ _ x, ne-eqb _ _ w, ne-eqb _ _ v, ne-eqb _ _ u)
 
 -- ---- `nodes_on`, `label`
 
@@ -184,6 +188,10 @@ module _ (v v′ : Memory) (tt tests rows : List ℕ) (had : Counts) (input w w�
   unfolding Served serving asked
   program-served side e d = record { claim = λ g y. told-as (text-back v v′ tt tests rows had g y (length out) side) (d .told); size = ap length e; room = d .size }
 
+  probes-served : 16912 ≤ length w → Done w w′ out out′ (ProbesDone maxPairs tooMany v v′ had w out r out′) → Does Probes
+  unfolding ProbesDone Served serving asked
+  probes-served room d = record { claim = λ g y. d .claim tt tests rows g y room; size = d .size; room = d .room }
+
   unknown-served : w′ ≡ w → out′ ≡ out → r ≡ record { number = 6; place = 0 } → Does Unknown
   unfolding Served serving asked
   unknown-served e eo er =
@@ -205,7 +213,10 @@ module _ (v v′ : Memory) (tt tests rows : List ℕ) (had : Counts) (input w w�
     pub program-asked : (side : ℕ) → q ≡ Program side → w′ ≡ w → ProgramTold (v .text) (v′ .text) side out r out′ → Does q
     program-asked side e a d = subst Does (sym e) (program-served side a d)
 
+    pub probes-asked : q ≡ Probes → 16912 ≤ length w → Done w w′ out out′ (ProbesDone maxPairs tooMany v v′ had w out r out′) → Does q
+    probes-asked e room d = subst Does (sym e) (probes-served room d)
+
     pub unknown-asked : q ≡ Unknown → w′ ≡ w → out′ ≡ out → r ≡ record { number = 6; place = 0 } → Does q
     unknown-asked e a b d = subst Does (sym e) (unknown-served a b d)
 
-pub ruleset all = (by-0, by-1, by-2, by-3, by-4, by-none, on-old, on-new, on-none, label-there, label-not, program-old, program-new, program-none, sheet-asked, record-asked, check-asked, label-asked, program-asked, unknown-asked)
+pub ruleset all = (by-0, by-1, by-2, by-3, by-4, by-5, by-none, on-old, on-new, on-none, label-there, label-not, program-old, program-new, program-none, sheet-asked, record-asked, check-asked, label-asked, program-asked, probes-asked, unknown-asked)

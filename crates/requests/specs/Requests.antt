@@ -6,14 +6,14 @@ use lib.Dec.{eqb}
 use lib.ListN.{length}
 use Rattle.laws.specs.Tests.{after, choose}
 use Rattle.rules.specs.Text.{Bytes}
-use Rattle.rules.specs.Job.{Given, Request as Asked, check-sheet, Outcome, bySide, labelling, no-request, refusal, serving, show-label, write-program, write-record, write-sheet, written}
+use Rattle.rules.specs.Job.{Given, Request as Asked, check-sheet, Outcome, bySide, labelling, no-request, refusal, serving, show-label, write-probes, write-program, write-record, write-sheet, written}
 use Rattle.answer.specs.declared.Answer.{Answer}
 use Rattle.answer.specs.Outcomes.{Answered, Told}
 use Rattle.versions.specs.Memory.{Memory}
 use Rattle.intake.specs.declared.Counts.{Counts}
 use Rattle.intake.specs.Ready.{Ready}
 use Rattle.requests.specs.declared.Request.{Request}
-use Rattle.requests.specs.declared.Request.the-variants.{Check, Label, Program, Record, Sheet, Unknown}
+use Rattle.requests.specs.declared.Request.the-variants.{Check, Label, Probes, Program, Record, Sheet, Unknown}
 
 -- The request, as the rules have it.
 unfoldable pub asked : Request → Asked
@@ -22,6 +22,7 @@ asked (Record i) = write-record i
 asked Check = check-sheet
 asked (Label side n) = show-label side n
 asked (Program side) = write-program side
+asked Probes = write-probes
 asked Unknown = no-request
 
 -- `serve`: the answer is what is asked, of whatever job is in memory.

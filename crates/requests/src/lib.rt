@@ -8,20 +8,21 @@ ghost use Prim.Native.Nat.{_≤_};
 ghost use lib.ListN.{length};
 ghost use Rattle.intake.specs.Ready.{Few};
 ghost use Rattle.versions.specs.Memory.{memory};
-ghost use Rattle.work.specs.Work.{Done, RecordDone, SheetDone};
+ghost use Rattle.work.specs.Work.{Done, ProbesDone, RecordDone, SheetDone};
 ghost use Rattle.rules.specs.Text.{maxPairs, tooMany};
 ghost use Rattle.rules.specs.Job.{requestBy};
 ghost use Rattle.checker.specs.Checking.{Checks};
 ghost use Rattle.requests.specs.Requests.{LabelTold, ProgramTold, Served, asked, nodesOn, refusalOf};
 
 // What is asked: the sheet; the record line of a test; the check of the sheet that the request comes with; the label of a node, by side and
-// node number; the program of a side, written back; no request that there is.
+// node number; the program of a side, written back; the list of probes; no request that there is.
 pub enum Request {
     Sheet,
     Record(usize),
     Check,
     Label(usize, usize),
     Program(usize),
+    Probes,
     Unknown,
 }
 
@@ -43,6 +44,9 @@ pub fn by_number(number: usize, a: usize, b: usize) -> Request
     }
     if number == 4 {
         return Request::Program(a);
+    }
+    if number == 5 {
+        return Request::Probes;
     }
     Request::Unknown
 }
@@ -221,6 +225,36 @@ fn program(ot: &[u8], nt: &[u8], side: usize, out: &mut [u8]) -> Answer
     }
 }
 
+// Writes the list of probes.
+fn probes(
+    ot: &[u8],
+    on: &[usize],
+    ol: &[usize],
+    nt: &[u8],
+    nn: &[usize],
+    nl: &[usize],
+    had: Counts,
+    w: &mut [usize],
+    out: &mut [u8],
+) -> Answer
+    requires { ⌜ Few had ⌝ }
+    ensures { λ r. ⌜ Done (now (w .entry)) (now (w .exit)) (now (out .entry)) (now (out .exit)) (ProbesDone maxPairs tooMany (memory (now (ot .entry)) (now (on .entry)) (now (ol .entry))) (memory (now (nt .entry)) (now (nn .entry)) (now (nl .entry))) had (now (w .entry)) (now (out .entry)) r (now (out .exit))) ⌝ }
+{
+    work::write_probes(
+        work::MAX_PAIRS,
+        work::TOO_MANY,
+        ot,
+        on,
+        ol,
+        nt,
+        nn,
+        nl,
+        had,
+        w,
+        out,
+    )
+}
+
 // Does what is asked, of programs and tests in memory; `input` is the text that the request comes with, and `w` the table of the pairs.
 pub fn serve(
     ot: &[u8],
@@ -257,6 +291,9 @@ pub fn serve(
         }
         Request::Program(side) => {
             return program(ot, nt, side, out);
+        }
+        Request::Probes => {
+            return probes(ot, on, ol, nt, nn, nl, had, w, out);
         }
         Request::Unknown => {
             return Answer {

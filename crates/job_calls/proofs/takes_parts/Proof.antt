@@ -39,6 +39,12 @@ enum-told-3 c = search needs
 returns-6 : tie.Need-returns-6
 returns-6 c = search (all, needs)
 
+enum-told-4 : tie.Need-enum-told-4
+enum-told-4 c = search needs
+
+returns-7 : tie.Need-returns-7
+returns-7 c = search (all, needs)
+
 pub takes-parts-spec : {M : Type 1} → statement M
 takes-parts-spec =
     tie.close
@@ -54,4 +60,6 @@ takes-parts-spec =
     enum-known-request-3
     returns-5
     enum-told-3
-    returns-6)
+    returns-6
+    enum-told-4
+    returns-7)

@@ -21,5 +21,8 @@ returns-5 c = search (all, needs)
 returns-6 : tie.Need-returns-6
 returns-6 c = search (all, needs)
 
+returns-7 : tie.Need-returns-7
+returns-7 c = search (all, needs)
+
 pub by-number-spec : {M : Type 1} → statement M
-by-number-spec = tie.close (tie.spec returns returns-2 returns-3 returns-4 returns-5 returns-6)
+by-number-spec = tie.close (tie.spec returns returns-2 returns-3 returns-4 returns-5 returns-6 returns-7)

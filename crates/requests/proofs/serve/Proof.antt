@@ -69,8 +69,23 @@ returns-5 c = search (all, needs)
 enum-told-3 : tie.Need-enum-told-3
 enum-told-3 c = search needs
 
+probes-requires : tie.Need-probes-requires
+probes-requires c κs = search needs
+
+same-length-7 : tie.Need-same-length-7
+same-length-7 c = search needs
+
+same-length-8 : tie.Need-same-length-8
+same-length-8 c = search needs
+
 returns-6 : tie.Need-returns-6
 returns-6 c = search (all, needs)
+
+enum-told-4 : tie.Need-enum-told-4
+enum-told-4 c = search needs
+
+returns-7 : tie.Need-returns-7
+returns-7 c = search (all, needs)
 
 pub serve-spec : {M : Type 1} → statement M
 serve-spec =
@@ -98,4 +113,9 @@ serve-spec =
     same-length-6
     returns-5
     enum-told-3
-    returns-6)
+    probes-requires
+    same-length-7
+    same-length-8
+    returns-6
+    enum-told-4
+    returns-7)
