@@ -7,7 +7,7 @@ use lib.ListN.{length}
 use Rattle.rules.specs.Text.{Reading, Bytes, accepted, refused}
 use Rattle.rules.specs.ProgramFile.{Listing, readListing, readProgram}
 use Rattle.rules.specs.Graph.{Program}
-use Rattle.rules.specs.Job.{Given, Outcome, Request as Asked, answering, check-sheet, checkAnswer, outcome, outputAfter, packed, programAnswer, readJob, readNewAnswer, readOldAnswer, readTestsAnswer, recordAnswer, refusal, serving, sheetAnswer, success, write-program, write-record, write-sheet}
+use Rattle.rules.specs.Job.{Given, Outcome, Request as Asked, answering, check-sheet, checkAnswer, outcome, outputAfter, packed, probesAnswer, programAnswer, readJob, readNewAnswer, readOldAnswer, readTestsAnswer, recordAnswer, refusal, serving, sheetAnswer, success, write-probes, write-program, write-record, write-sheet}
 use Rattle.rules.specs.Proofs.Answers.{plain-answers}
 use Rattle.answer.specs.declared.Answer.{Answer}
 use Rattle.answer.specs.Outcomes.{Answered, Told, answered-as, packing, packs, refusal-told, told-as}
@@ -18,7 +18,7 @@ use Rattle.intake.specs.declared.Counts.{Counts}
 use Rattle.intake.specs.Ready.{JobRead, JobTold, Ready}
 use Rattle.intake.proofs.Laws.{program-of, program-refused}
 use Rattle.work.specs.Work.{Done}
-use Rattle.requests.specs.declared.Request.the-variants.{Check, Program as ProgramOf, Record, Sheet}
+use Rattle.requests.specs.declared.Request.the-variants.{Check, Probes, Program as ProgramOf, Record, Sheet}
 use Rattle.requests.specs.Requests.{Served, asked, refusalOf}
 
 -- A number and a place are those of an outcome.
@@ -149,4 +149,9 @@ module _ (old new tt input : Bytes) (a : Answer) (out out′ : Bytes) where
   unfolding answering serving asked
   program-packs side r t e = told-packs (write-program side) r t e
 
-pub ruleset all = (old-packs, new-stop-packs, new-packs, tests-packs, whole-stop, whole-goes, sheet-packs, record-packs, check-packs, program-packs)
+  pub probes-packs : (r : ℕ) → Told (answering (asked Probes) old new tt input (length out)) a out out′ → r ≡ packing (a .number) (a .place)
+      → (r ≡ packed (probesAnswer old new tt (length out))) × (out′ ≡ outputAfter (probesAnswer old new tt (length out)) out)
+  unfolding answering serving asked
+  probes-packs r t e = told-packs write-probes r t e
+
+pub ruleset all = (old-packs, new-stop-packs, new-packs, tests-packs, whole-stop, whole-goes, sheet-packs, record-packs, check-packs, program-packs, probes-packs)

@@ -9,7 +9,7 @@ use records::Node;
 use requests::Request;
 ghost use mathlib.Core.Path.{_≡_};
 ghost use lib.ListN.{length};
-ghost use Rattle.rules.specs.Job.{answering, checkAnswer, outputAfter, packed, programAnswer, readNewAnswer, readOldAnswer, readTestsAnswer, recordAnswer, requestBy, sheetAnswer};
+ghost use Rattle.rules.specs.Job.{answering, checkAnswer, outputAfter, packed, probesAnswer, programAnswer, readNewAnswer, readOldAnswer, readTestsAnswer, recordAnswer, requestBy, sheetAnswer};
 ghost use Rattle.answer.specs.Outcomes.{Told};
 ghost use Rattle.requests.specs.Requests.{asked};
 ghost use Rattle.records.specs.Jobs.{fresh};
@@ -139,6 +139,16 @@ pub extern "C" fn ry_program(old: &[u8], new: &[u8], tt: &[u8], side: usize, out
     ensures { λ _. ⌜ now (out .exit) ≡ outputAfter (programAnswer (now (old .entry)) (now (new .entry)) (now (tt .entry)) side (length (now (out .entry)))) (now (out .entry)) ⌝ }
 {
     let a = whole_job(old, new, tt, Request::Program(side), b"", out);
+    pack(a.number, a.place)
+}
+
+// Writes the list of probes: a line `Q,edge` for each new edge that needs one.
+#[no_mangle]
+pub extern "C" fn ry_probes(old: &[u8], new: &[u8], tt: &[u8], out: &mut [u8]) -> u64
+    ensures { λ r. ⌜ r ≡ packed (probesAnswer (now (old .entry)) (now (new .entry)) (now (tt .entry)) (length (now (out .entry)))) ⌝ }
+    ensures { λ _. ⌜ now (out .exit) ≡ outputAfter (probesAnswer (now (old .entry)) (now (new .entry)) (now (tt .entry)) (length (now (out .entry)))) (now (out .entry)) ⌝ }
+{
+    let a = whole_job(old, new, tt, Request::Probes, b"", out);
     pack(a.number, a.place)
 }
 
