@@ -30,7 +30,6 @@ use Rattle.coverage.specs.Rows.{rowMeets}
 use Rattle.probes.specs.Sets.{AfterFound, FindsAfter, FindsProbes, OpenFound, ProbesFound}
 use Rattle.suite.specs.Tables.{Holds}
 use Rattle.suite.specs.TableLaws.{suite-read}
-use Rattle.probes.specs.Probes.{ProbesFound}
 use Rattle.writer.specs.Laws.{probes-text}
 use Rattle.writer.specs.Sheets.{ProbesWritten, RecordWrites, RecordWritten, SheetWrites, SheetWritten, selection, writing-written}
 use Rattle.intake.specs.declared.Counts.{Counts}
@@ -202,15 +201,16 @@ module _ (limit over : ℕ) (v v′ : Memory) (had : Counts) (w : List ℕ) (out
         room = refl;
       }
 
-  pub probes-few : c ≤ limit → (set set′ : List ℕ) → length set ≡ 16 → ProbesFound (v .nodes) (v .links) (v′ .nodes) (v′ .links) w′ dangers′ (had .«old_edges») (had .«new_nodes») set set′
+  pub probes-few : c ≤ limit → (set set′ : List ℕ) → set ≡ replicate 16 0 → ProbesFound (v .nodes) (v .links) (v′ .nodes) (v′ .links) w′ dangers′ (had .«old_edges») (had .«new_nodes») set set′
       → (r : Answer) (out′ : Bytes) → ProbesWritten set′ (had .«new_edges») out r out′ → Done w w′ out out′ (ProbesDone limit over v v′ had w out r out′)
-  unfolding ProbesDone probesBytes
-  probes-few m set set′ n f r out′ h =
+  unfolding ProbesDone FindsProbes probesBytes
+  probes-few m set set′ zero f r out′ h =
+      let long : 16 ≤ length set = omega (arith, ap length zero, length-replicate {A = ℕ} 16 0) in
       record {
         claim = λ tt tests rows g y l.
             let x = chosen limit over v v′ tt tests rows had w out w′ dangers dangers′ c s k g y l in
             let found = f .finds (y .o) (y .p) c (record { old-text = v .text; new-text = v′ .text; old-in = y .old-in; new-in = y .new-in; held = x .held m }) (x .marked m) (y .old-edges-n)
-            (y .new-nodes-n) (omega arith) in
+            (y .new-nodes-n) long (clear-bits set 16 zero) in
             let is = probes-text (y .o .program) (y .p .program) set′ (had .«new_edges») (y .new-edges-n) found in
             told-few limit over v v′ tt tests rows had w out probesBytes w′ dangers′ c g y x m r out′ (told-as (ap (written (length out)) (sym is)) (h .told));
         size = s .size;
