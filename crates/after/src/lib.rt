@@ -124,7 +124,7 @@ fn leave(
         (Leaves (now (nodes .entry)) (now (links .entry))
         count (now (left .entry)) (now (set .entry)) n (now (left .exit)) (now (set .exit))) ⌝ }
 {
-    // no program has so many nodes; behind this test the compiler knows that the bit is a number
+    // no program has so many nodes; behind this test the number of the bit is known to be small
     if 512 <= n {
         return;
     }
@@ -197,7 +197,8 @@ fn run(nodes: &[usize], links: &[usize], count: usize, left: &mut [u64], set: &m
 // the set is left open.
 //
 // The worst case. Each edge is gone on from at most once, and so is each exit. From an edge the edges of one node are added, at most 8; from an exit,
-// for every node and each of its at most 4 callees, one edge at most. At the limits of the files that is 1,024 * 8 edges and 64 passes over 512 nodes.
+// for every node and each of its at most 4 callees, one edge at most. To find the next edge at most 16 words are looked at. At the limits of the files
+// that is 1,025 * 16 words, 1,024 * 8 edges and 64 passes over 512 nodes.
 pub fn spread(nodes: &[usize], links: &[usize], count: usize, set: &mut [u64])
     ensures { λ _. ⌜ Spread (now (nodes .entry)) (now (links .entry)) count (now (set .entry)) (now (set .exit)) ⌝ }
 {
