@@ -66,7 +66,7 @@ pub record IsExit (p : Program) (n : ℕ) : Type 0 where
   pub below : n < nodeCount p
   pub kind : kindAt p n ≡ X
 
--- A run that has come to the exit n may go on from the node j: at the callee i of the call k, at the node k, at one of the first m nodes.
+-- A run that has come to the exit n may go on from the node j: behind the callee i of the call k; at the node k, if that is a call.
 abbrev pub fromCallee : Program → ℕ → ℕ → ℕ → ℕ → Bool
 fromCallee p n k j i = eqb (called p k i) (ownerAt p n) and eqb j (resumesAt p k i)
 
