@@ -22,6 +22,7 @@ use Rattle.pairset.specs.Store.{pairBase}
 use Rattle.versions.specs.Memory.{InMemory, Memory, memory}
 use Rattle.versions.specs.MemoryLaws.{sound}
 use Rattle.closure.specs.Claims.{Closes, Found, Sized}
+use Rattle.selection.specs.Compared.{Compared}
 use Rattle.selection.specs.Dangers.{Copies, DangersCopied}
 use Rattle.selection.specs.DangerLaws.{row-meets}
 use Rattle.selection.specs.Marks.{Finds, MarksFound}
@@ -238,7 +239,7 @@ record-put on ol nn nl tt tests rows had w out set none probed none′ after mar
           let few-new : edgeCount new ≤ 1024 = omega (arith, y .new-edges-n, few .few-new-edges) in
           let row = y .tests-in .row i below in
           let meets-is = rep ∙ row-meets old new set few-old (x .marked m) rows i coverage row in
-          let held = record { old-text = ot; new-text = nt; old-in = y .old-in; new-in = y .new-in; held = x .held m } in
+          let held : Compared on ol nn nl w c (y .o) (y .p) = record { old-text = ot; new-text = nt; old-in = y .old-in; new-in = y .new-in; held = x .held m } in
           let long₁ : 16 ≤ length none = omega (arith, ap length zero, length-replicate {A = ℕ} 16 0) in
           let long₂ : 16 ≤ length none′ = omega (arith, ap length zero′, length-replicate {A = ℕ} 16 0) in
           let found = f .finds (y .o) (y .p) c coverage held row (y .old-edges-n) (y .new-edges-n) meets-is
