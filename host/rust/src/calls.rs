@@ -16,6 +16,7 @@ pub struct Calls {
     pub record: fn(&[u8], &[u8], &[u8], usize, &mut [u8]) -> Answer,
     pub check: fn(&[u8], &[u8], &[u8], &[u8]) -> Answer,
     pub program: fn(&[u8], &[u8], &[u8], usize, &mut [u8]) -> Answer,
+    pub probes: fn(&[u8], &[u8], &[u8], &mut [u8]) -> Answer,
 }
 
 /// The independent implementation.
@@ -28,6 +29,7 @@ pub const INDEPENDENT: Calls = Calls {
     record: independent::record,
     check: independent::check,
     program: independent::program,
+    probes: independent::probes,
 };
 
 /// The linked library, if it was built in.
@@ -41,6 +43,7 @@ pub const LINKED: Option<Calls> = Some(Calls {
     record: linked::record,
     check: linked::check,
     program: linked::program,
+    probes: linked::probes,
 });
 #[cfg(not(linked))]
 pub const LINKED: Option<Calls> = None;
@@ -107,6 +110,16 @@ mod linked {
             tests: *const u8,
             tests_len: usize,
             side: usize,
+            out: *mut u8,
+            out_len: usize,
+        ) -> u64;
+        fn ry_probes(
+            old: *const u8,
+            old_len: usize,
+            new: *const u8,
+            new_len: usize,
+            tests: *const u8,
+            tests_len: usize,
             out: *mut u8,
             out_len: usize,
         ) -> u64;
@@ -183,6 +196,17 @@ mod linked {
             ry_program(
                 old, old_len, new, new_len, tests, tests_len, side, out, out_len,
             )
+        })
+    }
+
+    /// Writes a line for each new edge that needs a probe.
+    pub fn probes(old: &[u8], new: &[u8], tests: &[u8], out: &mut [u8]) -> Answer {
+        let (old, old_len) = lent!(old);
+        let (new, new_len) = lent!(new);
+        let (tests, tests_len) = lent!(tests);
+        let (out, out_len) = (out.as_mut_ptr(), out.len());
+        Answer::unpacked(unsafe {
+            ry_probes(old, old_len, new, new_len, tests, tests_len, out, out_len)
         })
     }
 }

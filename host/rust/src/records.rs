@@ -78,6 +78,7 @@ pub const RECORD: usize = 1;
 pub const CHECK: usize = 2;
 pub const LABEL: usize = 3;
 pub const PROGRAM: usize = 4;
+pub const PROBES: usize = 5;
 
 /// A request: its number, its own two numbers and the text it comes with.
 #[derive(Clone, Copy)]

@@ -268,13 +268,40 @@ fn versions(field: &[usize], done: Option<(usize, Done)>) -> [String; 2] {
     }
 }
 
-/// Nodes that meet themselves, edges that are joined with themselves, and
-/// dangerous edges.
+/// Nodes that meet themselves, edges that are joined with themselves, dangerous
+/// edges; old edges after a danger, and new ones that have a probe.
 #[derive(Default)]
 struct Met {
     nodes: BTreeSet<usize>,
     joined: BTreeSet<usize>,
     dangers: BTreeSet<usize>,
+    after_danger: BTreeSet<usize>,
+    probes: BTreeSet<usize>,
+}
+
+/// The edges after this one of a procedure, itself included, where the procedure
+/// `endless` does not return. Behind a step comes the exit, behind that at each
+/// place of the procedure the next callee, behind the last the call's edge.
+fn after(edge: usize, field: &[usize], endless: Option<usize>) -> BTreeSet<usize> {
+    let mut after = BTreeSet::new();
+    let mut left = vec![edge];
+    while let Some(edge) = left.pop() {
+        if !after.insert(edge) {
+            continue;
+        }
+        let procedure = (edge - 3) / 2;
+        if edge % 2 == 1 {
+            left.push(edge + 1);
+        } else if endless != Some(procedure) {
+            for place in (0..field.len()).filter(|&place| field[place] == procedure) {
+                match field.get(place + 1) {
+                    Some(next) => left.push(3 + 2 * next),
+                    None => after.extend([1, 2]),
+                }
+            }
+        }
+    }
+    after
 }
 
 impl Met {
@@ -314,9 +341,31 @@ impl Met {
         met
     }
 
+    /// The same with what comes after the danger, if there is one. The new
+    /// entry or step has the word of the dangerous edge.
+    fn with_probes(field: &[usize], done: Option<(usize, Done)>) -> Met {
+        let mut met = Met::of(field, done);
+        if let (Some(&danger), Some((procedure, done))) = (met.dangers.first(), done) {
+            let endless = |version| (done == version).then_some(procedure);
+            met.after_danger = after(danger, field, endless(Done::EndlessBefore));
+            met.probes = after(danger, field, endless(Done::EndlessNow));
+        }
+        met
+    }
+
+    /// The mark of a repeated test, or of one that is left off.
+    fn mark(&self, edge: usize, crossed: bool, repeated: bool) -> char {
+        let crossed = crossed && self.joined.contains(&edge);
+        let doubt = self.probes.contains(&edge) || crossed && self.after_danger.contains(&edge);
+        match (repeated && doubt, crossed) {
+            (true, _) => '?',
+            (_, true) => '1',
+            _ => '0',
+        }
+    }
+
     fn due(&self, job: &Job) {
         let rows = ROWS.map(|(_, row)| row);
-        let repeated = |row: &str| self.dangers.iter().any(|&edge| &row[edge..=edge] == "1");
         let mut sheet = "sheet,1;".to_string();
         for node in &self.nodes {
             sheet += &format!("M,{node},{node};");
@@ -328,22 +377,22 @@ impl Met {
         let mut count = 0;
         for (test, row) in rows.into_iter().enumerate() {
             let crossed = row.matches('1').count();
-            let mut marks = "?".repeat(11);
-            if repeated(row) {
+            let holds = |edge: usize| &row[edge..=edge] == "1";
+            let repeated = self.dangers.iter().any(|&edge| holds(edge));
+            if repeated {
                 sheet += &format!("R,t{test};");
                 count += 1;
-            } else {
-                let mark = |edge| self.joined.contains(&edge) && &row[edge..=edge] == "1";
-                marks = (0..11)
-                    .map(|edge| if mark(edge) { '1' } else { '0' })
-                    .collect();
             }
+            let mark = |edge| self.mark(edge, holds(edge), repeated);
+            let marks: String = (0..11).map(mark).collect();
             records.push(format!("V,t{test},{crossed},{marks};"));
         }
         let (nodes, dangers) = (self.nodes.len(), self.dangers.len());
         sheet += &format!("end,{nodes},{dangers},{count};");
         let records: Vec<&str> = records.iter().map(String::as_str).collect();
         job.due(&sheet, &records);
+        let probes = self.probes.iter().map(|edge| format!("Q,{edge};"));
+        job.probed(&probes.collect::<String>());
     }
 }
 
@@ -369,7 +418,7 @@ fn each_callee_returns() {
     for field in fields {
         let [old, new] = versions(&field, None);
         let job = Job::new(&old, &new, &tests());
-        Met::of(&field, None).due(&job);
+        Met::with_probes(&field, None).due(&job);
         for calls in all() {
             assert_eq!(job.program(&calls, 0).as_ref(), Ok(&old), "{}", calls.name);
             assert_eq!(job.program(&calls, 1).as_ref(), Ok(&new), "{}", calls.name);
@@ -392,7 +441,7 @@ fn one_callee_does_not_return() {
             for done in all_done {
                 let [old, new] = versions(&field, Some((procedure, done)));
                 let job = Job::new(&old, &new, &tests());
-                Met::of(&field, Some((procedure, done))).due(&job);
+                Met::with_probes(&field, Some((procedure, done))).due(&job);
             }
         }
     }
@@ -402,12 +451,15 @@ fn one_callee_does_not_return() {
 #[test]
 fn by_hand() {
     // `b` has another label now: its entries are a pair, since the exits of `a`
-    // are, and the edge 5 is dangerous; `c` and `d` are not entered.
+    // are, and the edge 5 is dangerous; `c` and `d` are not entered. After it come
+    // the step of `b`, then `c` and `d`, then what stands behind the call.
     let [old, new] = versions(&[0, 1, 2, 3], Some((1, Done::Relabelled)));
-    Job::new(&old, &new, &tests()).due(
+    let job = Job::new(&old, &new, &tests());
+    job.probed("Q,1;Q,2;Q,5;Q,6;Q,7;Q,8;Q,9;Q,10;");
+    job.due(
         "sheet,1;M,0,0;M,1,1;M,4,4;M,5,5;M,6,6;M,7,7;D,5;R,t0;end,6,1,1;",
         &[
-            "V,t0,11,???????????;",
+            "V,t0,11,1??11??????;",
             "V,t1,3,10011000000;",
             "V,t2,1,00000000000;",
         ],
@@ -426,6 +478,8 @@ fn by_hand() {
 
 /// Other names, another order, a name more or less: the calls are not alike,
 /// the edge 0 is dangerous. A list that has the pair of calls breaks rule 2.
+/// After the new edge 0 come all callees of the new call, then what stands behind
+/// it: there a repeated test's mark is `?`, elsewhere no edge has a counterpart.
 #[test]
 fn other_callees() {
     let fields = [
@@ -437,12 +491,18 @@ fn other_callees() {
                 continue;
             }
             let job = Job::new(&program(old), &program(new), &tests());
+            let called = |edge: usize| new.contains(["a", "b", "c", "d"][(edge - 3) / 2]);
+            let probe = |edge: &usize| *edge < 3 || called(*edge);
+            let marks = (0..11).map(|edge| if probe(&edge) { '?' } else { '0' });
+            let marks: String = marks.collect();
             let records = [
-                "V,t0,11,???????????;",
-                "V,t1,3,???????????;",
+                &format!("V,t0,11,{marks};"),
+                &format!("V,t1,3,{marks};"),
                 "V,t2,1,00000000000;",
             ];
             job.due("sheet,1;M,0,0;D,0;R,t0;R,t1;end,1,1,2;", &records);
+            let probes = (0..11).filter(probe).map(|edge| format!("Q,{edge};"));
+            job.probed(&probes.collect::<String>());
             for calls in all() {
                 let listed = "sheet,1;M,0,0;M,1,1;D,0;D,1;R,t0;R,t1;end,2,2,2;";
                 let answer = job.check(&calls, listed);
@@ -622,11 +682,15 @@ fn first_procedures_of_other_names() {
     // so the entries of `up` are a pair: (0,5). From there the edge 0 leads to a
     // call and to an exit: it is dangerous. The exits of `up` do not meet.
     // The second test did not cross it; its edge 2 has the edge 2 as only
-    // counterpart.
-    Job::new(&old, &new, "T,t,e;T,u,2;").due(
+    // counterpart. It is dangerous at the new entry 5, so the start is the edge 3
+    // there and not the edge 0; from the exit of `up` the call goes on, by the
+    // edge 1. The old edges 0 and 2 lie after the danger, and were crossed.
+    let job = Job::new(&old, &new, "T,t,e;T,u,2;");
+    job.due(
         "sheet,1;M,0,0;M,0,5;M,1,1;M,3,3;M,4,4;D,0;R,t;end,5,1,1;",
         &["V,t,3,????;", "V,u,1,0010;"],
     );
+    job.probed("Q,1;Q,3;");
 }
 
 /// P3 with calls: two new calls are partners of the old one.
@@ -790,6 +854,7 @@ fn other_numbers() {
     let requests = [
         ASK_SHEET,
         ASK_CHECK,
+        ASK_PROBES,
         Call::Ask(LABEL, 0, 1),
         Call::Ask(PROGRAM, 0, 0),
     ];
@@ -847,7 +912,7 @@ fn lent(field: &str) -> Drive {
 fn requests() {
     let mut drive = lent("a+b+a");
     let sheet = "sheet,1;M,0,0;M,1,1;M,2,2;M,3,3;M,4,4;M,5,5;M,6,6;M,7,7;M,8,8;M,9,9;end,10,0,0;";
-    drive.serves(sheet, "V,t0,11,11111110000;", "x");
+    drive.serves(sheet, "V,t0,11,11111110000;", "", "x");
     drive.writes(Call::Ask(RECORD, 2, 0), "V,t2,1,00100000000;");
     for side in 0..2 {
         drive.writes(Call::Ask(PROGRAM, side, 0), &program("a+b+a"));

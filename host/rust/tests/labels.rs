@@ -118,9 +118,11 @@ const ALL_MARKS: [&str; 2] = ["V,t0,3,111;", "V,t1,1,001;"];
 /// If they do not, the ends of the edge 0 are not alike: it is dangerous, and
 /// nothing behind it is met. The first test is repeated; the second is left off
 /// and no edge has a counterpart. The same was due where the labels match with
-/// other bytes, before the request.
+/// other bytes, before the request. From the new edge 0 on all edges may be
+/// crossed: each has a probe.
 const PARTED: &str = "sheet,1;M,0,0;D,0;R,t0;end,1,1,1;";
 const NO_MARKS: [&str; 2] = ["V,t0,3,???;", "V,t1,1,000;"];
+const ALL_PROBES: &str = "Q,0;Q,1;Q,2;";
 
 /// Sheet, record lines and check, in both directions.
 #[test]
@@ -129,10 +131,12 @@ fn matching_or_not() {
         for (old, new) in [(&one, &other), (&other, &one)] {
             for (program, whole) in [(step as fn(&str) -> _, STEP_SHEET), (call, CALL_SHEET)] {
                 let job = Job::new(&program(old), &program(new), TESTS);
-                match matching {
-                    true => job.due(whole, &ALL_MARKS),
-                    false => job.due(PARTED, &NO_MARKS),
-                }
+                let (sheet, records, probes) = match matching {
+                    true => (whole, ALL_MARKS, ""),
+                    false => (PARTED, NO_MARKS, ALL_PROBES),
+                };
+                job.due(sheet, &records);
+                job.probed(probes);
                 // Listing the pair is right only if it is alike: rule 2.
                 let listed = match matching {
                     true => Answer::success(0),
@@ -167,11 +171,11 @@ fn bytes_are_kept() {
             drive.writes(Call::Ask(PROGRAM, 0, 0), &old);
             drive.writes(Call::Ask(PROGRAM, 1, 0), &new);
             drive.passes(ASK_CHECK);
-            let (sheet, records) = match matching {
-                true => (whole, ALL_MARKS),
-                false => (PARTED, NO_MARKS),
+            let (sheet, records, probes) = match matching {
+                true => (whole, ALL_MARKS, ""),
+                false => (PARTED, NO_MARKS, ALL_PROBES),
             };
-            drive.serves(sheet, records[0], &one);
+            drive.serves(sheet, records[0], probes, &one);
             drive.writes(Call::Ask(RECORD, 1, 0), records[1]);
         }
     }
@@ -359,7 +363,10 @@ fn a_test_repeated_now() {
     let sheet = "sheet,1;M,0,0;M,1,1;M,3,3;D,1;R,t;end,3,1,1;";
     // A row of the edge 1 alone, which no run has but a file may.
     let job = Job::new(old, new, "T,t,4;");
-    job.due(sheet, &["V,t,1,????;"]);
+    // The word is gone, so no new edge has a probe; the edges 0 and 2 have
+    // counterparts, which were not crossed.
+    job.due(sheet, &["V,t,1,0000;"]);
+    job.probed("");
     // Before, the edge 0 alone was dangerous and the test was left off.
     let stored = "sheet,1;M,0,0;D,0;end,1,1,0;";
     for calls in all() {
@@ -399,6 +406,7 @@ fn too_many_pairs_now() {
     for calls in all() {
         assert_eq!(job.sheet(&calls), Err(refusal), "{}", calls.name);
         assert_eq!(job.record(&calls, 0), Err(refusal), "{}", calls.name);
+        assert_eq!(job.probes(&calls), Err(refusal), "{}", calls.name);
         // 6 goes before 15, and 15 before 16.
         let unnamed = Err(Answer::new(6, 0));
         assert_eq!(job.record(&calls, 1), unnamed, "{}", calls.name);
@@ -414,11 +422,13 @@ fn too_many_pairs_now() {
         drive.driver.lend(Table::Output, room);
         drive.refused(ASK_SHEET, 15, 0);
         drive.refused(Call::Ask(RECORD, 0, 0), 15, 0);
+        drive.refused(ASK_PROBES, 15, 0);
         drive.refused(Call::Ask(RECORD, 1, 0), 6, 0);
     }
     drive.passes(ASK_CHECK);
     drive.shows(1, 2, "wind up ");
-    // With another label in the new ring there is one pair, as before.
+    // With another label in the new ring there is one pair, as before, and all
+    // of the ring lies after the new edge 0.
     let new = ring(65, &["windup"]);
     let record = format!("V,t,1,{};", "?".repeat(131));
     Job::new(&old, &new, &tests).due(stored, &[&record]);
@@ -444,7 +454,7 @@ fn as_many_pairs_as_may_be() {
 fn another_text_is_lent() {
     let old = step("a b");
     let mut drive = Drive::at_stage(3, &old, &step("a  b"), TESTS, PARTED);
-    drive.serves(STEP_SHEET, ALL_MARKS[0], "a b");
+    drive.serves(STEP_SHEET, ALL_MARKS[0], "", "a b");
     for (label, matching) in [
         (" a b", true),
         ("a b ", true),
@@ -457,8 +467,8 @@ fn another_text_is_lent() {
     ] {
         drive.text(Text::New, &step(label));
         match matching {
-            true => drive.serves(STEP_SHEET, ALL_MARKS[0], "a b"),
-            false => drive.serves(PARTED, NO_MARKS[0], "a b"),
+            true => drive.serves(STEP_SHEET, ALL_MARKS[0], "", "a b"),
+            false => drive.serves(PARTED, NO_MARKS[0], ALL_PROBES, "a b"),
         }
         drive.shows(1, 1, label);
     }

@@ -10,17 +10,18 @@ use driving::*;
 use rivetyellow_host::drive::{Call, Table, Text, STALE};
 use rivetyellow_host::generate::limits::ring;
 use rivetyellow_host::records::{
-    CALL_SCRATCH, CHECK, LABEL, READ_SCRATCH, RECORD, ROWS, SHEET, TESTS,
+    CALL_SCRATCH, CHECK, LABEL, PROBES, READ_SCRATCH, RECORD, ROWS, SHEET, TESTS,
 };
 
 /// The calls of stage 3 for which 14 asks the same: requests, one of no number,
 /// the label's part. A program that is written back is in programs.rs.
-const OF_3: [Call; 6] = [
+const OF_3: [Call; 7] = [
     ASK_SHEET,
     Call::Ask(RECORD, 0, 0),
     ASK_CHECK,
     Call::Ask(LABEL, 0, 1),
-    Call::Ask(5, 0, 0),
+    ASK_PROBES,
+    Call::Ask(6, 0, 0),
     Call::Show(0, 1),
 ];
 
@@ -195,7 +196,7 @@ fn tables_of_a_call() {
 #[test]
 fn p2_p7_p8() {
     let mut drive = Drive::p2(3);
-    drive.serves(P2_SHEET, P2_RECORDS[0], "read layer");
+    drive.serves(P2_SHEET, P2_RECORDS[0], P2_PROBES, "read layer");
     drive.writes(Call::Ask(RECORD, 1, 0), P2_RECORDS[1]);
     drive.text(Text::Input, P7);
     drive.passes(ASK_CHECK);
@@ -236,7 +237,7 @@ fn nothing_named() {
             drive.refused(Call::Ask(RECORD, test, 0), 6, 0);
         }
         // A request of no number that there is.
-        for request in [5, 255, 1 << 32, usize::MAX] {
+        for request in [6, 255, 1 << 32, usize::MAX] {
             drive.refused(Call::Ask(request, 0, 0), 6, 0);
         }
     }
@@ -250,6 +251,7 @@ fn not_used() {
     drive.text(Text::Input, &"x".repeat(65_537));
     drive.writes(Call::Ask(SHEET, usize::MAX, 9), P2_SHEET);
     drive.writes(Call::Ask(RECORD, 1, usize::MAX), P2_RECORDS[1]);
+    drive.writes(Call::Ask(PROBES, usize::MAX, 9), P2_PROBES);
     drive.passes(Call::Ask(LABEL, 1, 4));
     drive.text(Text::Input, P2_SHEET);
     drive.passes(Call::Ask(CHECK, 7, usize::MAX));
@@ -264,6 +266,7 @@ fn outputs() {
         (ASK_SHEET, P2_SHEET),
         (Call::Ask(RECORD, 0, 0), P2_RECORDS[0]),
         (Call::Ask(RECORD, 1, 0), P2_RECORDS[1]),
+        (ASK_PROBES, P2_PROBES),
     ];
     for (call, lines) in all {
         for length in [0, 1, lines.len() - 1] {
@@ -278,8 +281,8 @@ fn outputs() {
     drive.passes(Call::Ask(LABEL, 0, 0));
 }
 
-/// More than 4,096 pairs: 15, given by sheet and record, before 16 and after
-/// 6, and never by the check. With 4,096 the sheet is written.
+/// More than 4,096 pairs: 15, given by sheet, record and probes, before 16 and
+/// after 6, and never by the check. With 4,096 the sheet is written.
 #[test]
 fn too_many_pairs() {
     let text = |count| String::from_utf8(ring(count).text()).unwrap();
@@ -288,11 +291,12 @@ fn too_many_pairs() {
     let sheet = "sheet,1;M,0,0;D,0;R,all;end,1,1,1;";
     let mut drive = Drive::at_stage(3, &text(63), &text(65), &tests, sheet);
     drive.refused(ASK_SHEET, 15, 0);
+    drive.refused(ASK_PROBES, 15, 0);
     drive.refused(Call::Ask(RECORD, 0, 0), 15, 0);
     drive.refused(Call::Ask(RECORD, 1, 0), 6, 0);
     drive.passes(ASK_CHECK);
     drive.driver.lend(Table::Output, 0);
-    drive.refused(ASK_SHEET, 15, 0);
+    drive.all_refused(&[ASK_SHEET, ASK_PROBES], 15);
 
     let mut drive = Drive::at_stage(3, &text(46), &text(89), "", "");
     drive.refused(ASK_SHEET, 16, 0);
@@ -318,7 +322,7 @@ fn reset_at_each_stage() {
         }
         drive.text(Text::Tests, ALL);
         READS.iter().for_each(|&read| drive.reads(read));
-        drive.serves(CALLS_SHEET, CALLS_RECORD, "wind");
+        drive.serves(CALLS_SHEET, CALLS_RECORD, "", "wind");
     }
 }
 
@@ -438,7 +442,7 @@ fn lent_wrong_at_stage_3() {
     for (table, at) in [(Table::Rows, 16), (Table::Rows, ROWS - 1)] {
         drive.driver.put(table, at, 78);
     }
-    drive.serves(CALLS_SHEET, CALLS_RECORD, "wind");
+    drive.serves(CALLS_SHEET, CALLS_RECORD, "", "wind");
 }
 
 /// Another old text, nothing counted of it, and no tests: the counts of the
@@ -475,13 +479,14 @@ fn longer_than_asked() {
     }
     drive.reset();
     READS.iter().for_each(|&read| drive.reads(read));
-    drive.serves(CALLS_SHEET, CALLS_RECORD, "wind");
+    drive.serves(CALLS_SHEET, CALLS_RECORD, "", "wind");
 }
 
 /// 14 is told from the texts alone: a text with another label of the same
 /// length leaves the same tables, and the calls go by the text that is lent.
 /// So node 3 is no longer alike in both versions: the edge 2, which leads
-/// there, is dangerous too, and both tests crossed it.
+/// there, is dangerous too, and both tests crossed it. The new edges after these
+/// two are the same.
 #[test]
 fn another_label_of_this_length() {
     let mut drive = Drive::p2(3);
@@ -490,5 +495,5 @@ fn another_label_of_this_length() {
     drive.shows(1, 3, "hulk");
     drive.shows(0, 3, "hold");
     let sheet = "sheet,1;M,0,0;M,1,1;D,1;D,2;R,t1;R,t2;end,2,2,2;";
-    drive.serves(sheet, "V,t1,3,?????;", "read layer");
+    drive.serves(sheet, "V,t1,3,1????;", P2_PROBES, "read layer");
 }

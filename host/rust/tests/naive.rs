@@ -2,7 +2,7 @@
 //! lines split at commas, sets of pairs closed by repeated passes.
 
 use rivetyellow_host::answer::{Answer, Outcome};
-use rivetyellow_host::generate::{self, random::Random};
+use rivetyellow_host::generate::{self, random::Random, Generated};
 use rivetyellow_host::independent;
 use std::collections::{BTreeMap, BTreeSet};
 
@@ -263,16 +263,25 @@ fn may_go_on(old: &Program, new: &Program, pairs: &Pairs, pair: Pair) -> bool {
     exits.iter().all(|exits| pairs.contains(exits))
 }
 
-/// Pairs, dangerous edges and counterparts; `None` above the limit.
-#[allow(clippy::type_complexity)]
-fn close(
-    old: &Program,
-    new: &Program,
-) -> Option<(Pairs, BTreeSet<usize>, BTreeSet<(usize, usize)>)> {
+type Edges = BTreeSet<usize>;
+
+/// What the closing rules give.
+struct Closed {
+    pairs: Pairs,
+    dangers: Edges,
+    /// New edges with the word of a dangerous edge where it is dangerous.
+    starts: Edges,
+    /// Counterparts.
+    joined: BTreeSet<(usize, usize)>,
+}
+
+/// `None` above the limit.
+fn close(old: &Program, new: &Program) -> Option<Closed> {
     let mut pairs = Pairs::from([(old.end(0, b'E'), new.end(0, b'E'))]);
     loop {
         let mut found = pairs.clone();
-        let (mut dangers, mut joined) = (BTreeSet::new(), BTreeSet::new());
+        let (mut dangers, mut starts) = (Edges::new(), Edges::new());
+        let mut joined = BTreeSet::new();
         for &(n, m) in &pairs {
             found.extend(entries(old, new, &pairs, (n, m)));
             if !may_go_on(old, new, &pairs, (n, m)) {
@@ -285,8 +294,9 @@ fn close(
                         found.insert((edge.2, new.edges[f].2));
                         joined.insert((e, f));
                     }
-                    _ => {
+                    other => {
                         dangers.insert(e);
+                        starts.extend(other);
                     }
                 }
             }
@@ -295,19 +305,63 @@ fn close(
             return None;
         }
         if found == pairs {
-            return Some((pairs, dangers, joined));
+            return Some(Closed {
+                pairs,
+                dangers,
+                starts,
+                joined,
+            });
         }
         pairs = found;
     }
 }
 
-fn write_sheet(old: &Program, new: &Program, tests: &Tests) -> Option<Vec<u8>> {
-    let (pairs, dangers, _) = close(old, new)?;
+/// The edges that a run may cross next after this one.
+fn next(p: &Program, edge: usize) -> Edges {
+    let leaving = |node| (0..p.edges.len()).filter(move |&e| p.edges[e].0 == node);
+    let end = p.edges[edge].2;
+    match p.nodes[end].0 {
+        b'C' => leaving(p.called(end, b'E')[0]).collect(),
+        b'X' => {
+            let mut edges = Edges::new();
+            for call in 0..p.nodes.len() {
+                let (entries, exits) = (p.called(call, b'E'), p.called(call, b'X'));
+                for place in (0..exits.len()).filter(|&place| exits[place] == end) {
+                    edges.extend(leaving(*entries.get(place + 1).unwrap_or(&call)));
+                }
+            }
+            edges
+        }
+        _ => leaving(end).collect(),
+    }
+}
+
+/// The edges after these, these included.
+fn after(p: &Program, these: &Edges) -> Edges {
+    let mut edges = these.clone();
+    let mut latest = these.clone();
+    while !latest.is_empty() {
+        let follow: Edges = latest.iter().flat_map(|&edge| next(p, edge)).collect();
+        latest = follow.difference(&edges).copied().collect();
+        edges.extend(&latest);
+    }
+    edges
+}
+
+fn write_probes(new: &Program, closed: &Closed) -> Vec<u8> {
+    let probes = after(new, &closed.starts).into_iter();
+    probes
+        .flat_map(|f| format!("Q,{f}\n").into_bytes())
+        .collect()
+}
+
+fn write_sheet(closed: &Closed, tests: &Tests) -> Vec<u8> {
+    let Closed { pairs, dangers, .. } = closed;
     let mut text = b"sheet,1\n".to_vec();
-    for (n, m) in &pairs {
+    for (n, m) in pairs {
         text.extend(format!("M,{n},{m}\n").bytes());
     }
-    for e in &dangers {
+    for e in dangers {
         text.extend(format!("D,{e}\n").bytes());
     }
     let mut repeated = 0;
@@ -318,25 +372,37 @@ fn write_sheet(old: &Program, new: &Program, tests: &Tests) -> Option<Vec<u8>> {
         }
     }
     text.extend(format!("end,{},{},{repeated}\n", pairs.len(), dangers.len()).bytes());
-    Some(text)
+    text
 }
 
-fn write_record(old: &Program, new: &Program, (name, row): &(Field, Vec<bool>)) -> Option<Vec<u8>> {
-    let (_, dangers, joined) = close(old, new)?;
+fn write_record(
+    old: &Program,
+    new: &Program,
+    closed: &Closed,
+    (name, row): &(Field, Vec<bool>),
+) -> Vec<u8> {
+    let Closed {
+        dangers,
+        starts,
+        joined,
+        ..
+    } = closed;
     let crossed = row.iter().filter(|&&bit| bit).count();
     let mut text = [b"V,", *name, format!(",{crossed},").as_bytes()].concat();
     let mut counterparts: BTreeMap<usize, usize> = BTreeMap::new();
-    for &(e, _) in &joined {
+    for &(e, _) in joined {
         *counterparts.entry(e).or_default() += 1;
     }
     let repeated = dangers.iter().any(|&e| row[e]);
+    let (probes, after_danger) = (after(new, starts), after(old, dangers));
     for f in 0..new.edges.len() {
         let met: Vec<usize> = joined
             .iter()
             .filter(|j| j.1 == f && row[j.0])
             .map(|j| j.0)
             .collect();
-        text.push(if repeated {
+        let doubt = probes.contains(&f) || met.iter().any(|e| after_danger.contains(e));
+        text.push(if repeated && doubt {
             b'?'
         } else if met.is_empty() {
             b'0'
@@ -347,7 +413,7 @@ fn write_record(old: &Program, new: &Program, (name, row): &(Field, Vec<bool>)) 
         });
     }
     text.push(b'\n');
-    Some(text)
+    text
 }
 
 /// Checks a sheet where nodes are alike in this sense.
@@ -518,110 +584,148 @@ fn write_program(p: &Program) -> Vec<u8> {
     text
 }
 
+/// A job, and the numbers of its own that a call is given.
+struct Trial<'g> {
+    number: u64,
+    job: &'g Generated,
+    test: usize,
+    side: usize,
+    /// The output before a call.
+    blank: Vec<u8>,
+}
+
+/// Jobs by what they show.
+#[derive(Default)]
+struct Met {
+    accepted: usize,
+    /// With a sheet that passes, and labels that match with other bytes.
+    stored: usize,
+    several: usize,
+    probed: usize,
+}
+
+impl Trial<'_> {
+    fn texts(&self) -> [&[u8]; 3] {
+        [&self.job.old, &self.job.new, &self.job.tests]
+    }
+
+    /// What the calls that write answer, and their outputs afterwards: sheet,
+    /// record, probes, program.
+    fn writes(&self) -> [(Answer, Vec<u8>); 4] {
+        let [old, new, tests] = self.texts();
+        let after = |call: &dyn Fn(&mut [u8]) -> Answer| {
+            let mut out = self.blank.clone();
+            (call(&mut out), out)
+        };
+        [
+            after(&|out| independent::sheet(old, new, tests, out)),
+            after(&|out| independent::record(old, new, tests, self.test, out)),
+            after(&|out| independent::probes(old, new, tests, out)),
+            after(&|out| independent::program(old, new, tests, self.side, out)),
+        ]
+    }
+
+    /// The calls that read.
+    fn reads(&self) {
+        let [old, new, _] = self.texts();
+        let answer_of = |read: Outcome<()>| read.err().unwrap_or(Answer::success(0));
+        let due = answer_of(read_program(old).map(|_| ()));
+        assert_eq!(independent::read_old(old), due, "{}", self.number);
+        let both = read_program(old).and_then(|_| read_program(new));
+        let due = answer_of(both.map(|_| ()));
+        assert_eq!(independent::read_new(old, new), due, "{}", self.number);
+    }
+
+    fn refused(&self, refusal: Answer) {
+        let [old, new, tests] = self.texts();
+        let read = independent::read_tests(old, new, tests);
+        let checked = independent::check(old, new, tests, &self.job.sheet);
+        assert_eq!([read, checked], [refusal; 2], "{}", self.number);
+        for written in self.writes() {
+            assert_eq!(written, (refusal, self.blank.clone()), "{}", self.number);
+        }
+    }
+
+    fn accepted(&self, p: &Program, q: &Program, suite: &Tests, met: &mut Met) {
+        let [old, new, tests] = self.texts();
+        let read = independent::read_tests(old, new, tests);
+        assert_eq!(read, Answer::success(0), "{}", self.number);
+        let closed = close(p, q);
+        let closed = closed.as_ref();
+        let output = |made: Option<Vec<u8>>| written(made, self.blank.clone());
+        let unnamed = || (Answer::new(6, 0), self.blank.clone());
+        let due = [
+            output(closed.map(|closed| write_sheet(closed, suite))),
+            suite.get(self.test).map_or_else(unnamed, |test| {
+                output(closed.map(|closed| write_record(p, q, closed, test)))
+            }),
+            output(closed.map(|closed| write_probes(q, closed))),
+            [p, q]
+                .get(self.side)
+                .map_or_else(unnamed, |program| output(Some(write_program(program)))),
+        ];
+        assert_eq!(self.writes(), due, "{}", self.number);
+        met.accepted += 1;
+        met.several += usize::from(p.nodes.iter().any(|node| node.2.contains(&b'+')));
+        met.probed += usize::from(due[2].0.is_success() && due[2].0.place > 0);
+    }
+
+    /// The check. A sheet that passed when labels were compared by their bytes
+    /// still passes.
+    fn checked(&self, p: &Program, q: &Program, suite: &Tests, met: &mut Met) {
+        let [old, new, tests] = self.texts();
+        let sheet = &self.job.sheet;
+        let due = check(p, q, suite, sheet, alike);
+        let answer = independent::check(old, new, tests, sheet);
+        assert_eq!(answer, due, "{}", self.number);
+        let before = check(p, q, suite, sheet, |one, other| one == other);
+        if before == Answer::success(0) {
+            assert_eq!(due, before, "{}", self.number);
+            met.stored += usize::from(p.nodes.iter().any(|&one| {
+                let mut others = q.nodes.iter();
+                others.any(|&other| alike(one, other) && one != other)
+            }));
+        }
+    }
+}
+
+fn read_all<'t>(
+    [old, new, tests]: [&'t [u8]; 3],
+) -> Outcome<(Program<'t>, Program<'t>, Tests<'t>)> {
+    let old = read_program(old)?;
+    let new = read_program(new)?;
+    let tests = read_tests(tests, old.edges.len())?;
+    Ok((old, new, tests))
+}
+
 #[test]
 fn plain_rules() {
-    let (mut accepted, mut stored, mut several) = (0, 0, 0);
+    let mut met = Met::default();
     for number in 0..4_000 {
         let mut random = Random::new(77, number);
-        let job = generate::job(&mut random);
-        let (old, new, tests) = (&job.old[..], &job.new[..], &job.tests[..]);
+        let job = &generate::job(&mut random);
         // Plain passes over the largest jobs take too long here.
-        if old.len() > 12_000 && old.len() < 60_000 && random.percent(70) {
+        if (12_001..60_000).contains(&job.old.len()) && random.percent(70) {
             continue;
         }
-        let read = || -> Outcome<_> {
-            let old = read_program(old)?;
-            let new = read_program(new)?;
-            let tests = read_tests(tests, old.edges.len())?;
-            Ok((old, new, tests))
+        let trial = Trial {
+            number,
+            job,
+            blank: vec![b'#'; random.below(600)],
+            test: random.below(4),
+            side: random.below(3),
         };
-        let answer_of = |read: Outcome<()>| read.err().unwrap_or(Answer::new(0, 0));
-        assert_eq!(
-            independent::read_old(old),
-            answer_of(read_program(old).map(|_| ())),
-            "{number}"
-        );
-        let both = read_program(old).and_then(|_| read_program(new));
-        assert_eq!(
-            independent::read_new(old, new),
-            answer_of(both.map(|_| ())),
-            "{number}"
-        );
-        let all = read();
-        let found = independent::read_tests(old, new, tests);
-        let mut out = vec![b'#'; random.below(600)];
-        let blank = out.clone();
-        let test = random.below(4);
-        let side = random.below(3);
-        match all {
-            Err(refusal) => {
-                assert_eq!(found, refusal, "{number}");
-                assert_eq!(
-                    independent::check(old, new, tests, &job.sheet),
-                    refusal,
-                    "{number}"
-                );
-                assert_eq!(
-                    independent::sheet(old, new, tests, &mut out),
-                    refusal,
-                    "{number}"
-                );
-                assert_eq!(
-                    independent::record(old, new, tests, test, &mut out),
-                    refusal,
-                    "{number}"
-                );
-                assert_eq!(
-                    independent::program(old, new, tests, side, &mut out),
-                    refusal,
-                    "{number}"
-                );
-                assert_eq!(out, blank, "{number}");
-            }
+        trial.reads();
+        match read_all(trial.texts()) {
+            Err(refusal) => trial.refused(refusal),
             Ok((p, q, suite)) => {
-                accepted += 1;
-                let mut nodes = p.nodes.iter();
-                several += usize::from(nodes.any(|node| node.2.contains(&b'+')));
-                assert_eq!(found, Answer::new(0, 0), "{number}");
-                let judged = check(&p, &q, &suite, &job.sheet, alike);
-                assert_eq!(
-                    independent::check(old, new, tests, &job.sheet),
-                    judged,
-                    "{number}"
-                );
-                // A sheet that passed when labels were compared by their bytes
-                // still passes.
-                let before = check(&p, &q, &suite, &job.sheet, |one, other| one == other);
-                if before == Answer::new(0, 0) {
-                    assert_eq!(judged, before, "{number}");
-                    let mut nodes = p.nodes.iter();
-                    stored += usize::from(nodes.any(|&one| {
-                        let mut others = q.nodes.iter();
-                        others.any(|&other| alike(one, other) && one != other)
-                    }));
-                }
-                let expected = written(write_sheet(&p, &q, &suite), blank.clone());
-                let answer = independent::sheet(old, new, tests, &mut out);
-                assert_eq!((answer, out.clone()), expected, "{number}");
-                let mut out = blank.clone();
-                let answer = independent::record(old, new, tests, test, &mut out);
-                let expected = match suite.get(test) {
-                    None => (Answer::new(6, 0), blank.clone()),
-                    Some(test) => written(write_record(&p, &q, test), blank.clone()),
-                };
-                assert_eq!((answer, out), expected, "{number}");
-                let mut out = blank.clone();
-                let answer = independent::program(old, new, tests, side, &mut out);
-                let expected = match [&p, &q].get(side) {
-                    None => (Answer::new(6, 0), blank),
-                    Some(program) => written(Some(write_program(program)), blank),
-                };
-                assert_eq!((answer, out), expected, "{number}");
+                trial.checked(&p, &q, &suite, &mut met);
+                trial.accepted(&p, &q, &suite, &mut met);
             }
         }
     }
-    assert!(accepted > 2_000);
-    // Of these, jobs with labels that match with other bytes.
-    assert!(stored > 400, "{stored}");
-    assert!(several > 700, "{several}");
+    assert!(met.accepted > 2_000, "{}", met.accepted);
+    assert!(met.stored > 400, "{}", met.stored);
+    assert!(met.several > 700, "{}", met.several);
+    assert!(met.probed > 500, "{}", met.probed);
 }

@@ -383,7 +383,7 @@ fn other_requests() {
         drive.text(side, &with("P,up;", "x,up;"));
         let label = Call::Ask(LABEL, 0, 1);
         drive.all_refused(&[ASK_SHEET, ASK_CHECK, label, Call::Show(0, 1)], 14);
-        drive.refused(Call::Ask(5, 0, 0), 14, 0);
+        drive.all_refused(&[ASK_PROBES, Call::Ask(6, 0, 0)], 14);
         drive.writes(ask(0), BACK);
     }
 }

@@ -1,7 +1,7 @@
 //! The closing rules: pairs, dangerous edges and counterparts.
 
 use super::program::{Kind, Node, Program, NODE_LIMIT};
-use super::suite::{place_of, ROW_WORDS};
+use super::suite::{place_of, Edges, ROW_WORDS};
 use super::text::Word;
 
 pub const PAIR_LIMIT: usize = 4_096;
@@ -317,7 +317,10 @@ impl Pairs {
 pub struct Closing {
     pub pairs: Pairs,
     /// Dangerous edges, as a row.
-    pub danger: [u64; ROW_WORDS],
+    pub danger: Edges,
+    /// New edges with the word of a dangerous edge, at a pair that makes it
+    /// dangerous.
+    pub starts: Edges,
 }
 
 /// C pairs that wait for the exits of a callee to meet, by the old callee.
@@ -346,6 +349,7 @@ pub fn close(old: &Graph, new: &Graph, join: impl FnMut(u16, u16)) -> Option<Clo
         new,
         pairs: Pairs::new(old.class.len(), new.class.len()),
         danger: [0; ROW_WORDS],
+        starts: [0; ROW_WORDS],
         waiting: Waiting {
             newest: vec![NONE; old.program.procedures.len()],
             entries: Vec::new(),
@@ -363,15 +367,25 @@ pub fn close(old: &Graph, new: &Graph, join: impl FnMut(u16, u16)) -> Option<Clo
             Kind::Exit => search.exits_met((n, m)),
         };
     }
-    let Search { pairs, danger, .. } = search;
-    within.then_some(Closing { pairs, danger })
+    let Search {
+        pairs,
+        danger,
+        starts,
+        ..
+    } = search;
+    within.then_some(Closing {
+        pairs,
+        danger,
+        starts,
+    })
 }
 
 struct Search<'g, J> {
     old: &'g Graph<'g>,
     new: &'g Graph<'g>,
     pairs: Pairs,
-    danger: [u64; ROW_WORDS],
+    danger: Edges,
+    starts: Edges,
     waiting: Waiting,
     join: J,
 }
@@ -436,9 +450,13 @@ impl<J: FnMut(u16, u16)> Search<'_, J> {
                     }
                     (self.join)(edge.edge, other.edge);
                 }
-                _ => {
+                other => {
                     let (word, bit) = place_of(edge.edge as usize);
                     self.danger[word] |= bit;
+                    if let Some(start) = other.filter(|other| other.word == edge.word) {
+                        let (word, bit) = place_of(start.edge as usize);
+                        self.starts[word] |= bit;
+                    }
                 }
             }
         }

@@ -39,6 +39,14 @@ fn record_of(old: &str, new: &str, tests: &str, test: usize) -> Vec<u8> {
     out
 }
 
+fn probes_of(old: &str, new: &str, tests: &str) -> Vec<u8> {
+    let mut out = vec![b'#'; 8_192];
+    let answer = probes(&text(old), &text(new), &text(tests), &mut out);
+    assert_eq!(answer.number, 0, "refused {answer}");
+    out.truncate(answer.place as usize);
+    out
+}
+
 fn dangers(sheet: &[u8]) -> Vec<String> {
     String::from_utf8(sheet.to_vec())
         .unwrap()
@@ -59,7 +67,8 @@ fn p2() {
     let first = record_of(P2_OLD, P2_NEW, P2_TESTS, 0);
     assert_eq!(first, text("V,t1,3,10101"));
     let second = record_of(P2_OLD, P2_NEW, P2_TESTS, 1);
-    assert_eq!(second, text("V,t2,5,?????"));
+    assert_eq!(second, text("V,t2,5,1????"));
+    assert_eq!(probes_of(P2_OLD, P2_NEW, P2_TESTS), text("Q,1 Q,2 Q,3 Q,4"));
 }
 
 #[test]
@@ -77,6 +86,10 @@ fn p3() {
 fn p4() {
     let new = P2_OLD.replace("B,1,stop,3", "B,1,halt,3");
     assert_eq!(dangers(&sheet_of(P2_OLD, &new, "")), ["D,2"]);
+    // The new node has no edge with its word: nothing to start from.
+    assert!(probes_of(P2_OLD, &new, "").is_empty());
+    let second = record_of(P2_OLD, &new, P2_TESTS, 1);
+    assert_eq!(second, text("V,t2,5,11010"));
 }
 
 #[test]
@@ -148,6 +161,8 @@ fn several_callees() {
         text("sheet,1 M,0,0 M,1,1 M,3,3 M,4,4 M,5,5 M,6,6 D,4 R,b end,6,1,1")
     );
     assert_eq!(record_of(old, &changed, tests, 0), text("V,a,3,101100"));
+    assert_eq!(record_of(old, &changed, tests, 1), text("V,b,5,0?11??"));
+    assert_eq!(probes_of(old, &changed, tests), text("Q,1 Q,4 Q,5"));
     let exchanged = old.replace("a+b", "b+a");
     assert_eq!(
         sheet_of(old, &exchanged, ""),
@@ -244,6 +259,10 @@ fn own_number_and_output() {
     assert_eq!(answer, Answer::success(length));
     assert_eq!(out[..length], text(P2_SHEET));
     assert!(out[length..].iter().all(|&byte| byte == b'#'));
+    for (length, answer) in [(16, Answer::success(16)), (15, Answer::new(16, 0))] {
+        let found = probes(&old, &new, &tests, &mut out[..length]);
+        assert_eq!(found, answer);
+    }
 }
 
 /// Entry, `count` equal steps in a ring, exit.
@@ -272,5 +291,9 @@ fn pairs_at_the_limit() {
     assert_eq!(
         record(&ring(63), &ring(65), b"", 0, &mut out),
         Answer::new(6, 0)
+    );
+    assert_eq!(
+        probes(&ring(63), &ring(65), b"", &mut out),
+        Answer::new(15, 0)
     );
 }

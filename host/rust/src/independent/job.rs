@@ -1,5 +1,6 @@
 //! Whole jobs: each call reads its texts in order and answers.
 
+use super::after::{self, Doubt};
 use super::back;
 use super::closing::{self, Graph};
 use super::program::{self, Program};
@@ -44,9 +45,21 @@ impl<'a> Job<'a> {
         let row = self.suite.row(test);
         let (old, new) = self.graphs();
         let mut joined = Joined::default();
-        match closing::close(&old, &new, |edge, other| joined.keep(row, edge, other)) {
+        let Some(closing) = closing::close(&old, &new, |edge, other| joined.keep(row, edge, other))
+        else {
+            return TOO_MANY;
+        };
+        let repeated = suite::meet(row, &closing.danger);
+        let doubt = repeated.then(|| Doubt::new(&old, &new, &closing));
+        sheet::write_record(self, &joined, doubt.as_ref(), test, out)
+    }
+
+    /// Writes the probes.
+    pub fn probes(&self, out: &mut [u8]) -> Answer {
+        let (old, new) = self.graphs();
+        match closing::close(&old, &new, |_, _| ()) {
             None => TOO_MANY,
-            Some(closing) => sheet::write_record(self, &closing, &joined, test, out),
+            Some(closing) => sheet::write_probes(&after::probes(&new, &closing), out),
         }
     }
 
@@ -95,6 +108,11 @@ pub fn sheet(old: &[u8], new: &[u8], tests: &[u8], out: &mut [u8]) -> Answer {
 /// Writes one test's record line.
 pub fn record(old: &[u8], new: &[u8], tests: &[u8], test: usize, out: &mut [u8]) -> Answer {
     answer(Job::read(old, new, tests).map(|job| job.record(test, out)))
+}
+
+/// Writes a line for each new edge that needs a probe.
+pub fn probes(old: &[u8], new: &[u8], tests: &[u8], out: &mut [u8]) -> Answer {
+    answer(Job::read(old, new, tests).map(|job| job.probes(out)))
 }
 
 /// Writes the program of one side back: an accepted file, read and written,

@@ -7,7 +7,7 @@ use super::tables::{self, Tables, TestTables};
 use crate::answer::{Answer, Outcome};
 use crate::records::{Job, Node, Read, Request, Version};
 use crate::records::{CALL_SCRATCH, LINKS, NODES, READ_SCRATCH, ROWS, TESTS};
-use crate::records::{CHECK, LABEL, PROGRAM, RECORD, SHEET};
+use crate::records::{CHECK, LABEL, PROBES, PROGRAM, RECORD, SHEET};
 
 /// 13 where the call is not of the job's stage.
 fn of_stage(job: &Job, stage: usize) -> Outcome<()> {
@@ -221,6 +221,7 @@ pub fn call(
             SHEET => held.read.sheet(out),
             RECORD => held.read.record(a, out),
             CHECK => held.read.check(input),
+            PROBES => held.read.probes(out),
             LABEL => held.node(a, b).map(|_| Answer::success(0))?,
             _ => UNNAMED,
         })

@@ -1,6 +1,7 @@
 //! Whole jobs over byte slices, written from the documents alone; and the lent
 //! job over them, whose tables are laid out as docs/MEMORY.md says.
 
+pub mod after;
 pub mod back;
 pub mod check;
 pub mod closing;
@@ -12,7 +13,7 @@ pub mod suite;
 pub mod tables;
 pub mod text;
 
-pub use job::{check, program, read_new, read_old, read_tests, record, sheet};
+pub use job::{check, probes, program, read_new, read_old, read_tests, record, sheet};
 
 #[cfg(test)]
 mod examples;

@@ -1,8 +1,9 @@
 //! The writers of sheet and record lines.
 
+use super::after::Doubt;
 use super::closing::Closing;
 use super::job::Job;
-use super::suite::{holds, meet, ROW_WORDS};
+use super::suite::{edges, holds, meet, Edges};
 use crate::answer::Answer;
 
 pub const FIRST_LINE: &[u8] = b"sheet,1\n";
@@ -63,6 +64,15 @@ impl Writer<'_> {
         self.at += length;
     }
 
+    /// A line for each of these edges, ascending.
+    fn edges(&mut self, kind: &[u8; 2], all: &Edges) {
+        for edge in edges(all) {
+            self.put(kind);
+            self.decimal(edge);
+            self.byte(b'\n');
+        }
+    }
+
     /// `M,old,new` for one old node and its partners, ascending. Each line is
     /// stored as 16 bytes: it has 6 or more and the end line 10 or more, so
     /// this stays within what is written, and the next line covers the rest.
@@ -81,24 +91,9 @@ impl Writer<'_> {
     }
 }
 
-/// The dangerous edges, ascending.
-fn edges(danger: &[u64; ROW_WORDS]) -> impl Iterator<Item = usize> + '_ {
-    danger.iter().enumerate().flat_map(|(at, &word)| {
-        let mut left = word;
-        std::iter::from_fn(move || {
-            if left == 0 {
-                return None;
-            }
-            let bit = left.trailing_zeros();
-            left &= left - 1;
-            Some(at * 64 + bit as usize)
-        })
-    })
-}
-
 /// Writes the sheet, or answers 16.
 pub fn write(job: &Job, closing: &Closing, out: &mut [u8]) -> Answer {
-    let Closing { pairs, danger } = closing;
+    let Closing { pairs, danger, .. } = closing;
     let repeated = |&test: &usize| meet(job.suite.row(test), danger);
     let mut count = [pairs.list.len(), 0, 0];
     let mut length = FIRST_LINE.len();
@@ -126,11 +121,7 @@ pub fn write(job: &Job, closing: &Closing, out: &mut [u8]) -> Answer {
     for old in 0..job.old.nodes.len() as u16 {
         writer.pairs(old, pairs.partners(old));
     }
-    for edge in edges(danger) {
-        writer.put(b"D,");
-        writer.decimal(edge);
-        writer.byte(b'\n');
-    }
+    writer.edges(b"D,", danger);
     for test in (0..job.suite.len()).filter(repeated) {
         writer.put(b"R,");
         writer.put(job.suite.name(test));
@@ -145,17 +136,29 @@ pub fn write(job: &Job, closing: &Closing, out: &mut [u8]) -> Answer {
     Answer::success(length)
 }
 
+/// Writes a line `Q,edge` for each of these edges, or answers 16.
+pub fn write_probes(probes: &Edges, out: &mut [u8]) -> Answer {
+    let length = edges(probes).map(|edge| 3 + digits(edge)).sum();
+    if out.len() < length {
+        return Answer::new(16, 0);
+    }
+    let out = &mut out[..length];
+    Writer { out, at: 0 }.edges(b"Q,", probes);
+    Answer::success(length)
+}
+
 /// The counterparts of the old edges that one test crossed.
 #[derive(Default)]
 pub struct Joined {
     pub edges: Vec<(u16, u16)>,
 }
 
-/// Writes one test's record line, or answers 16.
+/// Writes one test's record line, or answers 16. Of a repeated test some marks
+/// are in doubt.
 pub fn write_record(
     job: &Job,
-    closing: &Closing,
     joined: &Joined,
+    doubt: Option<&Doubt>,
     test: usize,
     out: &mut [u8],
 ) -> Answer {
@@ -178,10 +181,9 @@ pub fn write_record(
     writer.decimal(crossed);
     writer.byte(b',');
     let field = &mut writer.out[writer.at..writer.at + marks];
-    if meet(row, &closing.danger) {
-        field.fill(b'?');
-    } else {
-        mark(field, joined, job.old.edges.len());
+    mark(field, joined, job.old.edges.len());
+    if let Some(doubt) = doubt {
+        mark_doubt(field, joined, doubt);
     }
     writer.at += marks;
     writer.byte(b'\n');
@@ -201,6 +203,19 @@ fn mark(field: &mut [u8], joined: &Joined, old_edges: usize) {
             *mark = b'1';
         } else if *mark == b'0' {
             *mark = b'?';
+        }
+    }
+}
+
+/// A repeated test's mark is `?` where the new edge has a probe, or where a
+/// crossed old counterpart lies after a danger.
+fn mark_doubt(field: &mut [u8], joined: &Joined, doubt: &Doubt) {
+    for edge in edges(&doubt.probes) {
+        field[edge] = b'?';
+    }
+    for &(old, new) in &joined.edges {
+        if holds(&doubt.after_danger, old as usize) {
+            field[new as usize] = b'?';
         }
     }
 }

@@ -7,6 +7,7 @@ pub const TEST_LIMIT: usize = 200;
 
 /// Edges as bits: edge 0 is the lowest bit of the first word.
 pub const ROW_WORDS: usize = 16;
+pub type Edges = [u64; ROW_WORDS];
 
 /// The word and the bit of an edge.
 pub fn place_of(edge: usize) -> (usize, u64) {
@@ -17,6 +18,21 @@ pub fn place_of(edge: usize) -> (usize, u64) {
 pub fn holds(row: &[u64], edge: usize) -> bool {
     let (word, bit) = place_of(edge);
     row[word] & bit != 0
+}
+
+/// The edges that a row holds, ascending.
+pub fn edges(row: &[u64]) -> impl Iterator<Item = usize> + '_ {
+    row.iter().enumerate().flat_map(|(at, &word)| {
+        let mut left = word;
+        std::iter::from_fn(move || {
+            if left == 0 {
+                return None;
+            }
+            let bit = left.trailing_zeros();
+            left &= left - 1;
+            Some(at * 64 + bit as usize)
+        })
+    })
 }
 
 /// The lowest dangerous edge that a row holds; the search ends at the first

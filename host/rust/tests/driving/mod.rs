@@ -7,18 +7,21 @@
 use rivetyellow_host::answer::Answer;
 use rivetyellow_host::drive::{Call, Driver, Table, Text};
 use rivetyellow_host::lent::pattern;
-use rivetyellow_host::records::{CHECK, LABEL, LINKS, NODES, RECORD, ROWS, SHEET, TESTS};
+use rivetyellow_host::records::{CHECK, LABEL, LINKS, NODES, PROBES, RECORD, ROWS, SHEET, TESTS};
 
 // ---- the texts; `;` stands for byte 10
 
-/// P2: the old program, the new one, the tests, the sheet, the record lines.
+/// P2: the old program, the new one, the tests, the sheet, the record lines, the
+/// probes. The edge 1 is dangerous, and from the new one all but the edge 0 can
+/// be crossed.
 pub const OLD: &str = "P,up;N,E,,;N,S,read layer,;N,S,set speed,;N,S,hold,;N,X,,;\
                    B,0,-,1;B,1,up,2;B,1,stop,3;B,2,ok,1;B,3,ok,4;";
 pub const NEW: &str = "P,up;N,E,,;N,S,read layer,;N,S,set speed by layer,;N,S,hold,;N,X,,;\
                    B,0,-,1;B,1,up,2;B,1,stop,3;B,2,ok,1;B,3,ok,4;";
 pub const P2_TESTS: &str = "T,t1,a8;T,t2,f8;";
 pub const P2_SHEET: &str = "sheet,1;M,0,0;M,1,1;M,3,3;M,4,4;D,1;R,t2;end,4,1,1;";
-pub const P2_RECORDS: [&str; 2] = ["V,t1,3,10101;", "V,t2,5,?????;"];
+pub const P2_RECORDS: [&str; 2] = ["V,t1,3,10101;", "V,t2,5,1????;"];
+pub const P2_PROBES: &str = "Q,1;Q,2;Q,3;Q,4;";
 pub const P7: &str = "sheet,1;M,0,0;D,0;R,t1;R,t2;end,1,1,2;";
 pub const P8: &str = "sheet,1;M,0,0;M,1,1;M,3,3;M,4,4;R,t2;end,4,0,1;";
 
@@ -30,7 +33,7 @@ pub const ALL: &str = "T,all,f;";
 /// Both versions the same: each node meets itself. (0,0) by rule 1; over the
 /// edge 0 (1,1), a call, so by rule 2 (3,3); (4,4) and (5,5) by the edges 2
 /// and 3; as the exits of `in` are a pair the call goes on, to (2,2). No
-/// danger, so the test is left off and each mark is 1.
+/// danger, so the test is left off, each mark is 1, and there are no probes.
 pub const CALLS_SHEET: &str = "sheet,1;M,0,0;M,1,1;M,2,2;M,3,3;M,4,4;M,5,5;end,6,0,0;";
 pub const CALLS_RECORD: &str = "V,all,4,1111;";
 
@@ -42,6 +45,7 @@ pub fn bytes(text: &str) -> Vec<u8> {
 
 pub const ASK_SHEET: Call = Call::Ask(SHEET, 0, 0);
 pub const ASK_CHECK: Call = Call::Ask(CHECK, 0, 0);
+pub const ASK_PROBES: Call = Call::Ask(PROBES, 0, 0);
 
 pub const READS: [Call; 3] = [Call::ReadOld, Call::ReadNew, Call::ReadTests];
 
@@ -179,9 +183,10 @@ impl Drive {
     }
 
     /// All calls of stage 3 answer as they should: the job is right.
-    pub fn serves(&mut self, sheet: &str, record: &str, label: &str) {
+    pub fn serves(&mut self, sheet: &str, record: &str, probes: &str, label: &str) {
         self.writes(ASK_SHEET, sheet);
         self.writes(Call::Ask(RECORD, 0, 0), record);
+        self.writes(ASK_PROBES, probes);
         self.text(Text::Input, sheet);
         self.passes(ASK_CHECK);
         self.shows(0, 1, label);

@@ -59,6 +59,19 @@ impl Job {
         written(answer, &out)
     }
 
+    pub fn probes(&self, calls: &Calls) -> Written {
+        let mut out = vec![b'#'; 8_192];
+        let answer = (calls.probes)(&self.old, &self.new, &self.tests, &mut out);
+        written(answer, &out)
+    }
+
+    /// The lines of the new edges that need a probe.
+    pub fn probed(&self, lines: &str) {
+        for calls in all() {
+            assert_eq!(self.probes(&calls).as_deref(), Ok(lines), "{}", calls.name);
+        }
+    }
+
     /// The sheet and each test's record line; the sheet passes the check.
     pub fn due(&self, sheet: &str, records: &[&str]) {
         for calls in all() {
@@ -78,6 +91,7 @@ impl Job {
         for calls in all() {
             assert_eq!(self.sheet(&calls), Err(refusal), "{}", calls.name);
             assert_eq!(self.check(&calls, ""), refusal, "{}", calls.name);
+            assert_eq!(self.probes(&calls), Err(refusal), "{}", calls.name);
         }
     }
 }
