@@ -1,5 +1,6 @@
 #!/usr/bin/env python3
-r"""given_vectors.py SOURCE_DIR OUT NAME..: writes the cases of these names, in this order, into the file OUT, for host/rust/tests/given.rs.
+r"""given_vectors.py [--before-5] SOURCE_DIR OUT NAME..: writes the cases of these names, in this order, into the file OUT, for
+host/rust/tests/given.rs.
 
 SOURCE_DIR is a folder of given jobs that is not in the repository. Its file `answers` has a line for each call, fields parted by one blank:
 
@@ -21,7 +22,9 @@ OUT has for each case, its texts and its calls in the order of `answers`:
 The lines with `|` are those of the text, or of the bytes written. Each stands for itself and byte 10, or without byte 10 if it ends in `\`.
 `\xNN` is the byte NN: any that is not in 32 to 126, `\`, and a blank at the end of a line. So OUT is ASCII, and a diff of it can be read.
 
-A line of `answers` whose call is not in CALLS is left out and told. To make a file again with the cases that it has:
+A line of `answers` whose call is not in CALLS is left out and told. With --before-5 so are record lines whose marks are `?` throughout: the
+answers are those due before request 5 of the change requests, when a repeated test had such marks. To make a file again with the cases that
+it has:
 
     given_vectors.py SOURCE_DIR OUT $(sed -n 's/^case //p' OUT)
 """
@@ -31,7 +34,8 @@ import sys
 TEXTS = 'old', 'new', 'tests', 'sheet'
 SEARCH = 'first_danger'
 CALLS = {  # those that run a whole job, and the search, with their arguments, which are given in any order
-    'read_old': [], 'sheet': ['room'], 'record': ['lift', 'room'], 'check': [], 'write_back': ['room', 'side'], SEARCH: ['lift'],
+    'read_old': [], 'sheet': ['room'], 'record': ['lift', 'room'], 'check': [], 'write_back': ['room', 'side'], 'probes': ['room'],
+    SEARCH: ['lift'],
 }
 
 
@@ -62,10 +66,18 @@ def call_lines(folder, call, arguments, number, place, written):
     return [' '.join(('call', call, arguments, number, place)), *lines_of(out)]
 
 
+def all_doubtful(folder, call, *fields):
+    """Is this a record line whose marks are `?` throughout?"""
+    written = fields[-1]
+    return call == 'record' and written != '-' and not read(folder, written).rstrip(b'\n').rsplit(b',', 1)[1].strip(b'?')
+
+
 def main():
-    if len(sys.argv) < 4:
-        raise SystemExit('usage: given_vectors.py SOURCE_DIR OUT NAME..')
-    source, out, *names = sys.argv[1:]
+    before = sys.argv[1:2] == ['--before-5']
+    given = sys.argv[1 + before:]
+    if len(given) < 3:
+        raise SystemExit('usage: given_vectors.py [--before-5] SOURCE_DIR OUT NAME..')
+    source, out, *names = given
     if len(set(names)) != len(names):
         raise SystemExit('a case is named twice')
     answers = [line.split(' ') for line in read(source, 'answers').decode('ascii').splitlines()]
@@ -76,10 +88,10 @@ def main():
         for case, *fields in answers:
             if case != name:
                 continue
-            if fields[0] in CALLS:
-                calls.append(call_lines(folder, *fields))
-            else:
+            if fields[0] not in CALLS or before and all_doubtful(folder, *fields):
                 print('left out: %s %s' % (case, ' '.join(fields)))
+            else:
+                calls.append(call_lines(folder, *fields))
         if not calls:
             raise SystemExit('no call is left of the case ' + name)
         lines.append('case ' + name)

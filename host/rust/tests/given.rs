@@ -19,16 +19,23 @@ use std::iter::Peekable;
 use std::str::Lines;
 use whole::all;
 
-/// Request 3 of the change requests: several callees joined by `+`.
+/// Request 3 of the change requests: several callees joined by `+`. Record lines
+/// of repeated tests are left out, since request 5 gives them other marks.
 #[test]
 fn callees() {
-    hold(include_str!("given/callees"), 55, 116);
+    hold(include_str!("given/callees"), 55, 112);
 }
 
 /// Request 4: the search in a row ends at the lowest dangerous edge.
 #[test]
 fn first_danger() {
     hold(include_str!("given/first_danger"), 18, 123);
+}
+
+/// Request 5: probes, and the marks of repeated tests.
+#[test]
+fn probes() {
+    hold(include_str!("given/probes"), 48, 160);
 }
 
 /// The numbers are those of the cases and of the calls in the file.
@@ -95,6 +102,7 @@ impl Case {
             ("write_back", &[("room", _), ("side", side)]) => {
                 (calls.program)(old, new, tests, side, out)
             }
+            ("probes", [("room", _)]) => (calls.probes)(old, new, tests, out),
             ("first_danger", &[("lift", test)]) => {
                 let (row, dangers) = self.read(test);
                 Answer::new(0, (search.first_danger)(&row, &dangers) as u32)
