@@ -3,6 +3,7 @@
 
 pub mod answer;
 pub mod calls;
+pub mod corners;
 pub mod drive;
 pub mod generate;
 pub mod independent;

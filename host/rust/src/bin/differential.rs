@@ -3,15 +3,17 @@
 //! lent bytes. Exits 1 on a difference; the first one's job is left in
 //! `differential-job`. It exits 1 too if COUNT is 20,000 or more and labels that
 //! match with other bytes, or that nearly match, or what calls of several names
-//! show, were met too seldom. Without the library it exits 2 after the
+//! or probes show, were met too seldom. Without the library it exits 2 after the
 //! statistics.
 
 use rivetyellow_host::answer::{meaning, Answer};
 use rivetyellow_host::calls::{Calls, INDEPENDENT, LINKED};
+use rivetyellow_host::corners::{self, Shown};
 use rivetyellow_host::generate::labels::parts;
 use rivetyellow_host::generate::random::Random;
 use rivetyellow_host::generate::sheets::{label, lists};
 use rivetyellow_host::generate::{self, Generated};
+use rivetyellow_host::independent::after::Doubt;
 use rivetyellow_host::independent::closing::{self, called, Closing, Graph, Pairs};
 use rivetyellow_host::independent::job::Job;
 use rivetyellow_host::independent::program::Kind;
@@ -25,7 +27,7 @@ use std::{env, fs, process};
 /// Where the first difference's job is written.
 const DIRECTORY: &str = "differential-job";
 
-const CALLS: [&str; 7] = [
+const CALLS: [&str; 8] = [
     "read_old",
     "read_new",
     "read_tests",
@@ -33,12 +35,14 @@ const CALLS: [&str; 7] = [
     "record",
     "check",
     "program",
+    "probes",
 ];
 
 /// Those of them that write.
 const SHEET: usize = 3;
 const RECORD: usize = 4;
 const PROGRAM: usize = 6;
+const PROBES: usize = 7;
 
 /// Pairs whose labels match with other bytes; ends of edges with one word that
 /// are not alike only because their labels, which nearly match, do not.
@@ -90,9 +94,13 @@ const EXITS_CUT: &str = "sheets that pass without the exits of a later callee al
 const LATER_CUT: &str = "sheets that pass without the entries of a later callee";
 const EXITS_MISSING: &str = "sheets that break rule 4, without the exits of a later callee alone";
 
+/// Outputs for probes: one byte too short, and of no bytes where there are none.
+const BYTE_SHORT: &str = "outputs one byte too short for the probes";
+const NO_BYTES: &str = "outputs of no bytes for no probes";
+
 /// In so many jobs each of these must be met at least so often.
 const ENOUGH: u64 = 20_000;
-const MET: [(&str, u64); 35] = [
+const MET: [(&str, u64); 37] = [
     (OTHER_BYTES, 10_000),
     (OTHER_JOBS, 1_000),
     (OTHER_CALLS, 1_000),
@@ -128,6 +136,8 @@ const MET: [(&str, u64); 35] = [
     (EXITS_MISSING, 10),
     (EXITS_CUT, 80),
     (LATER_CUT, 60),
+    (BYTE_SHORT, 500),
+    (NO_BYTES, 1_500),
 ];
 
 #[derive(Default)]
@@ -147,7 +157,8 @@ impl Statistics {
     /// What was met less often than it must be.
     fn unmet(&self) -> Vec<&'static str> {
         let met = |what| self.counts.get(what).copied().unwrap_or_default();
-        let unmet = MET.iter().filter(|(what, least)| met(what) < *least);
+        let all = MET.iter().chain(&corners::MET);
+        let unmet = all.filter(|(what, least)| met(what) < *least);
         unmet.map(|(what, _)| *what).collect()
     }
 
@@ -438,6 +449,7 @@ impl<'g> Comparison<'g> {
         let expected = match call {
             SHEET => (INDEPENDENT.sheet)(old, new, tests, &mut expected_out),
             RECORD => (INDEPENDENT.record)(old, new, tests, own, &mut expected_out),
+            PROBES => (INDEPENDENT.probes)(old, new, tests, &mut expected_out),
             _ => (INDEPENDENT.program)(old, new, tests, own, &mut expected_out),
         };
         let written = match expected.is_success() {
@@ -456,6 +468,7 @@ impl<'g> Comparison<'g> {
             match call {
                 SHEET => (linked.sheet)(old, new, tests, out.slice_mut()),
                 RECORD => (linked.record)(old, new, tests, own, out.slice_mut()),
+                PROBES => (linked.probes)(old, new, tests, out.slice_mut()),
                 _ => (linked.program)(old, new, tests, own, out.slice_mut()),
             }
         });
@@ -477,6 +490,7 @@ impl<'g> Comparison<'g> {
     fn writes_twice(&mut self, call: usize, own: usize, random: &mut Random) -> Option<Vec<u8>> {
         let room = match self.job.old.len() {
             _ if call == RECORD => 1_100,
+            _ if call == PROBES => 6_058,
             0..=2_000 => 8_192,
             _ => 65_536,
         };
@@ -492,13 +506,17 @@ impl<'g> Comparison<'g> {
         let written = answer.place as usize;
         let text = self.memory.expected[..written].to_vec();
         let length = match random.below(6) {
-            0 => written - 1,
-            1 => random.below(written),
+            0 => written.saturating_sub(1),
+            1 => random.below(written.max(1)),
             2 => 0,
             3 | 4 => written,
             _ => written + random.within(1, 20),
         };
         self.writes(call, own, length, random);
+        if call == PROBES {
+            self.statistics.count(BYTE_SHORT, length + 1 == written);
+            self.statistics.count(NO_BYTES, length == 0 && written == 0);
+        }
         Some(text)
     }
 
@@ -523,6 +541,7 @@ impl<'g> Comparison<'g> {
         let length = random.below(40);
         self.writes(RECORD, *random.pick(&beyond), length, random);
         self.programs(random);
+        self.writes_twice(PROBES, 0, random);
         if let (Some(job), Some(sheet)) = (accepted, sheet) {
             self.own_sheet(&sheet);
             self.describe(&job, &records);
@@ -559,8 +578,16 @@ impl<'g> Comparison<'g> {
     /// Counts what an accepted job shows.
     fn describe(&mut self, job: &Job, records: &[(usize, Option<Vec<u8>>)]) {
         let (old, new) = job.graphs();
-        let Some(closed) = closing::close(&old, &new, |_, _| ()) else {
+        let mut joined = Vec::new();
+        let Some(closed) = closing::close(&old, &new, |e, f| joined.push((e, f))) else {
             return;
+        };
+        let shown = Shown {
+            old: &old,
+            new: &new,
+            closing: &closed,
+            joined: &joined,
+            doubt: Doubt::new(&old, &new, &closed),
         };
         let danger = closed.danger.iter().any(|&word| word != 0);
         let (mut going, mut staying) = (false, false);
@@ -576,6 +603,7 @@ impl<'g> Comparison<'g> {
         let statistics = &mut *self.statistics;
         statistics.labels(&old, &new, &closed);
         statistics.calls(&old, &new, &closed);
+        shown.tell(&mut |what, holds| statistics.count(what, holds));
         let mut pairs = closed.pairs.list.iter();
         let other = pairs.any(|&(n, m)| label(&old, n) != label(&new, m));
         statistics.count(OTHER_JOBS, other);
@@ -591,16 +619,19 @@ impl<'g> Comparison<'g> {
             let Some(record) = record else {
                 continue;
             };
-            let marks = record.rsplit(|&byte| byte == b',').next().unwrap_or(&[]);
+            let line = &record[..record.len() - 1];
+            let marks = line.rsplit(|&byte| byte == b',').next().unwrap_or(&[]);
+            let row = job.suite.row(*test);
+            shown.tell_test(row, marks, &mut |what, holds| statistics.count(what, holds));
             let has = |mark: u8| marks.contains(&mark);
-            let repeated = meet(job.suite.row(*test), &closed.danger);
+            let repeated = meet(row, &closed.danger);
             statistics.count("repeated tests", repeated);
             statistics.count("left-off tests", !repeated);
             statistics.count("left-off tests with a mark 0", !repeated && has(b'0'));
             statistics.count("left-off tests with a mark 1", !repeated && has(b'1'));
             statistics.count("left-off tests with a mark ?", !repeated && has(b'?'));
             let all = has(b'0') && has(b'1') && has(b'?');
-            statistics.count("left-off tests with all three marks", all);
+            statistics.count("left-off tests with all three marks", !repeated && all);
         }
     }
 }

@@ -5,6 +5,7 @@ pub mod damage;
 pub mod labels;
 pub mod limits;
 pub mod model;
+pub mod parting;
 pub mod programs;
 pub mod random;
 pub mod sequences;
@@ -34,6 +35,7 @@ fn texts(random: &mut Random) -> Texts {
         0..=5 => limits::heavy(random),
         6..=39 => limits::light(random),
         40..=189 => calling(random),
+        190..=289 => parting(random),
         _ => small(random),
     }
 }
@@ -83,6 +85,13 @@ fn small(random: &mut Random) -> Texts {
 fn calling(random: &mut Random) -> Texts {
     let pools = programs::Pools::new(random);
     let (old, new) = calling::versions(random, &pools);
+    with_tests(random, &old, &new)
+}
+
+/// Programs that part within, and tests.
+fn parting(random: &mut Random) -> Texts {
+    let pools = programs::Pools::new(random);
+    let (old, new) = parting::versions(random, &pools);
     with_tests(random, &old, &new)
 }
 

@@ -8,7 +8,7 @@ use super::random::Random;
 use super::{finish, mostly_right, Generated};
 use crate::answer::Answer;
 use crate::drive::{Bytes, Call, Driver, Table, Text, OUTPUT};
-use crate::records::{self, joined_callees, CHECK, LABEL, PROGRAM, RECORD, SHEET};
+use crate::records::{self, joined_callees, CHECK, LABEL, PROBES, PROGRAM, RECORD, SHEET};
 use std::ops::Range;
 
 /// What was spoilt before a call, and the number that the call answered.
@@ -255,16 +255,17 @@ impl Maker<'_> {
         let job = self.driver.job();
         let (a, b) = (self.named(3), self.named(3));
         match self.random.below(100) {
-            0..=20 => self.writing(SHEET, a, b),
-            21..=44 => {
+            0..=16 => self.writing(SHEET, a, b),
+            17..=28 => self.writing(PROBES, a, b),
+            29..=48 => {
                 let test = self.named(job.tests.min(200));
                 self.writing(RECORD, test, b)
             }
-            45..=62 => {
+            49..=64 => {
                 self.idle_output();
                 self.driver.call(Call::Ask(CHECK, a, b))
             }
-            63..=80 => {
+            65..=81 => {
                 let side = self.named(2);
                 let count = if side == 0 {
                     job.old_nodes
@@ -278,12 +279,12 @@ impl Maker<'_> {
                 self.idle_output();
                 self.driver.call(Call::Ask(LABEL, side, node))
             }
-            81..=94 => {
+            82..=94 => {
                 let side = self.named(2);
                 self.writing(PROGRAM, side, b)
             }
             _ => {
-                let unknown = [5, 6, 7, 8, 255, 256, 1 << 32, (1 << 32) + 1, usize::MAX];
+                let unknown = [6, 7, 8, 255, 256, 1 << 32, (1 << 32) + 1, usize::MAX];
                 let number = *self.random.pick(&unknown);
                 self.idle_output();
                 self.driver.call(Call::Ask(number, a, b))
@@ -302,13 +303,14 @@ impl Maker<'_> {
     fn writing(&mut self, request: usize, a: usize, b: usize) -> Answer {
         let length = match self.written {
             Some((last, written)) if last == request => match self.random.below(8) {
-                0 | 1 => written - 1,
-                2 => self.random.below(written),
+                0 | 1 => written.saturating_sub(1),
+                2 => self.random.below(written.max(1)),
                 3 => 0,
                 4 | 5 => written,
                 _ => written + self.random.within(1, 20),
             },
             _ if request == RECORD => *self.random.pick(&[1_045, 1_045, 60, 20]),
+            _ if request == PROBES => *self.random.pick(&[6_058, 6_058, 60, 20, 0]),
             _ => *self.random.pick(&[4_096, 4_096, 4_096, 60, 20, 0]),
         };
         self.driver.lend(Table::Output, length);
