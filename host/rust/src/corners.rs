@@ -97,11 +97,11 @@ pub const MET: [(&str, u64); 33] = [
 
 /// An accepted job, its closing and its counterparts.
 pub struct Shown<'g> {
-    pub old: &'g Graph<'g>,
-    pub new: &'g Graph<'g>,
+    old: &'g Graph<'g>,
+    new: &'g Graph<'g>,
     pub closing: &'g Closing,
-    pub joined: &'g [(u16, u16)],
-    pub doubt: Doubt,
+    joined: &'g [(u16, u16)],
+    doubt: Doubt,
 }
 
 /// The crossed counterparts of a new edge: there is one, one that has no other
@@ -114,7 +114,22 @@ struct Crossed {
     before: bool,
 }
 
-impl Shown<'_> {
+impl<'g> Shown<'g> {
+    pub fn new(
+        old: &'g Graph<'g>,
+        new: &'g Graph<'g>,
+        closing: &'g Closing,
+        joined: &'g [(u16, u16)],
+    ) -> Shown<'g> {
+        Shown {
+            old,
+            new,
+            closing,
+            joined,
+            doubt: Doubt::new(old, new, closing),
+        }
+    }
+
     fn probe(&self, edge: usize) -> bool {
         holds(&self.doubt.probes, edge)
     }

@@ -13,7 +13,6 @@ use rivetyellow_host::generate::labels::parts;
 use rivetyellow_host::generate::random::Random;
 use rivetyellow_host::generate::sheets::{label, lists};
 use rivetyellow_host::generate::{self, Generated};
-use rivetyellow_host::independent::after::Doubt;
 use rivetyellow_host::independent::closing::{self, called, Closing, Graph, Pairs};
 use rivetyellow_host::independent::job::Job;
 use rivetyellow_host::independent::program::Kind;
@@ -254,6 +253,31 @@ impl Statistics {
         self.count(SEVERAL_JOBS, job);
     }
 
+    /// Counts an accepted job by its pairs.
+    fn pairs(&mut self, old: &Graph, new: &Graph, closed: &Closing) {
+        let (mut going, mut staying, mut other) = (false, false, false);
+        let mut partners = BTreeMap::new();
+        for &(n, m) in &closed.pairs.list {
+            *partners.entry(n).or_insert(0) += 1;
+            other |= label(old, n) != label(new, m);
+            if old.kind(n) == Kind::Call {
+                let waits = waits_at(old, new, &closed.pairs, (n, m)).is_some();
+                going |= !waits;
+                staying |= waits;
+            }
+        }
+        let danger = closed.danger.iter().any(|&word| word != 0);
+        let several = partners.values().any(|&count| count > 1);
+        self.count(OTHER_JOBS, other);
+        self.count("accepted jobs", true);
+        self.count("accepted jobs with D lines", danger);
+        self.count("accepted jobs without D lines", !danger);
+        self.count("accepted jobs with several partners of a node", several);
+        self.count("accepted jobs with C pairs that go on", going);
+        self.count("accepted jobs with C pairs that do not", staying);
+        self.count("accepted jobs with C pairs of both sorts", going && staying);
+    }
+
     /// Counts the refusal of a program by the callee field of its line.
     fn refused(&mut self, text: &[u8], answer: Answer) {
         let line = text
@@ -322,6 +346,22 @@ impl Statistics {
         self.count(EXITS_MISSING, broken(4) && exits_missing);
         self.count(EXITS_CUT, answer.is_success() && exits_missing);
         self.count(LATER_CUT, answer.is_success() && entries_missing);
+    }
+
+    /// Counts a test by its record line.
+    fn record(&mut self, shown: &Shown, row: &[u64], record: &[u8]) {
+        let line = &record[..record.len() - 1];
+        let marks = line.rsplit(|&byte| byte == b',').next().unwrap_or(&[]);
+        shown.tell_test(row, marks, &mut |what, holds| self.count(what, holds));
+        let has = |mark: u8| marks.contains(&mark);
+        let left_off = !meet(row, &shown.closing.danger);
+        self.count("repeated tests", !left_off);
+        self.count("left-off tests", left_off);
+        self.count("left-off tests with a mark 0", left_off && has(b'0'));
+        self.count("left-off tests with a mark 1", left_off && has(b'1'));
+        self.count("left-off tests with a mark ?", left_off && has(b'?'));
+        let all = has(b'0') && has(b'1') && has(b'?');
+        self.count("left-off tests with all three marks", left_off && all);
     }
 
     fn answer(&mut self, call: usize, answer: Answer) {
@@ -442,16 +482,10 @@ impl<'g> Comparison<'g> {
 
     /// A call that writes, with its own number and an output of this length.
     fn writes(&mut self, call: usize, own: usize, length: usize, random: &mut Random) -> Answer {
-        let [old, new, tests, _] = self.texts();
         let mut expected_out = std::mem::take(&mut self.memory.expected);
         expected_out.clear();
         expected_out.extend((0..length).map(pattern));
-        let expected = match call {
-            SHEET => (INDEPENDENT.sheet)(old, new, tests, &mut expected_out),
-            RECORD => (INDEPENDENT.record)(old, new, tests, own, &mut expected_out),
-            PROBES => (INDEPENDENT.probes)(old, new, tests, &mut expected_out),
-            _ => (INDEPENDENT.program)(old, new, tests, own, &mut expected_out),
-        };
+        let expected = written_by(&INDEPENDENT, call, self.texts(), own, &mut expected_out);
         let written = match expected.is_success() {
             true => expected.place as usize,
             false => 0,
@@ -463,14 +497,8 @@ impl<'g> Comparison<'g> {
         let found = self.linked.map(|linked| {
             let Memory { texts, out, .. } = &mut *self.memory;
             out.fill(front(random), length, pattern);
-            let [old, new, tests, _] = &*texts;
-            let (old, new, tests) = (old.slice(), new.slice(), tests.slice());
-            match call {
-                SHEET => (linked.sheet)(old, new, tests, out.slice_mut()),
-                RECORD => (linked.record)(old, new, tests, own, out.slice_mut()),
-                PROBES => (linked.probes)(old, new, tests, out.slice_mut()),
-                _ => (linked.program)(old, new, tests, own, out.slice_mut()),
-            }
+            let texts = texts.each_ref().map(Lent::slice);
+            written_by(linked, call, texts, own, out.slice_mut())
         });
         if found.is_some() {
             if self.memory.out.slice() != expected_out {
@@ -582,57 +610,33 @@ impl<'g> Comparison<'g> {
         let Some(closed) = closing::close(&old, &new, |e, f| joined.push((e, f))) else {
             return;
         };
-        let shown = Shown {
-            old: &old,
-            new: &new,
-            closing: &closed,
-            joined: &joined,
-            doubt: Doubt::new(&old, &new, &closed),
-        };
-        let danger = closed.danger.iter().any(|&word| word != 0);
-        let (mut going, mut staying) = (false, false);
-        let mut partners = BTreeMap::new();
-        for &(n, m) in &closed.pairs.list {
-            *partners.entry(n).or_insert(0) += 1;
-            if old.kind(n) == Kind::Call {
-                let waits = waits_at(&old, &new, &closed.pairs, (n, m)).is_some();
-                going |= !waits;
-                staying |= waits;
-            }
-        }
+        let shown = Shown::new(&old, &new, &closed, &joined);
         let statistics = &mut *self.statistics;
         statistics.labels(&old, &new, &closed);
         statistics.calls(&old, &new, &closed);
+        statistics.pairs(&old, &new, &closed);
         shown.tell(&mut |what, holds| statistics.count(what, holds));
-        let mut pairs = closed.pairs.list.iter();
-        let other = pairs.any(|&(n, m)| label(&old, n) != label(&new, m));
-        statistics.count(OTHER_JOBS, other);
-        statistics.count("accepted jobs", true);
-        statistics.count("accepted jobs with D lines", danger);
-        statistics.count("accepted jobs without D lines", !danger);
-        let several = partners.values().any(|&count| count > 1);
-        statistics.count("accepted jobs with several partners of a node", several);
-        statistics.count("accepted jobs with C pairs that go on", going);
-        statistics.count("accepted jobs with C pairs that do not", staying);
-        statistics.count("accepted jobs with C pairs of both sorts", going && staying);
         for (test, record) in records {
-            let Some(record) = record else {
-                continue;
-            };
-            let line = &record[..record.len() - 1];
-            let marks = line.rsplit(|&byte| byte == b',').next().unwrap_or(&[]);
-            let row = job.suite.row(*test);
-            shown.tell_test(row, marks, &mut |what, holds| statistics.count(what, holds));
-            let has = |mark: u8| marks.contains(&mark);
-            let repeated = meet(row, &closed.danger);
-            statistics.count("repeated tests", repeated);
-            statistics.count("left-off tests", !repeated);
-            statistics.count("left-off tests with a mark 0", !repeated && has(b'0'));
-            statistics.count("left-off tests with a mark 1", !repeated && has(b'1'));
-            statistics.count("left-off tests with a mark ?", !repeated && has(b'?'));
-            let all = has(b'0') && has(b'1') && has(b'?');
-            statistics.count("left-off tests with all three marks", !repeated && all);
+            if let Some(record) = record {
+                statistics.record(&shown, job.suite.row(*test), record);
+            }
         }
+    }
+}
+
+/// Makes a call that writes, with its own number.
+fn written_by(
+    calls: &Calls,
+    call: usize,
+    [old, new, tests, _]: [&[u8]; 4],
+    own: usize,
+    out: &mut [u8],
+) -> Answer {
+    match call {
+        SHEET => (calls.sheet)(old, new, tests, out),
+        RECORD => (calls.record)(old, new, tests, own, out),
+        PROBES => (calls.probes)(old, new, tests, out),
+        _ => (calls.program)(old, new, tests, own, out),
     }
 }
 
