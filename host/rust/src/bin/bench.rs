@@ -7,7 +7,7 @@ use rivetyellow_host::generate::labels::format_some;
 use rivetyellow_host::generate::limits::{
     deep, formatted_ring, fours, groups, many_tests, put_blanks, ring, wide,
 };
-use rivetyellow_host::generate::model::{joined, Program, Sheet};
+use rivetyellow_host::generate::model::{joined, put_line, row, Edge, Program, Sheet};
 use rivetyellow_host::generate::random::Random;
 use rivetyellow_host::generate::sheets::all_alike;
 use rivetyellow_host::generate::tests::runs;
@@ -87,6 +87,17 @@ fn write_records(texts: &Texts, count: usize) -> Run<'_> {
     })
 }
 
+/// The lines of all new edges that need a probe.
+fn write_probes(texts: &Texts) -> Run<'_> {
+    Box::new(|calls, _| {
+        let mut out = [0; 6_058];
+        let answer = (calls.probes)(&texts.old, &texts.new, &texts.tests, &mut out);
+        assert!(answer.is_success(), "{} refuses: {answer}", calls.name);
+        black_box(&out);
+        answer.packed()
+    })
+}
+
 /// Checks a sheet.
 fn check(texts: &Texts, sheet: Vec<u8>) -> Run<'_> {
     Box::new(move |calls, _| {
@@ -105,6 +116,10 @@ struct Jobs {
     formatted: Texts,
     rings_formatted: Texts,
     calls_of_four: Texts,
+    parted: Texts,
+    groups_parted: Texts,
+    /// The word leads to the exit.
+    calls_parted: Texts,
 }
 
 impl Jobs {
@@ -117,11 +132,44 @@ impl Jobs {
             groups: Texts::new(&grouped[0], &grouped[1], tests.clone()),
             rings: Texts::new(&ring(46), &ring(89), Vec::new()),
             deep: Texts::new(&deep(64), &deep(64), Vec::new()),
-            formatted: formatted(random, distinct, tests),
+            formatted: formatted(random, distinct.clone(), tests),
             rings_formatted: rings_formatted(random),
-            calls_of_four: calls_of_four(random),
+            calls_of_four: calls_of_four(random, |edge| edge.word = b"wait".to_vec()),
+            parted: parted(random, &distinct, &distinct),
+            groups_parted: parted(random, &grouped[0], &grouped[1]),
+            calls_parted: calls_of_four(random, |edge| edge.to = 7),
         }
     }
+}
+
+/// The new edges of one word at steps of one label lead back to the first step.
+/// The old ones are dangerous, nearly all edges lie after them, and 200 tests
+/// crossed them, which are all repeated.
+fn parted(random: &mut Random, old: &Program, new: &Program) -> Texts {
+    let before = &old.procedures[0];
+    let danger = &before.edges[923];
+    let label = &before.nodes[danger.from].label;
+    let mut new = new.clone();
+    let after = &mut new.procedures[0];
+    for edge in &mut after.edges {
+        if edge.word == danger.word && after.nodes[edge.from].label == *label {
+            edge.to = 1;
+        }
+    }
+    let mut tests = Vec::new();
+    for test in 0..200 {
+        let crossed = before.edges.iter().map(|edge| {
+            let parts = edge.word == danger.word && before.nodes[edge.from].label == *label;
+            parts || random.percent(30)
+        });
+        let row = row(&crossed.collect::<Vec<bool>>());
+        let name = format!("test_{test:0>7}").into_bytes();
+        put_line(&mut tests, &[b"T", &name, &row]);
+    }
+    let texts = Texts::new(old, &new, tests);
+    let sheet = own_sheet(&texts);
+    assert!(sheet.ends_with(b",200\n"), "a test that is not repeated");
+    texts
 }
 
 /// Blanks moved in every label.
@@ -139,14 +187,12 @@ fn rings_formatted(random: &mut Random) -> Texts {
 }
 
 /// Each step and each call has three partners. In one procedure a word is
-/// renamed, so a part of the tests is repeated.
-fn calls_of_four(random: &mut Random) -> Texts {
+/// changed, so a part of the tests is repeated.
+fn calls_of_four(random: &mut Random, change: impl Fn(&mut Edge)) -> Texts {
     let old = fours(1);
     let mut new = fours(2);
-    let changed = &mut new.procedures[20];
-    for edge in changed.edges.iter_mut().filter(|edge| edge.word == b"stay") {
-        edge.word = b"wait".to_vec();
-    }
+    let changed = new.procedures[20].edges.iter_mut();
+    changed.filter(|edge| edge.word == b"stay").for_each(change);
     let rows = runs(random, &old, 200, 2_000, 40);
     Texts::new(&old, &new, rows)
 }
@@ -216,6 +262,28 @@ fn calling_cases(jobs: &Jobs) -> Cases<'_> {
         (
             "record: one line of 200, calls of four each",
             write_records(fours, 200),
+        ),
+    ]
+}
+
+fn parted_cases(jobs: &Jobs) -> Cases<'_> {
+    vec![
+        (
+            "record: one line of 200 repeated tests",
+            write_records(&jobs.parted, 200),
+        ),
+        (
+            "record: the same, 8 partners of each step",
+            write_records(&jobs.groups_parted, 200),
+        ),
+        ("probes: 512 nodes, 1,024 edges", write_probes(&jobs.parted)),
+        (
+            "probes: the same, 8 partners of each step",
+            write_probes(&jobs.groups_parted),
+        ),
+        (
+            "probes: 64 procedures, calls of four each",
+            write_probes(&jobs.calls_parted),
         ),
     ]
 }
@@ -380,6 +448,7 @@ fn main() {
         largest_cases(&jobs),
         formatted_cases(&jobs),
         calling_cases(&jobs),
+        parted_cases(&jobs),
     ];
     for (name, run) in cases.iter().flatten() {
         let by = |calls| move |turn| run(black_box(calls), turn);
