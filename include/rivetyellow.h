@@ -4,11 +4,12 @@
  * Given an old and a new version of a program and a file of tests with their
  * coverage of the old version, the selector writes a sheet: which nodes of the
  * two versions are paired, which old edges are dangerous, which tests must be
- * repeated. The checker judges any sheet against the same three texts. A
- * program that was read can be written back from its tables.
+ * repeated. The checker judges any sheet against the same three texts. For the
+ * tests to repeat, the new edges that need a probe are listed. A program that
+ * was read can be written back from its tables.
  *
  * There are two sorts of calls, for the same work and with the same answers:
- *   - Seven calls run one whole job each. They are lent texts and an output.
+ *   - Eight calls run one whole job each. They are lent texts and an output.
  *   - The calls ry_job_.. work on a lent job: a record and tables that the
  *     caller keeps from call to call. The texts are read into them once, and
  *     then several requests are made.
@@ -119,8 +120,8 @@ enum {
        is lent than was read. Place: 0. RY_REQUEST_PROGRAM asks less of the
        texts of the programs, as said there. */
     RY_LENT_MEMORY_WRONG = 14,
-    /* The two versions have more than 4,096 pairs. Place: 0. Given for a sheet
-       or a record line only. */
+    /* The two versions have more than 4,096 pairs. Place: 0. Given for a sheet,
+       a record line or the probes only. */
     RY_TOO_MANY_PAIRS = 15,
     /* The output is shorter than what must be written. Place: 0. */
     RY_OUTPUT_SHORT = 16
@@ -134,6 +135,9 @@ enum {
 #define RY_RECORD_ROOM 1045
 /* An output of this length is enough for every program written back. */
 #define RY_PROGRAM_ROOM 65536
+/* An output of this length is enough for all probes: a line for each of 1,024
+   new edges. */
+#define RY_PROBES_ROOM 6058
 /* A stack of this many bytes is enough for every call, with a margin. */
 #define RY_STACK_ROOM 524288
 
@@ -195,7 +199,10 @@ enum {
        that is no longer what a call of it says, a word that is not in the
        tables, a name twice are refused. Of job, tables, scratch and the text of
        the tests it asks what it asks for every request. */
-    RY_REQUEST_PROGRAM = 4
+    RY_REQUEST_PROGRAM = 4,
+    /* Write the lines of the new edges that need a probe: out. Gives 0, 15,
+       16. */
+    RY_REQUEST_PROBES = 5
 };
 
 /* The number of an answer. */
@@ -257,6 +264,16 @@ uint64_t ry_program(const uint8_t *old_text, size_t old_length,
                     const uint8_t *tests_text, size_t tests_length,
                     size_t side,
                     uint8_t *out, size_t out_length);
+
+/* Writes a line `Q,edge`, byte 10 included, for each new edge that needs a
+   probe, ascending: those that a run may cross once the versions have parted.
+   Each dangerous edge of the job counts, whether or not a test crossed it. If
+   there are none nothing is written, and an output of no bytes will do.
+   Gives 0 with the bytes written, 1 to 10, 15, 16. */
+uint64_t ry_probes(const uint8_t *old_text, size_t old_length,
+                   const uint8_t *new_text, size_t new_length,
+                   const uint8_t *tests_text, size_t tests_length,
+                   uint8_t *out, size_t out_length);
 
 /*
  * The calls of the lent job, in the order of its stages. Each is lent the job

@@ -5,6 +5,8 @@
  *     host check OLD NEW TESTS SHEET    says whether the sheet passes
  *     host program OLD NEW TESTS SIDE   prints the program of a side, 0 old or
  *                                       1 new, as it is written back
+ *     host probes OLD NEW TESTS         prints a line Q,EDGE for each new edge
+ *                                       that needs a probe
  *
  * A refusal is printed in words. Exit status: 0 done or passed, 1 refused,
  * 2 a wrong argument, a file that cannot be read, or an output that cannot be
@@ -92,6 +94,19 @@ static int print_program(const struct text *t, size_t side)
     return 0;
 }
 
+static int print_probes(const struct text *t)
+{
+    static uint8_t out[RY_PROBES_ROOM];
+    uint64_t answer = ry_probes(t[OLD].bytes, t[OLD].length, t[NEW].bytes, t[NEW].length,
+                                t[TESTS].bytes, t[TESTS].length, out, sizeof out);
+
+    if (ry_number(answer) != RY_DONE)
+        return refused_by(t, answer);
+    if (fwrite(out, 1, ry_place(answer), stdout) != ry_place(answer))
+        return 2;
+    return 0;
+}
+
 int main(int argc, char **argv)
 {
     struct text texts[TEXTS] = { { NULL, 0 } };
@@ -100,14 +115,16 @@ int main(int argc, char **argv)
     size_t side = 0;
     int program = argc == 3 + SHEET && strcmp(argv[1], "program") == 0
         && read_number(argv[2 + SHEET], &side);
+    int probes = argc == 2 + SHEET && strcmp(argv[1], "probes") == 0;
     int files = check ? TEXTS : SHEET;
     int status = 2;
     int at;
 
-    if (!sheet && !check && !program) {
+    if (!sheet && !check && !program && !probes) {
         fprintf(stderr, "usage: host sheet OLD NEW TESTS\n"
                         "       host check OLD NEW TESTS SHEET\n"
-                        "       host program OLD NEW TESTS SIDE\n");
+                        "       host program OLD NEW TESTS SIDE\n"
+                        "       host probes OLD NEW TESTS\n");
         return 2;
     }
     for (at = 0; at < files; at++)
@@ -115,7 +132,8 @@ int main(int argc, char **argv)
             break;
     if (at == files)
         status = sheet ? print_sheet(texts)
-            : check ? check_sheet(texts) : print_program(texts, side);
+            : check ? check_sheet(texts)
+            : program ? print_program(texts, side) : print_probes(texts);
     for (at = 0; at < TEXTS; at++)
         free(texts[at].bytes);
     if (fflush(stdout) != 0 || ferror(stdout))

@@ -6,7 +6,8 @@
  *
  * prints the sheet, then all record lines, then whether the sheet passes its
  * check, then the label of a node, by side (0 old, 1 new) and number, then how
- * many bytes the program of that side has, written back.
+ * many bytes the program of that side has, written back, then a line Q,EDGE for
+ * each new edge that needs a probe.
  *
  * A refusal is printed in words. Exit status: 0 done, 1 refused, 2 a wrong
  * argument, a file that cannot be read, or an output that cannot be written.
@@ -27,6 +28,7 @@ static size_t scratch[RY_JOB_SCRATCH];
 static uint8_t sheet[RY_SHEET_ROOM];
 static uint8_t line[RY_RECORD_ROOM];
 static uint8_t program[RY_PROGRAM_ROOM];
+static uint8_t probes[RY_PROBES_ROOM];
 
 /* A version that was read, and all that was read, as arguments. */
 #define VERSION(t, v) (t)[v].bytes, (t)[v].length, nodes[v], RY_JOB_NODES, links[v], RY_JOB_LINKS
@@ -141,6 +143,18 @@ static int write_back(const struct text *t, size_t side)
     return status;
 }
 
+/* Prints the new edges that need a probe. */
+static int print_probes(const struct text *t)
+{
+    uint64_t answer = ask(t, RY_REQUEST_PROBES, 0, 0, probes, sizeof probes);
+
+    if (ry_number(answer) != RY_DONE)
+        return refused("the probes", answer);
+    if (fwrite(probes, 1, ry_place(answer), stdout) != ry_place(answer))
+        return 2;
+    return 0;
+}
+
 int main(int argc, char **argv)
 {
     struct text texts[SHEET] = { { NULL, 0 } };
@@ -163,6 +177,8 @@ int main(int argc, char **argv)
             status = print_label(texts, side, node);
         if (status == 0)
             status = write_back(texts, side);
+        if (status == 0)
+            status = print_probes(texts);
     }
     for (at = 0; at < SHEET; at++)
         free(texts[at].bytes);
