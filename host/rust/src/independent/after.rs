@@ -51,8 +51,9 @@ struct Walk<'g> {
     graph: &'g Graph<'g>,
     returns: Returns,
     found: Edges,
-    /// Ends of found edges, as bits; those to go on from.
+    /// The ends of found edges, as bits.
     met: [u64; NODE_WORDS],
+    /// Those of them to go on from.
     ends: Vec<u16>,
 }
 

@@ -1,4 +1,4 @@
-//! The writers of sheet and record lines.
+//! The writers of sheet, record and probe lines.
 
 use super::after::Doubt;
 use super::closing::Closing;
