@@ -135,9 +135,9 @@ enum {
 #define RY_RECORD_ROOM 1045
 /* An output of this length is enough for every program written back. */
 #define RY_PROGRAM_ROOM 65536
-/* An output of this length is enough for all probes: a line for each of 1,024
-   new edges. */
-#define RY_PROBES_ROOM 6058
+/* An output of this length is enough for every list of probes: 1,024 lines of at
+   most 7 bytes. */
+#define RY_PROBES_ROOM 7168
 /* A stack of this many bytes is enough for every call, with a margin. */
 #define RY_STACK_ROOM 524288
 

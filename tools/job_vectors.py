@@ -27,7 +27,7 @@ TESTS = text_of('T,t1,a8', 'T,t2,f8')
 WIND = text_of('P,up', 'N,E,,', 'N,S,wind,', 'N,X,,', 'B,0,-,1', 'B,1,T,1', 'B,1,F,2')
 WIND_TWICE = text_of('P,up', 'N,E,,', 'N,S,wind,', 'N,S,wind,', 'N,X,,', 'B,0,-,1', 'B,1,T,2', 'B,1,F,3', 'B,2,T,1', 'B,2,F,3')
 ITSELF = text_of('P,up', 'N,E,,', 'N,C,wind,up', 'N,X,,', 'B,0,-,1', 'B,1,-,2')
-P2_OUT = text_of('sheet,1', 'M,0,0', 'M,1,1', 'M,3,3', 'M,4,4', 'D,1', 'R,t2', 'end,4,1,1', 'V,t1,3,10101', 'V,t2,5,?????')
+P2_OUT = text_of('sheet,1', 'M,0,0', 'M,1,1', 'M,3,3', 'M,4,4', 'D,1', 'R,t2', 'end,4,1,1', 'V,t1,3,10101', 'V,t2,5,1????')
 
 
 def made_cases():
