@@ -286,16 +286,16 @@ fn open_all(
 fn open_set(marks: &mut [u8], n: usize, set: &[u64])
     ensures { λ _. ⌜ SetOpened (now (set .entry)) n (now (marks .entry)) (now (marks .exit)) ⌝ }
 {
-    let mut x = 0;
-    while x < n {
-        if marks.len() <= x {
+    let mut f = 0;
+    while f < n {
+        if marks.len() <= f {
             return;
         }
-        if coverage::in_set(set, x) {
-            marks[x] = 63;
-            x += 1;
+        if coverage::in_set(set, f) {
+            marks[f] = 63;
+            f += 1;
         } else {
-            x += 1;
+            f += 1;
         }
     }
 }

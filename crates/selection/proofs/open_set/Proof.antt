@@ -8,10 +8,10 @@ use Rattle.selection.proofs.open_set.Statement.{statement}
 use Rattle.selection.proofs.open_set.Tie as tie
 
 abbrev Inv-loop : tie.InvT-loop
-Inv-loop marks₀ n set x₀ marks x = (x ≤ n) × (length marks ≡ length marks₀) × SetOpened set x marks₀ marks
+Inv-loop marks₀ n set f₀ marks f = (f ≤ n) × (length marks ≡ length marks₀) × SetOpened set f marks₀ marks
 
 abbrev μ-loop : tie.MeasureT-loop
-μ-loop marks₀ n set x₀ marks x = n - x
+μ-loop marks₀ n set f₀ marks f = n - f
 
 loop-holds : tie.Need-loop-holds Inv-loop μ-loop
 loop-holds c = search (all, needs)
@@ -28,8 +28,8 @@ in-set-requires c κs = search (all, needs)
 slice-write-marks : tie.Need-slice-write-marks Inv-loop μ-loop
 slice-write-marks c = search (all, needs)
 
-add-x : tie.Need-add-x Inv-loop μ-loop
-add-x c = search (all, needs)
+add-f : tie.Need-add-f Inv-loop μ-loop
+add-f c = search (all, needs)
 
 loop-less : tie.Need-loop-less Inv-loop μ-loop
 loop-less c = search (all, needs)
@@ -37,8 +37,8 @@ loop-less c = search (all, needs)
 loop-again : tie.Need-loop-again Inv-loop μ-loop
 loop-again c = search (all, needs)
 
-add-x-2 : tie.Need-add-x-2 Inv-loop μ-loop
-add-x-2 c = search (all, needs)
+add-f-2 : tie.Need-add-f-2 Inv-loop μ-loop
+add-f-2 c = search (all, needs)
 
 loop-less-2 : tie.Need-loop-less-2 Inv-loop μ-loop
 loop-less-2 c = search (all, needs)
@@ -63,10 +63,10 @@ open-set-spec =
     returns
     in-set-requires
     slice-write-marks
-    add-x
+    add-f
     loop-less
     loop-again
-    add-x-2
+    add-f-2
     loop-less-2
     loop-again-2
     same-length-2
