@@ -107,7 +107,7 @@ pub fn find_after(on: &[usize], ol: &[usize], dangers: &[u64], nodes: usize, set
     after::spread(on, ol, nodes, set);
 }
 
-// Both sets, from empty ones, if the test is repeated: what is left open in its marks. Otherwise they are left open.
+// Both sets, from empty ones, if the test is repeated: they say which of its marks are open ones, `?`. Otherwise nothing is promised of them.
 pub fn find_open(
     on: &[usize],
     ol: &[usize],

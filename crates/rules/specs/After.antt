@@ -1,4 +1,4 @@
--- Which edges lie after others in one version: where a run may go on that has crossed an edge.
+-- Which edges lie after others in one version: where a run may go on that has crossed an edge. (The `after` of Tests, which opens an option, is another thing.)
 use mathlib.Core.Path.{_≡_}
 use mathlib.Core.Bool.{Bool}
 use mathlib.Core.List.{List}

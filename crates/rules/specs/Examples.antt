@@ -135,10 +135,28 @@ into-entry : String
 into-entry = "P,up\nN,E,,\nN,S,a,\nN,X,,\nB,0,-,1\nB,1,x,0\nB,1,y,1\n"
 
 winding : String
-winding = "P,main\nN,E,,\nN,S,read,\nN,S,fast,\nN,C,ca,a+n\nN,C,cb,n\nN,X,,\nB,0,-,1\nB,1,up,2\nB,1,by,4\nB,2,ok,3\nB,3,-,5\nB,4,-,5\nP,a\nN,E,,\nN,X,,\nB,6,-,7\nP,n\nN,E,,\nN,C,loop,n\nN,X,,\nB,8,-,9\nB,9,-,10\n"
+winding = "P,main\nN,E,,\nN,S,read,\nN,S,fast,\nN,C,ca,a+n+b\nN,C,cb,n\nN,X,,\nB,0,-,1\nB,1,up,2\nB,1,by,4\nB,2,ok,3\nB,3,-,5\nB,4,-,5\nP,a\nN,E,,\nN,X,,\nB,6,-,7\nP,n\nN,E,,\nN,C,loop,n\nN,X,,\nB,8,-,9\nB,9,-,10\nP,b\nN,E,,\nN,X,,\nB,11,-,12\n"
 
 winding-slow : String
-winding-slow = "P,main\nN,E,,\nN,S,read,\nN,S,slow,\nN,C,ca,a+n\nN,C,cb,n\nN,X,,\nB,0,-,1\nB,1,up,2\nB,1,by,4\nB,2,ok,3\nB,3,-,5\nB,4,-,5\nP,a\nN,E,,\nN,X,,\nB,6,-,7\nP,n\nN,E,,\nN,C,loop,n\nN,X,,\nB,8,-,9\nB,9,-,10\n"
+winding-slow = "P,main\nN,E,,\nN,S,read,\nN,S,slow,\nN,C,ca,a+n+b\nN,C,cb,n\nN,X,,\nB,0,-,1\nB,1,up,2\nB,1,by,4\nB,2,ok,3\nB,3,-,5\nB,4,-,5\nP,a\nN,E,,\nN,X,,\nB,6,-,7\nP,n\nN,E,,\nN,C,loop,n\nN,X,,\nB,8,-,9\nB,9,-,10\nP,b\nN,E,,\nN,X,,\nB,11,-,12\n"
+
+behind : String
+behind = "P,up\nN,E,,\nN,C,one,b+a\nN,S,mid,\nN,C,two,c\nN,S,last,\nN,X,,\nB,0,-,1\nB,1,-,2\nB,2,ok,3\nB,3,-,4\nB,4,ok,5\nP,a\nN,E,,\nN,S,in a,\nN,S,x,\nN,X,,\nB,6,-,7\nB,7,ok,8\nB,8,ok,9\nP,b\nN,E,,\nN,S,in b,\nN,X,,\nB,10,-,11\nB,11,ok,12\nP,c\nN,E,,\nN,S,in c,\nN,X,,\nB,13,-,14\nB,14,ok,15\n"
+
+behind-slow : String
+behind-slow = "P,up\nN,E,,\nN,C,one,b+a\nN,S,mid,\nN,C,two,c\nN,S,last,\nN,X,,\nB,0,-,1\nB,1,-,2\nB,2,ok,3\nB,3,-,4\nB,4,ok,5\nP,a\nN,E,,\nN,S,in a,\nN,S,y,\nN,X,,\nB,6,-,7\nB,7,ok,8\nB,8,ok,9\nP,b\nN,E,,\nN,S,in b,\nN,X,,\nB,10,-,11\nB,11,ok,12\nP,c\nN,E,,\nN,S,in c,\nN,X,,\nB,13,-,14\nB,14,ok,15\n"
+
+two-dangers : String
+two-dangers = "P,up\nN,E,,\nN,S,a,\nN,S,b,\nN,S,d,\nN,X,,\nB,0,-,1\nB,1,go,2\nB,1,end,4\nB,1,halt,3\nB,2,ok,1\nB,3,ok,4\n"
+
+two-changed : String
+two-changed = "P,up\nN,E,,\nN,S,a,\nN,S,c,\nN,S,f,\nN,X,,\nB,0,-,1\nB,1,go,2\nB,1,end,4\nB,1,halt,3\nB,2,ok,4\nB,3,ok,4\n"
+
+never-back : String
+never-back = "P,up\nN,E,,\nN,C,wind,up\nN,S,a,\nN,X,,\nB,0,-,1\nB,1,-,2\nB,2,ok,3\n"
+
+never-back-changed : String
+never-back-changed = "P,up\nN,E,,\nN,C,wind,up\nN,S,b,\nN,X,,\nB,0,-,1\nB,1,-,2\nB,2,ok,3\n"
 
 two-tests : String
 two-tests = "T,t1,a8\nT,t2,f8\n"
@@ -269,10 +287,11 @@ searches =
 -- ---- probes, and marks of repeated tests (document 02, job 5)
 
 -- P2, with an output that is just long enough and one that is not; P4, whose dangerous edge has no start, as its word is gone; a repeated test whose old run alone, or new run alone, comes
--- back past the change, and one left off that keeps its `1` where there is a probe; a danger at one of two partners; an edge that leads to an entry; a call that is entered and not passed,
--- an exit that leads to the next callee of that call alone, and a callee that never returns.
+-- back past the change, and one left off that keeps its `1` where there is a probe; a danger at one of two partners; an edge that leads to an entry; a call that is entered at its first callee
+-- alone, and not passed, an exit that leads to the next callee of that call alone, and a callee that never returns; an exit behind the last callee that leads to the call's edge alone; two
+-- dangers, of which the row holds one; a call that may not go on, so that none starts behind it.
 pub probings : List Example
-unfolding probing records p2 job layers by-layer halting two-tests looping not-looping one-partner two-partners onward into-entry winding winding-slow
+unfolding probing records p2 job layers by-layer halting two-tests looping not-looping one-partner two-partners onward into-entry winding winding-slow behind behind-slow two-dangers two-changed never-back never-back-changed
 probings =
     probing p2 16 (wrote (bytes "Q,1\nQ,2\nQ,3\nQ,4\n"))
     ∷ probing p2 15 (refusal 16 0)
@@ -288,6 +307,9 @@ probings =
     ∷ records (job one-partner two-partners "T,t5,10\n") 0 "V,t5,1,000??0?\n"
     ∷ probing (job onward into-entry "") maxBytes (wrote (bytes "Q,0\nQ,1\nQ,2\n"))
     ∷ probing (job winding winding-slow "") maxBytes (wrote (bytes "Q,1\nQ,3\nQ,6\nQ,7\n"))
+    ∷ probing (job behind behind-slow "") maxBytes (wrote (bytes "Q,1\nQ,2\nQ,3\nQ,4\nQ,6\nQ,7\nQ,10\nQ,11\n"))
+    ∷ records (job two-dangers two-changed "T,t,b0\n") 0 "V,t,3,1?????\n"
+    ∷ probing (job never-back never-back-changed "") maxBytes (wrote [])
     ∷ []
 
 -- ---- refusals

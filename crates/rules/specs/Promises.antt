@@ -326,12 +326,12 @@ pub record SheetExact (g : Given) (sheet : Bytes) : Type 0 where
   pub dangers-are : (e : ℕ) → (has (claims .D) e ≡ true) ↔ Dangerous (g .old) (g .new) e
   pub repeated-are : (i : ℕ) → (has (claims .R) i ≡ true) ↔ ((i < testCount (g .suite)) × Repeated (g .old) (g .new) (coverageAt (g .suite) i))
 
--- The mark of the new edge x is left open: the test is repeated, and x has a probe or a crossed old counterpart of it lies after a danger.
+-- The mark of the new edge x is an open one, `?`: the test is repeated, and x has a probe or a crossed old counterpart of it lies after a danger.
 abbrev pub LeftOpen : Program → Program → Coverage → ℕ → Type 0
 LeftOpen old new coverage x =
     Repeated old new coverage × (Probe old new x ⊎ ((e : ℕ) × Counterparts old new e x × (holds coverage e ≡ true) × AfterDanger old new e))
 
--- The record line of a test: the number of old edges that it crossed, and a mark for each new edge, `?` (63) where it is left open, and else `0` (48) exactly if no old counterpart
+-- The record line of a test: the number of old edges that it crossed, and a mark for each new edge, `?` (63) where it is an open one, and else `0` (48) exactly if no old counterpart
 -- was crossed, `1` (49) exactly if some crossed one has it as only counterpart; no other byte stands there.
 pub record LineExact (old new : Program) (name : Bytes) (coverage : Coverage) (line : Bytes) : Type 0 where
   pub marks : Bytes
@@ -493,6 +493,12 @@ module _ {ℓ κ} (St : Type ℓ) (Out : Type κ) where
       (m : Meaning St Out) (s : St) → Ends (g .old) m s → ExactFor (g .old) m s (coverageAt (g .suite) i)
       → ((e′ : ℕ) → e′ < edgeCount (g .new) → getD marks e′ 0 ≡ 49 → Crosses (g .new) m s e′)
       × ((e′ : ℕ) → e′ < edgeCount (g .new) → getD marks e′ 0 ≡ 48 → Crosses (g .new) m s e′ → ⊥)
+
+  -- Where a run has ended after k steps, it ends, and a coverage is exact for it just if it holds the edges that these steps cross and no other.
+  abbrev pub EndedRuns : Type (ℓ ⊔ κ)
+  EndedRuns =
+      (p : Program) (m : Meaning St Out) (s : St) (k : ℕ) (c : Config St Out) → run p m k (start p s) ≡ some c → ended p c ≡ true
+      → Ends p m s × ((coverage : Coverage) → ExactFor p m s coverage ↔ ((e : ℕ) → e < edgeCount p → holds coverage e ≡ has (trail p m k (start p s)) e))
 
   -- Demand 3, entire, of the texts of a job.
   pub record Demand3 (old new tests : Bytes) : Type (ℓ ⊔ κ) where

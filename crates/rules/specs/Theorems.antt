@@ -1,7 +1,10 @@
 -- The promises, proved, in the order of Promises.
 use Rattle.rules.specs.Text.{Bytes}
 use Prim.Native.Nat.{ℕ}
+use mathlib.Core.Path.{sym, _∙_}
 use mathlib.Core.List.{List}
+use Rattle.laws.specs.TestLaws.{same-test}
+use Rattle.rules.specs.Run.{start}
 use Rattle.rules.specs.Graph.{Program}
 use Rattle.rules.specs.SuiteFile.{TestListing}
 use Rattle.rules.specs.Closing.{Coverage}
@@ -16,6 +19,7 @@ use Rattle.rules.specs.Promises.{
   ClosingRulesExact,
   Demand2,
   Demand3,
+  EndedRuns,
   ExportedDemand3,
   FormerExact,
   LabelShown,
@@ -50,6 +54,7 @@ use Rattle.rules.specs.Promises.{
   WritesExactly,
   WrittenUnchanged,
 }
+use Rattle.rules.specs.Proofs.Ends.{ended-crosses}
 use Rattle.rules.specs.Proofs.Answers as Answers
 use Rattle.rules.specs.Proofs.BackLaws.{alone-by-parts, back-unchanged, programs-back}
 use Rattle.rules.specs.Proofs.Checked as Checked
@@ -202,6 +207,15 @@ demand3 St Out old new tests =
       unlisted = λ room sheet e g r i l. unlisted-texts old new tests room sheet e g r i l;
       marked = λ i room line e. marked-texts old new tests i room line e;
     }
+
+pub ended-runs {ℓ κ} : (St : Type ℓ) (Out : Type κ) → EndedRuns St Out
+ended-runs St Out p m s k c r t = (
+  (k, c, r, t),
+  λ coverage. (
+    λ x e h. same-test _ _ (λ u. let v = x e h .0 u in ended-crosses p m k (v .0) (start p s) c r t e (v .1)) (λ u. x e h .1 (k, u)),
+    λ x e h. (λ u. (k, sym (x e h) ∙ u), λ v. x e h ∙ ended-crosses p m k (v .0) (start p s) c r t e (v .1)),
+  ),
+)
 
 pub exported-demand3 {ℓ κ} : (St : Type ℓ) (Out : Type κ) (old new tests : Bytes) → ExportedDemand3 St Out old new tests
 exported-demand3 St Out old new tests = exported St Out old new tests (demand3 St Out old new tests) (answers-plain old new tests)

@@ -235,7 +235,7 @@ fn carry_all(
     }
 }
 
-// Leaves the counterparts of the old edge e open, if the test covers it and it lies after a danger: each is marked `?`.
+// Marks the counterparts of the old edge e with `?`, if the test covers it and it lies after a danger.
 fn open_edge(
     on: &[usize],
     ol: &[usize],
@@ -259,7 +259,7 @@ fn open_edge(
     }
 }
 
-// Leaves open what every old edge does.
+// The same for every old edge.
 fn open_all(
     on: &[usize],
     ol: &[usize],
@@ -314,8 +314,8 @@ fn fill(marks: &mut [u8], n: usize, b: u8)
     }
 }
 
-// Finds the marks of a test, where the versions have so many edges. If it is repeated, those are left open, as `?`, of the new edges that have a
-// probe, and of the counterparts of covered edges after a danger. For tables that do not hold two programs, their pairs, the test's row and, if it
+// Finds the marks of a test, where the versions have so many edges. If it is repeated, the new edges that have a probe, and the counterparts of covered
+// edges after a danger, get an open mark, `?`. For tables that do not hold two programs, their pairs, the test's row and, if it
 // is repeated, these two sets the marks are left open.
 pub fn find_marks(
     on: &[usize],
