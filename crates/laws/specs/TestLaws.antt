@@ -48,6 +48,10 @@ unfolding _and_
 and-ends true = refl
 and-ends false = refl
 
+pub yes-and : {a : Bool} (b : Bool) → a ≡ true → (a and b) ≡ b
+unfolding _and_
+yes-and b e = ap (λ (a : Bool). a and b) e
+
 pub and-not : (b : Bool) → (b and false) ≡ false
 unfolding _and_
 and-not true = refl
@@ -62,6 +66,11 @@ pub or-ends : (b : Bool) → (b or false) ≡ b
 unfolding _or_
 or-ends true = refl
 or-ends false = refl
+
+pub or-none : (a : Bool) {b : Bool} → b ≡ false → (a or b) ≡ a
+unfolding _or_
+or-none true e = refl
+or-none false e = e
 
 pub or-assoc : (a b d : Bool) → (a or b or d) ≡ ((a or b) or d)
 unfolding _or_

@@ -1,14 +1,14 @@
 -- What the sets hold at the end.
 use mathlib.Core.Path.{_≡_, sym, ap, _∙_}
-use mathlib.Core.Bool.{Bool, true, false}
+use mathlib.Core.Bool.{Bool, false}
 use mathlib.Core.List.{List}
-use Prim.Native.Nat.{ℕ, _+_, _/_, _%_, _≤_, _<_}
+use Prim.Native.Nat.{ℕ, _+_, _/_, _%_, _<_}
 use native.Mathlib.Omega.{arith}
 use lib.ListN.{getD, length}
 use lib.Seq.{sets, length-sets}
 use borrow.Author.Tests.{le-ltb, lt-ltb}
-use Rattle.laws.specs.Tests.{_and_, _or_, any, has}
-use Rattle.laws.specs.TestLaws.{and-left, any-at, both-ways, fails}
+use Rattle.laws.specs.Tests.{_or_, any, has}
+use Rattle.laws.specs.TestLaws.{and-left, any-at, both-ways, fails, yes-and}
 use Rattle.laws.specs.Slices.{getD-sets-in}
 use Rattle.laws.specs.Counting.{any-agree}
 use Rattle.laws.specs.Bits.{bitAt, bitIn}
@@ -27,10 +27,6 @@ after-agree : (p : Program) (f g : ℕ → Bool) → ((e : ℕ) → e < edgeCoun
 unfolding edgesAfter
 after-agree p f g h = reached-agree (edgeCount p) (leads p) f g h
 
-yes-both : {s : Bool} (t : Bool) → s ≡ true → (s and t) ≡ t
-unfolding _and_
-yes-both t e = ap (λ (s : Bool). s and t) e
-
 -- ---- `find_probes`
 
 pub probes-found : (on ol nn nl w dangers : List ℕ) (edges nodes : ℕ) (set set₁ set₂ : List ℕ) → AllStart on ol nn nl w dangers edges edges set set₁ → Spread nn nl nodes set₁ set₂
@@ -44,7 +40,7 @@ probes-found on ol nn nl w dangers edges nodes set set₁ set₂ a b =
           let at : (x : ℕ) → bitIn set₁ x ≡ any (edgeCount old) (partsTo old new x)
           = λ x. a .adds o p c h s eo room x ∙ ap (λ (t : Bool). t or any edges (partsTo old new x)) (none x) ∙ ap (λ (k : ℕ). any k (partsTo old new x)) eo in
           let here : (x : ℕ) → x < edgeCount new → bitIn set₁ x ≡ any (edgeCount old) (λ e. parted old new (pairs old new) e x)
-          = λ x l. at x ∙ any-agree _ _ (edgeCount old) (λ e _. yes-both _ (lt-ltb x (edgeCount new) l)) in
+          = λ x l. at x ∙ any-agree _ _ (edgeCount old) (λ e _. yes-and _ (lt-ltb x (edgeCount new) l)) in
           λ e l.
           b .spreads (h .new-text) p (h .new-in) en (omega (arith, a .size))
           (λ x _ m. at x ∙ fails _ (λ t. let u = any-at (partsTo old new x) (edgeCount old) t in both-ways (and-left _ _ (u .2)) (le-ltb x (edgeCount new) m)))

@@ -8,16 +8,16 @@ use native.Mathlib.Omega.{arith}
 use lib.Dec.{eqb, ltb}
 use lib.ListN.{getD, length, length-set}
 use borrow.Author.Tests.{eqb-true, eq-eqb, le-ltb, lt-ltb, ltb-true, ne-eqb}
-use Rattle.laws.specs.Tests.{_and_, _or_, any, choose, has}
-use Rattle.laws.specs.TestLaws.{and-left, and-right, any-at, both-ways, fails, or-assoc, or-swap}
+use Rattle.laws.specs.Tests.{_and_, _or_, any, choose}
+use Rattle.laws.specs.TestLaws.{and-left, and-right, both-ways, fails, or-assoc, or-none, or-swap, yes-and}
 use Rattle.laws.specs.Lists.{choose-no, choose-yes}
 use Rattle.laws.specs.Slices.{same-or}
 use Rattle.laws.specs.Chain.{Blind, Left, left-start, left-step}
 use Rattle.laws.specs.Bits.{bitIn}
 use Rattle.laws.specs.BitSets.{bit-with, withBit}
 use Rattle.laws.specs.Those.{any-more, any-skip}
-use Rattle.rules.specs.Graph.{Program, edgeCount, sourceAt}
-use Rattle.rules.specs.Closing.{dangers, pairs, parted}
+use Rattle.rules.specs.Graph.{edgeCount, sourceAt}
+use Rattle.rules.specs.Closing.{dangers, pairs}
 use Rattle.rules.specs.ProgramFile.{Listing}
 use Rattle.rules.specs.Proofs.Closure.{dangers-iff, parted-danger}
 use Rattle.graph.specs.Table.{edgeBase}
@@ -25,7 +25,6 @@ use Rattle.pairset.specs.Store.{lastPair, newAt, oldAt, pairBefore, pairsIn}
 use Rattle.pairset.specs.StoreLaws.{walked}
 use Rattle.versions.specs.MemoryLaws.{sound, well-formed}
 use Rattle.selection.specs.Compared.{Compared, Joins, counterpart, leads-any, parts-lead}
-use Rattle.selection.specs.Dangers.{DangerSet}
 use Rattle.selection.proofs.Dangers.{before-less, source-of}
 use Rattle.selection.proofs.Counterparts.{joins-here}
 use Rattle.probes.specs.Starts.{AddsAll, AddsParted, AddsStart, AllStart, Parts, Starts, added, partsTo}
@@ -39,11 +38,6 @@ add-none set f e = sym (choose-no _ _ (le-ltb 0 f (omega arith)))
 pub add-one-more : (set set′ : List ℕ) (f : ℕ) → (f ≡ 0 → ⊥) → set′ ≡ withBit set (f - 1) → set′ ≡ added set f
 unfolding added
 add-one-more set set′ f d e = e ∙ sym (choose-yes _ _ (lt-ltb 0 f (omega arith)))
-
-or-none : (a : Bool) {b : Bool} → b ≡ false → (a or b) ≡ a
-unfolding _or_
-or-none true e = refl
-or-none false e = e
 
 -- The bits by index.
 added-at : (set : List ℕ) (f x : ℕ) → f ≤ 64 * length set → bitIn (added set f) x ≡ (bitIn set x or eqb f (suc x))
@@ -67,10 +61,6 @@ added-size set f = go (ltb 0 f)
     go false = refl
 
 -- ---- `part`
-
-yes-and : {s : Bool} (t : Bool) → s ≡ true → (s and t) ≡ t
-unfolding _and_
-yes-and t e = ap (λ (s : Bool). s and t) e
 
 -- The pair k leads to the new edge x.
 abbrev leadsTo : List ℕ → ℕ → (ℕ → ℕ) → ℕ → ℕ → Bool

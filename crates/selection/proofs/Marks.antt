@@ -11,7 +11,7 @@ use lib.Seq.{sets, set-out, length-sets, getD-set-same, getD-set-other}
 use borrow.Author.Tests.{eqb-true, eq-eqb, ne-eqb, le-leb, leb-true, lt-ltb, le-ltb, ltb-true}
 use Rattle.laws.specs.Tests.{_and_, _⇒_, any, choose, every, first, found, has}
 use Rattle.laws.specs.Bits.{bitIn}
-use Rattle.laws.specs.TestLaws.{and-both, and-ends, and-left, and-right, any-at, both-ways, every-at, fails, implied}
+use Rattle.laws.specs.TestLaws.{and-both, and-ends, and-left, and-right, any-at, both-ways, every-at, fails, implied, yes-and}
 use Rattle.laws.specs.Lists.{choose-yes, choose-no}
 use Rattle.laws.specs.Counting.{any-agree}
 use Rattle.laws.specs.Slices.{below-or, same-or, sets-more, sets-out, getD-sets-after, getD-sets-in}
@@ -104,10 +104,6 @@ raised-size marks f most = go (ltb 0 f and leb (getD marks (f - 1) 0) most)
     go false = refl
 
 -- ---- `raise_all`
-
-yes-and : {s : Bool} (t : Bool) → s ≡ true → (s and t) ≡ t
-unfolding _and_
-yes-and t e = ap (λ (s : Bool). s and t) e
 
 -- The marks come to what those of the pairs below the place still raise.
 unfoldable pub RaisesFrom : List ℕ → List ℕ → List ℕ → List ℕ → List ℕ → ℕ → ℕ → ℕ → List ℕ → List ℕ → ℕ → Type 0

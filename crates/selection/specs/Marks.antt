@@ -8,13 +8,12 @@ use Prim.Native.Nat.{ℕ, _-_, _≤_, _<_}
 use lib.Dec.{eqb, leb, ltb}
 use lib.ListN.{getD, length, set}
 use lib.Seq.{sets}
-use Rattle.laws.specs.Tests.{_and_, _⇒_, any, choose, every, first, found, has, isnt, listed}
+use Rattle.laws.specs.Tests.{_and_, _⇒_, any, choose, every, first, found, has, isnt}
 use Rattle.laws.specs.Bits.{bitIn}
-use Rattle.rules.specs.Graph.{Program, edgeCount, sourceAt}
+use Rattle.rules.specs.Graph.{Program, edgeCount}
 use Rattle.rules.specs.Closing.{Coverage, afterDangers, carries, carriesOnly, dangers, joined, meets, pairs, probes}
 use Rattle.rules.specs.Sheet.{marksOf}
 use Rattle.rules.specs.ProgramFile.{Listing}
-use Rattle.pairset.specs.Store.{pairsIn}
 use Rattle.coverage.specs.Rows.{Row}
 use Rattle.selection.specs.Compared.{Compared}
 use Rattle.selection.specs.Dangers.{SetOf}
