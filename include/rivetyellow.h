@@ -238,9 +238,14 @@ uint64_t ry_sheet(const uint8_t *old_text, size_t old_length,
                   uint8_t *out, size_t out_length);
 
 /* Writes the record line of one test, byte 10 included: its name, the number
-   of edges it crossed, and a mark for each new edge. Tests are numbered from 0
-   in file order. Gives 0 with the bytes written, 1 to 10, 15, 16; 6 with
-   place 0 if there is no such test. */
+   of edges it crossed, and a mark for each new edge: `1` the new run crosses
+   it, `0` it never does, `?` not known. Of a test that need not be repeated
+   these are true as far as its old run went; it keeps its `0` and `1` also at
+   edges that need a probe. Of one to repeat `0` and `1` may be relied on if its
+   old run ended; what it crosses behind a change is `?`. Both want a row that
+   has just the edges crossed. Tests are numbered from 0 in file order.
+   Gives 0 with the bytes written, 1 to 10, 15, 16; 6 with place 0 if there is
+   no such test. */
 uint64_t ry_record(const uint8_t *old_text, size_t old_length,
                    const uint8_t *new_text, size_t new_length,
                    const uint8_t *tests_text, size_t tests_length,
