@@ -141,10 +141,10 @@ winding-slow : String
 winding-slow = "P,main\nN,E,,\nN,S,read,\nN,S,slow,\nN,C,ca,a+n+b\nN,C,cb,n\nN,X,,\nB,0,-,1\nB,1,up,2\nB,1,by,4\nB,2,ok,3\nB,3,-,5\nB,4,-,5\nP,a\nN,E,,\nN,X,,\nB,6,-,7\nP,n\nN,E,,\nN,C,loop,n\nN,X,,\nB,8,-,9\nB,9,-,10\nP,b\nN,E,,\nN,X,,\nB,11,-,12\n"
 
 behind : String
-behind = "P,up\nN,E,,\nN,C,one,b+a\nN,S,mid,\nN,C,two,c\nN,S,last,\nN,X,,\nB,0,-,1\nB,1,-,2\nB,2,ok,3\nB,3,-,4\nB,4,ok,5\nP,a\nN,E,,\nN,S,in a,\nN,S,x,\nN,X,,\nB,6,-,7\nB,7,ok,8\nB,8,ok,9\nP,b\nN,E,,\nN,S,in b,\nN,X,,\nB,10,-,11\nB,11,ok,12\nP,c\nN,E,,\nN,S,in c,\nN,X,,\nB,13,-,14\nB,14,ok,15\n"
+behind = "P,main\nN,E,,\nN,C,wind,a+b\nN,X,,\nB,0,-,1\nB,1,-,2\nP,a\nN,E,,\nN,X,,\nB,3,-,4\nP,b\nN,E,,\nN,S,hold,\nN,X,,\nB,5,-,6\nB,6,ok,7\n"
 
 behind-slow : String
-behind-slow = "P,up\nN,E,,\nN,C,one,b+a\nN,S,mid,\nN,C,two,c\nN,S,last,\nN,X,,\nB,0,-,1\nB,1,-,2\nB,2,ok,3\nB,3,-,4\nB,4,ok,5\nP,a\nN,E,,\nN,S,in a,\nN,S,y,\nN,X,,\nB,6,-,7\nB,7,ok,8\nB,8,ok,9\nP,b\nN,E,,\nN,S,in b,\nN,X,,\nB,10,-,11\nB,11,ok,12\nP,c\nN,E,,\nN,S,in c,\nN,X,,\nB,13,-,14\nB,14,ok,15\n"
+behind-slow = "P,main\nN,E,,\nN,C,wind,a+b\nN,X,,\nB,0,-,1\nB,1,-,2\nP,a\nN,E,,\nN,X,,\nB,3,-,4\nP,b\nN,E,,\nN,S,stay,\nN,X,,\nB,5,-,6\nB,6,ok,7\n"
 
 two-dangers : String
 two-dangers = "P,up\nN,E,,\nN,S,a,\nN,S,b,\nN,S,d,\nN,X,,\nB,0,-,1\nB,1,go,2\nB,1,end,4\nB,1,halt,3\nB,2,ok,1\nB,3,ok,4\n"
@@ -307,7 +307,7 @@ probings =
     ∷ records (job one-partner two-partners "T,t5,10\n") 0 "V,t5,1,000??0?\n"
     ∷ probing (job onward into-entry "") maxBytes (wrote (bytes "Q,0\nQ,1\nQ,2\n"))
     ∷ probing (job winding winding-slow "") maxBytes (wrote (bytes "Q,1\nQ,3\nQ,6\nQ,7\n"))
-    ∷ probing (job behind behind-slow "") maxBytes (wrote (bytes "Q,1\nQ,2\nQ,3\nQ,4\nQ,6\nQ,7\nQ,10\nQ,11\n"))
+    ∷ probing (job behind behind-slow "") maxBytes (wrote (bytes "Q,1\nQ,3\nQ,4\n"))
     ∷ records (job two-dangers two-changed "T,t,b0\n") 0 "V,t,3,1?????\n"
     ∷ probing (job never-back never-back-changed "") maxBytes (wrote [])
     ∷ []
