@@ -1,3 +1,4 @@
 pub mod Adding
+pub mod Returns
 pub mod Search
 pub mod All

@@ -1,21 +1,22 @@
 -- The turns and the returns of the functions of the worklist, as `search` finds them: the premises are what the code holds there.
-use mathlib.Core.Path.{_≡_, refl, sym, ap, _∙_, subst}
+use mathlib.Core.Path.{_≡_, refl, sym, ap, ap₂, _∙_, subst}
 use mathlib.Core.Logic.{⊎-elim}
 use mathlib.Core.Bool.{Bool, true, false}
 use mathlib.Core.Option.{none}
 use mathlib.Core.List.{List}
-use Prim.Native.Nat.{ℕ, _+_, _≤_, _<_}
+use Prim.Native.Nat.{ℕ, _+_, _*_, _/_, _%_, _≤_, _<_}
 use native.Mathlib.Omega.{arith}
-use borrow.Author.Tests.{lt-ltb, ltb-true}
-use lib.ListN.{length, getD, replicate}
-use Rattle.laws.specs.Tests.{_and_, count, has}
-use Rattle.laws.specs.TestLaws.{and-both, and-left, and-right, both-ways, fails, first-at, first-none, or-cases, or-left, or-right, same-test}
+use borrow.Author.Tests.{eq-eqb, lt-ltb, ltb-true, ne-eqb}
+use lib.Dec.{eqb, ltb}
+use lib.ListN.{length, getD, take, drop, replicate, length-replicate, length-take}
+use Rattle.laws.specs.Tests.{_and_, _or_, count, has, isnt}
+use Rattle.laws.specs.TestLaws.{and-both, and-ends, and-left, and-right, both-ways, fails, first-at, first-none, or-cases, or-left, or-none, or-right, passes?, same-test, true-isnt}
 use Rattle.laws.specs.Counting.{count-same}
-use Rattle.laws.specs.Slices.{below-or, same-or}
+use Rattle.laws.specs.Slices.{below-or, getD-part, same-or}
 use Rattle.laws.specs.Reach.{reached-below, reached-first, reached-only, reached-onward}
-use Rattle.laws.specs.Bits.{bitIn}
-use Rattle.laws.specs.BitSets.{bit-before, bit-cleared, bit-kept, full-bits, without-size, withoutBit}
-use Rattle.rules.specs.Graph.{Program, X, edgeCount, kindNumber, nodeCount, sourceAt, targetAt}
+use Rattle.laws.specs.Bits.{bitAt, bitIn}
+use Rattle.laws.specs.BitSets.{bit-before, bit-cleared, bit-kept, clear-bits, full-bits, past-bit, without-size, withoutBit}
+use Rattle.rules.specs.Graph.{Program, WellFormed, X, edgeCount, kindNumber, nodeCount, sourceAt, targetAt}
 use Rattle.rules.specs.After.{edgesAfter, leads}
 use Rattle.rules.specs.ProgramFile.{Listing}
 use Rattle.graph.specs.Table.{edgeBase, nodeBase}
@@ -23,58 +24,76 @@ use Rattle.coverage.specs.declared.Found.{Found}
 use Rattle.coverage.specs.declared.Found.the-variants.{At, Nothing}
 use Rattle.coverage.specs.Rows.{edgeFound, firstCommon}
 use Rattle.coverage.specs.RowLaws.{at-is, nothing-is}
-use Rattle.versions.specs.Memory.{InMemory, memory}
+use Rattle.versions.specs.Memory.{InMemory, Memory, memory}
 use Rattle.versions.specs.MemoryLaws.{kind-is, sound, target-is, well-formed}
-use Rattle.after.specs.State.{Adds, Gone, Has, Reaches, State, Worked, onFrom}
-use Rattle.after.specs.Claims.{AddsLeaving, Ends, GoesOn, GoesOnAt, Leaves, ResumesAll, Runs, Sized, Spares, Spread, Spreads, Visit, Visits}
-use Rattle.after.proofs.Adding.{adds-same, numbered}
+use Rattle.after.specs.State.{Adds, BothSized, Gone, Has, IsExit, Reaches, Sized, State, Worked, noted, onFrom}
+use Rattle.after.specs.Claims.{AddsLeaving, Ends, GoesOn, GoesOnAt, Leave, Leaves, Notes, NotesAll, Runs, Spares, Spread, Spreads, Taken, Visit, Visits, returnRow}
+use Rattle.after.proofs.Adding.{adds-same, adds-then, numbered}
+use Rattle.after.proofs.Returns.{return-below}
+
+-- An edge leaves one of 512 nodes.
+few-sources : (m : Memory) (s : Listing) → InMemory m s → (f : ℕ) → f < edgeCount (s .program) → sourceAt (s .program) f < 512
+few-sources m s h f l = omega (arith, sound m s h .fewNodes, well-formed m s h .sources f l)
 
 -- ---- the state
 
 module _ (p : Program) (first : ℕ → Bool) where
   -- Edges after the first are added.
-  state-adds : (T : ℕ → Bool) (left set set′ : List ℕ) → State p first left set → length set′ ≡ length set → Adds p T set set′ → Reaches p first T → State p first left set′
-  unfolding Adds Has Reaches
-  state-adds T left set set′ st z x r =
+  state-adds : (T : ℕ → Bool) (left returns set set′ : List ℕ) → State p first left returns set → length set′ ≡ length set → Adds p T set set′ → Reaches p first T → State p first left returns set′
+  unfolding Adds Reaches
+  state-adds T left returns set set′ st z x r =
       record {
         room = omega (arith, st .room);
         begun = λ e l b. keep e (st .begun e l b);
         only = λ e l b. ⊎-elim (st .only e l) (λ y. r e (ltb-true _ _ (and-left _ _ y)) (and-right _ _ y)) (or-cases _ _ (sym (x e) ∙ b));
         edges = λ e f l u m b. keep f (st .edges e f l u m b);
-        exits = λ n l k u f m b. keep f (st .exits n l k u f m b);
+        exits = λ n f y l b u. keep f (st .exits n f y l b u);
+        notes = st .notes;
       }
     where
       keep : (f : ℕ) → bitIn set f ≡ true → bitIn set′ f ≡ true
       keep f b = x f ∙ or-left _ b
 
   -- All that follows the node n is added.
-  gone-adds : (n : ℕ) (left set set′ : List ℕ) → State p first left set → length set′ ≡ length set → Adds p (onFrom p n) set set′ → Reaches p first (onFrom p n)
-      → Gone p first n left set′
+  gone-adds : (n : ℕ) (left returns set set′ : List ℕ) → State p first left returns set → length set′ ≡ length set → Adds p (onFrom p n) set set′ → Reaches p first (onFrom p n)
+      → Gone p first n left returns set′
   unfolding Adds Has
-  gone-adds n left set set′ st z x r =
-      record { state = state-adds (onFrom p n) left set set′ st z x r; follows = λ f l b. x f ∙ or-right _ (and-both (lt-ltb _ _ l) b) }
+  gone-adds n left returns set set′ st z x r =
+      record { state = state-adds (onFrom p n) left returns set set′ st z x r; follows = λ f l b. x f ∙ or-right _ (and-both (lt-ltb _ _ l) b) }
 
-  -- An exit, and an edge, that is left no more.
-  exit-cleared : (n : ℕ) (left set : List ℕ) → edgeCount p ≤ 1024 → Gone p first n left set → Gone p first n (withoutBit left (1024 + n)) set
-  exit-cleared n left set few g =
-      let st = g .state in
+  -- The edges of the nodes noted at the exit n are added.
+  gone-exit : (n : ℕ) (left returns set returns′ set′ : List ℕ) → State p first left returns set → length set′ ≡ length set → ((f : ℕ) → f < edgeCount p → sourceAt p f < 512) → IsExit p n
+      → Leave p n returns set returns′ set′ → Reaches p first (onFrom p n) → Gone p first n left returns′ set′
+  unfolding Adds Has Reaches isnt _and_
+  gone-exit n left returns set returns′ set′ st z few y w r =
       record {
         state = record {
-          room = st .room;
-          begun = st .begun;
-          only = st .only;
-          edges = λ e f l u m b. st .edges e f l (sym (bit-kept left (1024 + n) e (λ q. let z : ⊥ = omega arith in z)) ∙ u) m b;
-          exits = λ k l x u.
-              same-or k n
-              (λ q. subst (λ (i : ℕ). Has p (onFrom p i) set) (sym q) (g .follows))
-              (λ q. st .exits k l x (sym (bit-kept left (1024 + n) (1024 + k) (λ r. q (omega arith))) ∙ u));
+          room = added .room;
+          begun = added .begun;
+          only = added .only;
+          edges = added .edges;
+          exits = λ m f x l b u.
+              same-or m n
+              (λ q. follow f l (subst (λ (i : ℕ). onFrom p i (sourceAt p f) ≡ true) q b))
+              (λ q. added .exits m f x l b (sym (kept m (sourceAt p f) q (few f l)) ∙ u));
+          notes = λ m j x l b. st .notes m j x l (and-right (isnt (eqb m n)) (noted returns m j) (sym (w .rest m j l) ∙ b));
         };
-        follows = g .follows;
+        follows = follow;
       }
+    where
+      added : State p first left returns set′
+      added = state-adds (noted returns n) left returns set set′ st z (w .adds) (λ f l b. r f l (st .notes n (sourceAt p f) y (few f l) b .1))
 
-  edge-cleared : (e : ℕ) (left set : List ℕ) → e < 1024 → Gone p first (targetAt p e) left set → State p first (withoutBit left e) set
+      follow : Has p (onFrom p n) set′
+      follow f l b = ⊎-elim (λ u. w .adds f ∙ or-right _ (and-both (lt-ltb _ _ l) u)) (λ u. w .adds f ∙ or-left _ (st .exits n f y l b u)) (passes? (noted returns n (sourceAt p f)))
+
+      kept : (m j : ℕ) → (m ≡ n → ⊥) → j < 512 → noted returns′ m j ≡ noted returns m j
+      kept m j q l = w .rest m j l ∙ ap (λ (t : Bool). isnt t and noted returns m j) (ne-eqb m n q)
+
+  -- An edge that is left no more.
+  edge-cleared : (e : ℕ) (left returns set : List ℕ) → Gone p first (targetAt p e) left returns set → State p first (withoutBit left e) returns set
   unfolding Has leads
-  edge-cleared e left set h g =
+  edge-cleared e left returns set g =
       let st = g .state in
       record {
         room = st .room;
@@ -84,114 +103,233 @@ module _ (p : Program) (first : ℕ → Bool) where
             same-or d e
             (λ q. g .follows f m (subst (λ (i : ℕ). leads p i f ≡ true) q b))
             (λ q. st .edges d f l (sym (bit-kept left e d (λ r. q (sym r))) ∙ u) m b);
-        exits = λ n l x u. st .exits n l x (sym (bit-kept left e (1024 + n) (λ q. let z : ⊥ = omega arith in z)) ∙ u);
+        exits = st .exits;
+        notes = st .notes;
       }
 
-  -- Where all is left to go on from.
-  state-start : (left set : List ℕ) → left ≡ replicate 24 18446744073709551615 → edgeCount p ≤ 1024 → nodeCount p ≤ 512 → 16 ≤ length set
-      → ((e : ℕ) → e < edgeCount p → first e ≡ true → bitIn set e ≡ true) → ((e : ℕ) → e < 1024 → bitIn set e ≡ true → (e < edgeCount p) × (first e ≡ true)) → State p first left set
+  -- Where all is left to go on from, and all is noted that follows an exit.
+  state-start : (left returns set : List ℕ) → left ≡ replicate 16 18446744073709551615 → edgeCount p ≤ 1024 → ((f : ℕ) → f < edgeCount p → sourceAt p f < 512) → WellFormed p
+      → ((n j : ℕ) → IsExit p n → j < 512 → noted returns n j ≡ onFrom p n j) → 16 ≤ length set
+      → ((e : ℕ) → e < edgeCount p → first e ≡ true → bitIn set e ≡ true) → ((e : ℕ) → e < 1024 → bitIn set e ≡ true → (e < edgeCount p) × (first e ≡ true))
+      → State p first left returns set
   unfolding edgesAfter
-  state-start left set q few few-nodes room into back =
+  state-start left returns set q few sources wf all room into back =
       record {
         room = room;
         begun = into;
         only = λ e l b. let r = back e l b in reached-first (edgeCount p) (leads p) first e (r .0) (r .1);
-        edges = λ e f l u m b. absurd (both-ways (full-bits left 24 q e (omega arith)) u);
-        exits = λ n l x u. absurd (both-ways (full-bits left 24 q (1024 + n) (omega arith)) u);
+        edges = λ e f l u m b. absurd (both-ways (full-bits left 16 q e (omega arith)) u);
+        exits = λ n f x l b u. absurd (both-ways (all n (sourceAt p f) x (sources f l) ∙ b) u);
+        notes = λ n j x l b. let on = sym (all n j x l) ∙ b in (return-below p wf n j x on, on);
       }
 
   -- Where no edge of the set is left.
-  state-end : (left set : List ℕ) → State p first left set → firstCommon left set ≡ none → edgeCount p ≤ 1024 → (e : ℕ) → e < edgeCount p → bitIn set e ≡ has (edgesAfter p first) e
+  state-end : (left returns set : List ℕ) → State p first left returns set → firstCommon left set ≡ none → edgeCount p ≤ 1024 → (e : ℕ) → e < edgeCount p
+      → bitIn set e ≡ has (edgesAfter p first) e
   unfolding edgesAfter firstCommon
-  state-end left set st ended few e l =
+  state-end left returns set st ended few e l =
       same-test _ _ (st .only e (omega arith))
       (λ b. reached-only (edgeCount p) (leads p) first (λ i. (i < edgeCount p) × (bitIn set i ≡ true)) (λ i m t. (m, st .begun i m t))
       (λ d f y m t. (m, st .edges d f (y .0) (fails _ (λ u. first-none (λ i. bitIn left i and bitIn set i) 1024 ended d (omega (arith, y .0)) (and-both u (y .1)))) m t)) e b .1)
 
-  state-below : (left set : List ℕ) → State p first left set → (e : ℕ) → e < 1024 → bitIn set e ≡ true → e < edgeCount p
+  state-below : (left returns set : List ℕ) → State p first left returns set → (e : ℕ) → e < 1024 → bitIn set e ≡ true → e < edgeCount p
   unfolding edgesAfter
-  state-below left set st e l b = reached-below (edgeCount p) (leads p) first e (st .only e l b)
+  state-below left returns set st e l b = reached-below (edgeCount p) (leads p) first e (st .only e l b)
 
--- ---- `leave`, `go_on`
+-- ---- `next_return`, `take_return`, `leave`
 
-module _ (nodes links : List ℕ) (c : ℕ) (left set : List ℕ) (n : ℕ) where
-  pub leave-past : 512 ≤ n → Worked left set left set (Leaves nodes links c left set n left set)
+pub row-searched : (returns row : List ℕ) (n : ℕ) (found : Found) → row ≡ take 8 (drop (8 * n) returns) → edgeFound found ≡ firstCommon row row
+    → edgeFound found ≡ firstCommon (returnRow returns n) (returnRow returns n)
+row-searched returns row n found e told = told ∙ ap (λ (l : List ℕ). firstCommon l l) e
+
+-- What a search of a row against itself says of the row: the lowest node noted at n, or that there is none.
+module _ (returns : List ℕ) (n : ℕ) (found : Found) (told : edgeFound found ≡ firstCommon (returnRow returns n) (returnRow returns n)) where
+  row-noted : (j : ℕ) → j < 512 → bitIn (returnRow returns n) j ≡ noted returns n j
+  unfolding bitIn
+  row-noted j l =
+      ap (λ (w : ℕ). bitAt w (j % 64)) (getD-part returns (8 * n) 8 (j / 64) 0 (omega arith))
+      ∙ ap₂ (λ (a b : ℕ). bitAt (getD returns a 0) b) (let z : 8 * n + j / 64 ≡ (512 * n + j) / 64 = omega arith in z) (let z : j % 64 ≡ (512 * n + j) % 64 = omega arith in z)
+
+  pub at-node : (j : ℕ) → found ≡ At j → (j < 512) × (noted returns n j ≡ true)
+  unfolding firstCommon
+  at-node j q =
+      let r = first-at (λ i. bitIn (returnRow returns n) i and bitIn (returnRow returns n) i) 1024 j (sym told ∙ at-is found j .0 q) in
+      let b = and-left _ _ (r .1) in
+      let l : j < 512 = below-or j 512 (λ l. l) (λ l. absurd (both-ways b (past-bit (returnRow returns n) j (omega (arith, length-take 8 (drop (8 * n) returns)))))) in
+      (l, sym (row-noted j l) ∙ b)
+
+  no-node : found ≡ Nothing → (j : ℕ) → j < 512 → noted returns n j ≡ false
+  unfolding firstCommon
+  no-node q j l =
+      fails _
+      (λ b.
+      let u = row-noted j l ∙ b in
+      first-none (λ i. bitIn (returnRow returns n) i and bitIn (returnRow returns n) i) 1024 (sym told ∙ nothing-is found .0 q) j (omega arith) (and-both u u))
+
+-- The nodes noted at n at first and now no more were gone on from.
+pub record LeavingTo (p : Program) (n : ℕ) (returns₀ set₀ returns set : List ℕ) : Type 0 where
+  pub adds : Adds p (λ j. noted returns₀ n j and isnt (noted returns n j)) set₀ set
+  pub others : (m j : ℕ) → (m ≡ n → ⊥) → j < 512 → noted returns m j ≡ noted returns₀ m j
+  pub less : (j : ℕ) → noted returns n j ≡ true → noted returns₀ n j ≡ true
+
+unfoldable pub Leaving : List ℕ → ℕ → List ℕ → List ℕ → List ℕ → List ℕ → Type 0
+Leaving links n returns₀ set₀ returns set =
+    (t nodes : List ℕ) (s : Listing) → InMemory (memory t nodes links) s → 16 ≤ length set₀ → n < nodeCount (s .program)
+    → ((j : ℕ) → j < 512 → noted returns₀ n j ≡ true → j < nodeCount (s .program)) → LeavingTo (s .program) n returns₀ set₀ returns set
+
+-- How many nodes are noted at n.
+unfoldable pub notedAt : ℕ → List ℕ → ℕ
+notedAt n returns = count 512 (noted returns n)
+
+module _ (links : List ℕ) (n : ℕ) (returns₀ set₀ : List ℕ) where
+  pub leave-past : 512 ≤ n → BothSized returns₀ set₀ returns₀ set₀ (Leaves links returns₀ set₀ n returns₀ set₀)
   unfolding Leaves
   leave-past l =
       record {
-        left-size = refl;
+        returns-size = refl;
         size = refl;
-        less = λ i b. b;
-        claim = λ t s first h e st y r. absurd (let z : ⊥ = omega (arith, sound _ s h .fewNodes, y .below) in z);
+        claim = λ t nodes s h room i v. absurd (let z : ⊥ = omega (arith, sound _ s h .fewNodes) in z);
       }
 
-  module _ (bit : ℕ) (b : Bool) (is : bit ≡ 1024 + n) (told : b ≡ bitIn left bit) where
-    pub leave-gone : b ≡ false → Worked left set left set (Leaves nodes links c left set n left set)
-    unfolding Leaves
-    leave-gone z =
+  pub leave-start : BothSized returns₀ set₀ returns₀ set₀ (Leaving links n returns₀ set₀ returns₀ set₀)
+  unfolding Leaving Adds _and_ isnt
+  leave-start =
+      record {
+        returns-size = refl;
+        size = refl;
+        claim = λ t nodes s h room i v.
+            record {
+              adds = λ f. sym (or-none (bitIn set₀ f) (and-none (ltb f (edgeCount (s .program))) (noted returns₀ n (sourceAt (s .program) f))));
+              others = λ m j q l. refl;
+              less = λ j b. b;
+            };
+      }
+    where
+      and-none : (a b : Bool) → (a and b and isnt b) ≡ false
+      and-none true true = refl
+      and-none true false = refl
+      and-none false b = refl
+
+  module _ (returns set : List ℕ) (found : Found) (told : edgeFound found ≡ firstCommon (returnRow returns n) (returnRow returns n)) where
+    module _ (j : ℕ) (at : found ≡ At j) where
+      pub node-below : j < 512
+      node-below = at-node returns n found told j at .0
+
+      pub leave-less : (returns′ set′ : List ℕ) → Taken links n j returns set returns′ set′ → notedAt n returns′ < notedAt n returns
+      unfolding notedAt
+      leave-less returns′ set′ w =
+          let d = w .out in
+          let r = at-node returns n found told j at in
+          below-or (count 512 (noted returns′ n)) (count 512 (noted returns n)) (λ l. l)
+          (λ l.
+          absurd
+          (both-ways (count-same (noted returns′ n) (noted returns n) 512 (λ i _ b. bit-before returns (512 * n + j) (512 * n + i) (rw d at b)) l j (r .0) (r .1))
+          (ap (λ (w : List ℕ). noted w n j) d ∙ bit-cleared returns (512 * n + j))))
+
+      pub leave-on : (returns′ set′ : List ℕ) → BothSized returns₀ set₀ returns set (Leaving links n returns₀ set₀ returns set) → Taken links n j returns set returns′ set′
+          → BothSized returns₀ set₀ returns′ set′ (Leaving links n returns₀ set₀ returns′ set′)
+      unfolding Leaving AddsLeaving
+      leave-on returns′ set′ inv w =
+          let a = w .adds in
+          let d = w .out in
+          let r = at-node returns n found told j at in
+          record {
+            returns-size = ap length d ∙ without-size returns (512 * n + j) ∙ inv .returns-size;
+            size = a .size ∙ inv .size;
+            claim = λ t nodes s h room i v.
+                let g = inv .claim t nodes s h room i v in
+                let was = g .less j (r .1) in
+                record {
+                  adds = adds-then (s .program) _ (λ m. eqb m j) _ set₀ set set′ (g .adds) (a .claim t nodes s h (omega (arith, inv .size)) (v j (r .0) was))
+                      (λ m.
+                      same-or m j
+                      (λ q.
+                      and-both (ap (noted returns₀ n) q ∙ was) (true-isnt (ap₂ (λ (w : List ℕ) (x : ℕ). noted w n x) d q ∙ bit-cleared returns (512 * n + j)))
+                      ∙ sym (or-right _ (eq-eqb m j q)))
+                      (λ q.
+                      ap (λ (b : Bool). noted returns₀ n m and isnt b) (ap (λ (w : List ℕ). noted w n m) d ∙ bit-kept returns (512 * n + j) (512 * n + m) (λ e. q (omega arith)))
+                      ∙ sym (or-none _ (ne-eqb m j q))));
+                  others = λ m l q b.
+                      ap (λ (w : List ℕ). noted w m l) d
+                      ∙ bit-kept returns (512 * n + j) (512 * m + l) (λ e. q (let z : m ≡ n = omega (arith, r .0) in z))
+                      ∙ g .others m l q b;
+                  less = λ l b. g .less l (bit-before returns (512 * n + j) (512 * n + l) (rw d at b));
+                };
+          }
+
+    pub leave-end : BothSized returns₀ set₀ returns set (Leaving links n returns₀ set₀ returns set) → found ≡ Nothing
+        → BothSized returns₀ set₀ returns set (Leaves links returns₀ set₀ n returns set)
+    unfolding Leaving Leaves isnt _and_
+    leave-end inv q =
         record {
-          left-size = refl;
-          size = refl;
-          less = λ i b. b;
-          claim = λ t s first h e st y r. record { state = st; follows = st .exits n (y .below) (y .kind) (sym (told ∙ ap (bitIn left) is) ∙ z) };
+          returns-size = inv .returns-size;
+          size = inv .size;
+          claim = λ t nodes s h room i v.
+              let g = inv .claim t nodes s h room i v in
+              let none-noted = no-node returns n found told q in
+              record {
+                adds = adds-same (s .program) _ (noted returns₀ n) set₀ set
+                    (λ f l.
+                    sym
+                    (ap (λ (b : Bool). noted returns₀ n (sourceAt (s .program) f) and isnt b) (none-noted (sourceAt (s .program) f) (few-sources _ s h f l))
+                    ∙ and-ends (noted returns₀ n (sourceAt (s .program) f))))
+                    (g .adds);
+                rest = λ m j l.
+                    same-or m n
+                    (λ e. ap (λ (x : ℕ). noted returns x j) e ∙ none-noted j l ∙ sym (ap (λ (b : Bool). isnt b and noted returns₀ m j) (eq-eqb m n e)))
+                    (λ e. g .others m j e l ∙ sym (ap (λ (b : Bool). isnt b and noted returns₀ m j) (ne-eqb m n e)));
+              };
         }
 
-    pub leave-now : (left′ set′ : List ℕ) → Sized set set′ (ResumesAll nodes links c n set set′) → left′ ≡ withoutBit left bit → Worked left set left′ set′ (Leaves nodes links c left set n left′ set′)
-    unfolding Leaves ResumesAll
-    leave-now left′ set′ a q =
-        record {
-          left-size = ap length q ∙ without-size left bit;
-          size = a .size;
-          less = λ i u. bit-before left bit i (rw q at u);
-          claim = λ t s first h e st y r.
-              let g = gone-adds (s .program) first n left set set′ st (a .size) (a .claim t s h (st .room) e y) r in
-              let d : left′ ≡ withoutBit left (1024 + n) = q ∙ ap (withoutBit left) is in
-              rw d (exit-cleared (s .program) first n left set′ (sound _ s h .fewEdges) g);
-        }
+-- ---- `go_on`
 
-  module _ (v : ℕ) (ev : v ≡ getD nodes (nodeBase n) 0) where
-    pub on-exit : (left′ set′ : List ℕ) → v ≡ 3 → Worked left set left′ set′ (Leaves nodes links c left set n left′ set′) → Worked left set left′ set′ (GoesOn nodes links c left set n left′ set′)
-    unfolding Leaves GoesOn
-    on-exit left′ set′ z w =
-        record {
-          left-size = w .left-size;
-          size = w .size;
-          less = w .less;
-          claim = λ t s first h e st i r. w .claim t s first h e st (record { below = i; kind = numbered _ X (sym (ev ∙ kind-is _ s h n i) ∙ z) }) r;
-        }
+module _ (nodes links : List ℕ) (returns set : List ℕ) (n v : ℕ) (ev : v ≡ getD nodes (nodeBase n) 0) where
+  pub on-exit : (returns′ set′ : List ℕ) → v ≡ 3 → BothSized returns set returns′ set′ (Leaves links returns set n returns′ set′)
+      → BothSized returns set returns′ set′ (GoesOn nodes links returns set n returns′ set′)
+  unfolding Leaves GoesOn
+  on-exit returns′ set′ z w =
+      record {
+        returns-size = w .returns-size;
+        size = w .size;
+        claim = λ t left s first h st i r.
+            let y : IsExit (s .program) n = record { below = i; kind = numbered _ X (sym (ev ∙ kind-is _ s h n i) ∙ z) } in
+            gone-exit (s .program) first n left returns set returns′ set′ st (w .size) (few-sources _ s h) y
+            (w .claim t nodes s h (st .room) i (λ j l b. st .notes n j y l b .0)) r;
+      }
 
-    pub on-other : (j : ℕ) (set′ : List ℕ) → (v ≡ 3 → ⊥) → GoesOnAt nodes links n j → Sized set set′ (AddsLeaving links j set set′)
-        → Worked left set left set′ (GoesOn nodes links c left set n left set′)
-    unfolding GoesOn GoesOnAt AddsLeaving
-    on-other j set′ z at a =
-        record {
-          left-size = refl;
-          size = a .size;
-          less = λ i b. b;
-          claim = λ t s first h e st i r.
-              let y = at t s h i (λ x. z (ev ∙ kind-is _ s h n i ∙ ap kindNumber x)) in
-              gone-adds (s .program) first n left set set′ st (a .size) (adds-same (s .program) _ _ set set′ (y .1) (a .claim t nodes s h (st .room) (y .0))) r;
-        }
+  pub on-other : (j : ℕ) (set′ : List ℕ) → (v ≡ 3 → ⊥) → GoesOnAt nodes links n j → Sized set set′ (AddsLeaving links j set set′)
+      → BothSized returns set returns set′ (GoesOn nodes links returns set n returns set′)
+  unfolding GoesOn GoesOnAt AddsLeaving
+  on-other j set′ z at a =
+      record {
+        returns-size = refl;
+        size = a .size;
+        claim = λ t left s first h st i r.
+            let y = at t s h i (λ x. z (ev ∙ kind-is _ s h n i ∙ ap kindNumber x)) in
+            gone-adds (s .program) first n left returns set set′ st (a .size) (adds-same (s .program) _ _ set set′ (λ f l. y .1 (sourceAt (s .program) f)) (a .claim t nodes s h (st .room) (y .0))) r;
+      }
 
 -- ---- `visit`
 
-pub visit-done : (nodes links : List ℕ) (c : ℕ) (left set : List ℕ) (e n : ℕ) (left₁ left₂ set′ : List ℕ) → n ≡ getD links (edgeBase e + 3) 0
-    → Worked left set left₁ set′ (GoesOn nodes links c left set n left₁ set′) → left₂ ≡ withoutBit left₁ e → Worked left set left₂ set′ (Visit nodes links c left set e left₂ set′)
+pub visit-done : (nodes links left returns set : List ℕ) (e n : ℕ) (left′ returns′ set′ : List ℕ) → n ≡ getD links (edgeBase e + 3) 0
+    → BothSized returns set returns′ set′ (GoesOn nodes links returns set n returns′ set′) → left′ ≡ withoutBit left e
+    → Worked left returns set left′ returns′ set′ (Visit nodes links left returns set e left′ returns′ set′)
 unfolding GoesOn Visits Reaches leads edgesAfter
-visit-done nodes links c left set e n left₁ left₂ set′ en w q =
+visit-done nodes links left returns set e n left′ returns′ set′ en w q =
     record {
-      left-size = ap length q ∙ without-size left₁ e ∙ w .left-size;
+      left-size = ap length q ∙ without-size left e;
+      returns-size = w .returns-size;
       size = w .size;
-      less = λ i u. w .less i (bit-before left₁ e i (rw q at u));
+      less = λ i u. bit-before left e i (rw q at u);
       claim = record {
-        dropped = ap (λ (l : List ℕ). bitIn l e) q ∙ bit-cleared left₁ e;
-        visits = λ t s first h k st l b.
+        dropped = ap (λ (l : List ℕ). bitIn l e) q ∙ bit-cleared left e;
+        visits = λ t s first h st l b.
             let p : Program = s .program in
-            let i = state-below p first left set st e l b in
+            let i = state-below p first left returns set st e l b in
             let d : n ≡ targetAt p e = en ∙ target-is _ s h e i in
-            let g = w .claim t s first h k st (rw d (well-formed _ s h .targets e i))
+            let g = w .claim t left s first h st (rw d (well-formed _ s h .targets e i))
             (λ f m y. reached-onward (edgeCount p) (leads p) first e f (st .only e l b) m (subst (λ (j : ℕ). onFrom p j (sourceAt p f) ≡ true) d y)) in
-            rw q (edge-cleared p first e left₁ set′ l (subst (λ (j : ℕ). Gone p first j left₁ set′) d g));
+            rw q (edge-cleared p first e left returns′ set′ (subst (λ (j : ℕ). Gone p first j left returns′ set′) d g));
       };
     }
 
@@ -201,19 +339,19 @@ visit-done nodes links c left set e n left₁ left₂ set′ en w q =
 unfoldable pub edgesLeft : List ℕ → ℕ
 edgesLeft left = count 1024 (bitIn left)
 
-module _ (nodes links : List ℕ) (c : ℕ) where
-  pub run-start : (left set : List ℕ) → Worked left set left set (Runs nodes links c left set left set)
+module _ (nodes links : List ℕ) where
+  pub run-start : (left returns set : List ℕ) → Worked left returns set left returns set (Runs nodes links left returns set left returns set)
   unfolding Runs
-  run-start left set = record { left-size = refl; size = refl; less = λ i b. b; claim = λ t s first h e st. st }
+  run-start left returns set = record { left-size = refl; returns-size = refl; size = refl; less = λ i b. b; claim = λ t s first h st. st }
 
-  module _ (left set : List ℕ) (found : Found) (told : edgeFound found ≡ firstCommon left set) where
+  module _ (left returns set : List ℕ) (found : Found) (told : edgeFound found ≡ firstCommon left set) where
     at-edge : (e : ℕ) → found ≡ At e → (e < 1024) × (bitIn left e ≡ true) × (bitIn set e ≡ true)
     unfolding firstCommon
     at-edge e q =
         let r = first-at (λ i. bitIn left i and bitIn set i) 1024 e (sym told ∙ at-is found e .0 q) in
         (r .0, and-left _ _ (r .1), and-right _ _ (r .1))
 
-    module _ (e : ℕ) (at : found ≡ At e) (left′ set′ : List ℕ) (w : Worked left set left′ set′ (Visit nodes links c left set e left′ set′)) where
+    module _ (e : ℕ) (at : found ≡ At e) (left′ returns′ set′ : List ℕ) (w : Worked left returns set left′ returns′ set′ (Visit nodes links left returns set e left′ returns′ set′)) where
       pub run-less : edgesLeft left′ < edgesLeft left
       unfolding edgesLeft
       run-less =
@@ -221,21 +359,25 @@ module _ (nodes links : List ℕ) (c : ℕ) where
           below-or (count 1024 (bitIn left′)) (count 1024 (bitIn left)) (λ l. l)
           (λ l. absurd (both-ways (count-same (bitIn left′) (bitIn left) 1024 (λ i _ b. w .less i b) l e (r .0) (r .1)) (w .claim .dropped)))
 
-      pub run-on : (left₀ set₀ : List ℕ) → Worked left₀ set₀ left set (Runs nodes links c left₀ set₀ left set) → Worked left₀ set₀ left′ set′ (Runs nodes links c left₀ set₀ left′ set′)
+      pub run-on : (left₀ returns₀ set₀ : List ℕ) → Worked left₀ returns₀ set₀ left returns set (Runs nodes links left₀ returns₀ set₀ left returns set)
+          → Worked left₀ returns₀ set₀ left′ returns′ set′ (Runs nodes links left₀ returns₀ set₀ left′ returns′ set′)
       unfolding Runs Visits
-      run-on left₀ set₀ inv =
+      run-on left₀ returns₀ set₀ inv =
           let r = at-edge e at in
           record {
             left-size = w .left-size ∙ inv .left-size;
+            returns-size = w .returns-size ∙ inv .returns-size;
             size = w .size ∙ inv .size;
             less = λ i b. inv .less i (w .less i b);
-            claim = λ t s first h k st. w .claim .visits t s first h k (inv .claim t s first h k st) (r .0) (r .2);
+            claim = λ t s first h st. w .claim .visits t s first h (inv .claim t s first h st) (r .0) (r .2);
           }
 
-    pub run-end : (left₀ set₀ : List ℕ) → Worked left₀ set₀ left set (Runs nodes links c left₀ set₀ left set) → found ≡ Nothing → Worked left₀ set₀ left set (Ends nodes links c left₀ set₀ left set)
-    run-end left₀ set₀ inv q =
+    pub run-end : (left₀ returns₀ set₀ : List ℕ) → Worked left₀ returns₀ set₀ left returns set (Runs nodes links left₀ returns₀ set₀ left returns set) → found ≡ Nothing
+        → Worked left₀ returns₀ set₀ left returns set (Ends nodes links left₀ returns₀ set₀ left returns set)
+    run-end left₀ returns₀ set₀ inv q =
         record {
           left-size = inv .left-size;
+          returns-size = inv .returns-size;
           size = inv .size;
           less = inv .less;
           claim = record { none-left = sym told ∙ nothing-is found .0 q; runs = inv .claim };
@@ -243,21 +385,25 @@ module _ (nodes links : List ℕ) (c : ℕ) where
 
 -- ---- `spread`
 
-pub spread-done : (nodes links : List ℕ) (c : ℕ) (left set left′ set′ : List ℕ) → left ≡ replicate 24 18446744073709551615
-    → Worked left set left′ set′ (Ends nodes links c left set left′ set′) → Spread nodes links c set set′
-unfolding Spreads Spares Runs
-spread-done nodes links c left set left′ set′ q w =
+pub spread-done : (nodes links : List ℕ) (c : ℕ) (left returns₀ returns set left′ returns′ set′ : List ℕ) → returns₀ ≡ replicate 4096 0
+    → Sized returns₀ returns (NotesAll nodes links c returns₀ returns) → left ≡ replicate 16 18446744073709551615
+    → Worked left returns set left′ returns′ set′ (Ends nodes links left returns set left′ returns′ set′) → Spread nodes links c set set′
+unfolding Spreads Spares Runs NotesAll Notes _or_
+spread-done nodes links c left returns₀ returns set left′ returns′ set′ q₀ noting q w =
     record {
-      spreads = λ t s h k room out e l. state-end (s .program) (bitIn set) left′ set′ (done t s h k room out) (w .claim .none-left) (sound _ s h .fewEdges) e l;
-      spare = λ t s h k room out e l m. fails _ (λ b. let z : ⊥ = omega (arith, state-below (s .program) (bitIn set) left′ set′ (done t s h k room out) e l b) in z);
+      spreads = λ t s h k room out e l. state-end (s .program) (bitIn set) left′ returns′ set′ (done t s h k room out) (w .claim .none-left) (sound _ s h .fewEdges) e l;
+      spare = λ t s h k room out e l m. fails _ (λ b. let z : ⊥ = omega (arith, state-below (s .program) (bitIn set) left′ returns′ set′ (done t s h k room out) e l b) in z);
       size = w .size;
     }
   where
     done : (t : List ℕ) (s : Listing) → InMemory (memory t nodes links) s → c ≡ nodeCount (s .program) → 16 ≤ length set
-        → ((e : ℕ) → e < 1024 → edgeCount (s .program) ≤ e → bitIn set e ≡ false) → State (s .program) (bitIn set) left′ set′
+        → ((e : ℕ) → e < 1024 → edgeCount (s .program) ≤ e → bitIn set e ≡ false) → State (s .program) (bitIn set) left′ returns′ set′
     done t s h k room out =
-        w .claim .runs t s (bitIn set) h k
-        (state-start (s .program) (bitIn set) left set q (sound _ s h .fewEdges) (sound _ s h .fewNodes) room (λ e l b. b)
+        w .claim .runs t s (bitIn set) h
+        (state-start (s .program) (bitIn set) left returns set q (sound _ s h .fewEdges) (few-sources _ s h) (well-formed _ s h)
+        (λ n j x l.
+        noting .claim t s h k (omega (arith, ap length q₀ ∙ length-replicate {A = ℕ} 4096 0)) n j x l ∙ ap (λ (b : Bool). b or onFrom (s .program) n j) (clear-bits returns₀ 4096 q₀ (512 * n + j)))
+        room (λ e l b. b)
         (λ e l b. below-or e (edgeCount (s .program)) (λ m. (m, b)) (λ m. absurd (both-ways b (out e l m)))))
 
-pub ruleset searching = (leave-past, leave-gone, leave-now, on-exit, on-other, visit-done, run-start, run-less, run-on, run-end, spread-done)
+pub ruleset searching = (row-searched, leave-past, leave-start, node-below, leave-less, leave-on, leave-end, on-exit, on-other, visit-done, run-start, run-less, run-on, run-end, spread-done)

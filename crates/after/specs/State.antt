@@ -1,8 +1,8 @@
--- The state of the search for the edges after some first ones: the set of those found, and the set of the edges and exits that are left to go on from.
+-- The state of the search for the edges after some first ones: the set of those found, the set of the edges that are left to go on from, and the table of the returns, which are left to go on by.
 use mathlib.Core.Path.{_≡_}
 use mathlib.Core.Bool.{Bool, true, false}
 use mathlib.Core.List.{List}
-use Prim.Native.Nat.{ℕ, _+_, _≤_, _<_}
+use Prim.Native.Nat.{ℕ, _+_, _*_, _≤_, _<_}
 use lib.Dec.{ltb}
 use lib.ListN.{length}
 use Rattle.laws.specs.Tests.{_and_, _or_, has}
@@ -25,22 +25,43 @@ Reaches p first T = (f : ℕ) → f < edgeCount p → T (sourceAt p f) ≡ true 
 abbrev pub onFrom : Program → ℕ → ℕ → Bool
 onFrom p n = goesOnFrom p (kindAt p n) n
 
--- The set has the first edges and none but edges after them; those to which an edge leads that is left no more, and those that follow an exit that is left no more.
-pub record State (p : Program) (first : ℕ → Bool) (left set : List ℕ) : Type 0 where
+-- A node that is an exit.
+pub record IsExit (p : Program) (n : ℕ) : Type 0 where
+  pub below : n < nodeCount p
+  pub kind : kindAt p n ≡ X
+
+-- A table of returns has a row of 512 bits for each node: in the row of the exit n the node j is noted, if a run that has come to n goes on by an edge that leaves j.
+abbrev pub noted : List ℕ → ℕ → ℕ → Bool
+noted returns n j = bitIn returns (512 * n + j)
+
+-- The set has the first edges and none but edges after them; those to which an edge leads that is left no more, and those that follow an exit, if their node is noted there no more. Nothing
+-- else is noted.
+pub record State (p : Program) (first : ℕ → Bool) (left returns set : List ℕ) : Type 0 where
   pub room : 16 ≤ length set
   pub begun : (e : ℕ) → e < edgeCount p → first e ≡ true → bitIn set e ≡ true
   pub only : (e : ℕ) → e < 1024 → bitIn set e ≡ true → has (edgesAfter p first) e ≡ true
   pub edges : (e f : ℕ) → e < edgeCount p → bitIn left e ≡ false → f < edgeCount p → leads p e f ≡ true → bitIn set f ≡ true
-  pub exits : (n : ℕ) → n < nodeCount p → kindAt p n ≡ X → bitIn left (1024 + n) ≡ false → Has p (onFrom p n) set
+  pub exits : (n f : ℕ) → IsExit p n → f < edgeCount p → onFrom p n (sourceAt p f) ≡ true → noted returns n (sourceAt p f) ≡ false → bitIn set f ≡ true
+  pub notes : (n j : ℕ) → IsExit p n → j < 512 → noted returns n j ≡ true → (j < nodeCount p) × (onFrom p n j ≡ true)
 
 -- The same, with all that follows the node n.
-pub record Gone (p : Program) (first : ℕ → Bool) (n : ℕ) (left set : List ℕ) : Type 0 where
-  pub state : State p first left set
+pub record Gone (p : Program) (first : ℕ → Bool) (n : ℕ) (left returns set : List ℕ) : Type 0 where
+  pub state : State p first left returns set
   pub follows : Has p (onFrom p n) set
 
--- A claim; both sets have as many words as before, and nothing is left that was not.
-pub record Worked (left set left′ set′ : List ℕ) (X : Type 0) : Type 0 where
+-- A claim, and a table as long as it was; the returns and the set; these and what is left, of which nothing is left that was not.
+pub record Sized (set set′ : List ℕ) (Y : Type 0) : Type 0 where
+  pub size : length set′ ≡ length set
+  pub claim : Y
+
+pub record BothSized (returns set returns′ set′ : List ℕ) (Y : Type 0) : Type 0 where
+  pub returns-size : length returns′ ≡ length returns
+  pub size : length set′ ≡ length set
+  pub claim : Y
+
+pub record Worked (left returns set left′ returns′ set′ : List ℕ) (Y : Type 0) : Type 0 where
   pub left-size : length left′ ≡ length left
+  pub returns-size : length returns′ ≡ length returns
   pub size : length set′ ≡ length set
   pub less : (i : ℕ) → bitIn left′ i ≡ true → bitIn left i ≡ true
-  pub claim : X
+  pub claim : Y

@@ -1,21 +1,26 @@
-// Edges after others in one version: where a run may go on that has crossed one of a set. A second set has what is left to go on from: the edge e at its
-// bit, and the exit n, from which a run goes on to every call of its procedure, at the bit 1,024 + n.
+// Edges after others in one version: where a run may go on that has crossed one of a set. A second set has the edges that are left to go on from. A table
+// of returns has, in a row of 512 bits for each exit, the nodes from which a run that has come to it goes on at the calls of its procedure: it is made in
+// one pass over the calls, and a return that is gone by is taken out, so that an exit is gone on from once.
 use coverage::Found;
-ghost use Rattle.after.specs.State.{Worked};
+ghost use mathlib.Core.Path.{_≡_};
+ghost use Prim.Native.Nat.{_<_};
+ghost use Rattle.coverage.specs.Rows.{edgeFound, firstCommon};
+ghost use Rattle.after.specs.State.{BothSized, Sized, Worked};
 ghost use Rattle.after.specs.Claims.{
   AddsLeaving,
   Ends,
   GoesOn,
   GoesOnAt,
   Leaves,
-  ResumesAll,
+  NotesAll,
+  NotesCall,
+  NotesCallees,
+  NotesFirst,
   ResumesAt,
-  ResumesCall,
-  ResumesCallees,
-  ResumesFirst,
-  Sized,
   Spread,
+  Taken,
   Visit,
+  returnRow,
 };
 
 // ---- the edges that leave a node
@@ -45,7 +50,7 @@ fn goes_on_at(nodes: &[usize], links: &[usize], n: usize) -> usize
     versions::entry(links, q)
 }
 
-// ---- from an exit to the calls of its procedure
+// ---- the returns
 
 // The node whose edge a run crosses next that has come to the exit of a callee of the call k, where the callees behind it are the digits of `rest`: the
 // entry of the next one, or after the last the call.
@@ -59,97 +64,110 @@ fn resumes_at(links: &[usize], k: usize, rest: usize) -> usize
     versions::entry(links, q)
 }
 
-// Adds the edges that a run may cross next that has come to the exit n, if n is the exit of the first of the callees of the call k that are the digits of
-// `callees`.
-fn resume_first(links: &[usize], k: usize, callees: usize, n: usize, set: &mut [u64])
-    ensures { λ _. ⌜ Sized (now (set .entry)) (now (set .exit))
-        (ResumesFirst (now (links .entry)) k callees n (now (set .entry)) (now (set .exit))) ⌝ }
+// Notes, at the exit of the first of the callees of the call k that are the digits of `callees`, the node from which a run goes on.
+fn note_first(links: &[usize], k: usize, callees: usize, returns: &mut [u64])
+    ensures { λ _. ⌜ Sized (now (returns .entry)) (now (returns .exit))
+        (NotesFirst (now (links .entry)) k callees (now (returns .entry)) (now (returns .exit))) ⌝ }
 {
     let q = versions::callee(callees);
-    if versions::exit(links, q) != n {
+    let n = versions::exit(links, q);
+    let j = resumes_at(links, k, callees / 256);
+    // no program has so many nodes; behind these tests the number of the bit is known to be small
+    if 512 <= n {
         return;
     }
-    let j = resumes_at(links, k, callees / 256);
-    add_leaving(links, j, set);
+    if 512 <= j {
+        return;
+    }
+    coverage::set_bit(returns, 512 * n + j);
 }
 
 // The same for each of these callees.
-fn resume_callees(links: &[usize], k: usize, callees: usize, n: usize, set: &mut [u64])
-    ensures { λ _. ⌜ Sized (now (set .entry)) (now (set .exit))
-        (ResumesCallees (now (links .entry)) k callees n (now (set .entry)) (now (set .exit))) ⌝ }
+fn note_callees(links: &[usize], k: usize, callees: usize, returns: &mut [u64])
+    ensures { λ _. ⌜ Sized (now (returns .entry)) (now (returns .exit))
+        (NotesCallees (now (links .entry)) k callees (now (returns .entry)) (now (returns .exit))) ⌝ }
 {
     let mut a = callees;
     while 0 < a {
-        resume_first(links, k, a, n, set);
+        note_first(links, k, a, returns);
         a = a / 256;
     }
 }
 
 // The same for the node k, if it is a call.
-fn resume_call(nodes: &[usize], links: &[usize], k: usize, n: usize, set: &mut [u64])
-    ensures { λ _. ⌜ Sized (now (set .entry)) (now (set .exit))
-        (ResumesCall (now (nodes .entry)) (now (links .entry)) k n (now (set .entry)) (now (set .exit))) ⌝ }
+fn note_call(nodes: &[usize], links: &[usize], k: usize, returns: &mut [u64])
+    ensures { λ _. ⌜ Sized (now (returns .entry)) (now (returns .exit))
+        (NotesCall (now (nodes .entry)) (now (links .entry)) k (now (returns .entry)) (now (returns .exit))) ⌝ }
 {
     if versions::kind(nodes, k) != 2 {
         return;
     }
     let callees = versions::callees(nodes, k);
-    resume_callees(links, k, callees, n, set);
+    note_callees(links, k, callees, returns);
 }
 
 // The same for every node.
-fn resume_all(nodes: &[usize], links: &[usize], count: usize, n: usize, set: &mut [u64])
-    ensures { λ _. ⌜ Sized (now (set .entry)) (now (set .exit))
-        (ResumesAll (now (nodes .entry)) (now (links .entry)) count n (now (set .entry)) (now (set .exit))) ⌝ }
+fn note_all(nodes: &[usize], links: &[usize], count: usize, returns: &mut [u64])
+    ensures { λ _. ⌜ Sized (now (returns .entry)) (now (returns .exit))
+        (NotesAll (now (nodes .entry)) (now (links .entry)) count (now (returns .entry)) (now (returns .exit))) ⌝ }
 {
     let mut k = 0;
     while k < count {
-        resume_call(nodes, links, k, n, set);
+        note_call(nodes, links, k, returns);
         k += 1;
     }
 }
 
 // ---- the worklist
 
-// Goes on from the exit n, if it is left.
-fn leave(
-    nodes: &[usize],
-    links: &[usize],
-    count: usize,
-    left: &mut [u64],
-    set: &mut [u64],
-    n: usize,
-)
-    ensures { λ _. ⌜ Worked (now (left .entry)) (now (set .entry)) (now (left .exit)) (now (set .exit))
-        (Leaves (now (nodes .entry)) (now (links .entry))
-        count (now (left .entry)) (now (set .entry)) n (now (left .exit)) (now (set .exit))) ⌝ }
+// The lowest node that is noted at the exit n, or that there is none.
+fn next_return(returns: &[u64], n: usize) -> Found
+    requires { ⌜ n < 512 ⌝ }
+    ensures { λ r. ⌜ edgeFound r ≡ firstCommon (returnRow (now (returns .entry)) n) (returnRow (now (returns .entry)) n) ⌝ }
 {
-    // no program has so many nodes; behind this test the number of the bit is known to be small
+    let row = text::run_words(returns, 8 * n, 8);
+    coverage::first_danger(row, row)
+}
+
+// Adds the edges of the node j, which is noted at the exit n, and takes it out there.
+fn take_return(links: &[usize], returns: &mut [u64], set: &mut [u64], n: usize, j: usize)
+    requires { ⌜ (n < 512) × (j < 512) ⌝ }
+    ensures { λ _. ⌜ Taken (now (links .entry)) n j (now (returns .entry)) (now (set .entry)) (now (returns .exit)) (now (set .exit)) ⌝ }
+{
+    add_leaving(links, j, set);
+    coverage::clear_bit(returns, 512 * n + j);
+}
+
+// Goes on from the exit n: adds the edges of the nodes that are noted there, and takes these out.
+fn leave(links: &[usize], returns: &mut [u64], set: &mut [u64], n: usize)
+    ensures { λ _. ⌜ BothSized (now (returns .entry)) (now (set .entry)) (now (returns .exit)) (now (set .exit))
+        (Leaves (now (links .entry)) (now (returns .entry)) (now (set .entry)) n (now (returns .exit)) (now (set .exit))) ⌝ }
+{
+    // no program has so many nodes
     if 512 <= n {
         return;
     }
-    let bit = 1024 + n;
-    if coverage::in_set(left, bit) {
-        resume_all(nodes, links, count, n, set);
-        coverage::clear_bit(left, bit);
+    loop {
+        let found = next_return(returns, n);
+        match found {
+            Found::At(j) => {
+                take_return(links, returns, set, n, j);
+            }
+            Found::Nothing => {
+                return;
+            }
+        }
     }
 }
 
 // Goes on from the node n.
-fn go_on(
-    nodes: &[usize],
-    links: &[usize],
-    count: usize,
-    left: &mut [u64],
-    set: &mut [u64],
-    n: usize,
-)
-    ensures { λ _. ⌜ Worked (now (left .entry)) (now (set .entry)) (now (left .exit)) (now (set .exit))
+fn go_on(nodes: &[usize], links: &[usize], returns: &mut [u64], set: &mut [u64], n: usize)
+    ensures { λ _. ⌜ BothSized (now (returns .entry)) (now (set .entry)) (now (returns .exit)) (now (set .exit))
         (GoesOn (now (nodes .entry)) (now (links .entry))
-        count (now (left .entry)) (now (set .entry)) n (now (left .exit)) (now (set .exit))) ⌝ }
+        (now (returns .entry)) (now (set .entry)) n (now (returns .exit)) (now (set .exit))) ⌝ }
 {
     if versions::kind(nodes, n) == 3 {
-        leave(nodes, links, count, left, set, n);
+        leave(links, returns, set, n);
         return;
     }
     let j = goes_on_at(nodes, links, n);
@@ -160,31 +178,33 @@ fn go_on(
 fn visit(
     nodes: &[usize],
     links: &[usize],
-    count: usize,
     left: &mut [u64],
+    returns: &mut [u64],
     set: &mut [u64],
     e: usize,
 )
-    ensures { λ _. ⌜ Worked (now (left .entry)) (now (set .entry)) (now (left .exit)) (now (set .exit))
-        (Visit (now (nodes .entry)) (now (links .entry))
-        count (now (left .entry)) (now (set .entry)) e (now (left .exit)) (now (set .exit))) ⌝ }
+    ensures { λ _. ⌜ Worked (now (left .entry)) (now (returns .entry)) (now (set .entry))
+        (now (left .exit)) (now (returns .exit)) (now (set .exit))
+        (Visit (now (nodes .entry)) (now (links .entry)) (now (left .entry)) (now (returns .entry)) (now (set .entry))
+        e (now (left .exit)) (now (returns .exit)) (now (set .exit))) ⌝ }
 {
     let n = versions::target(links, e);
-    go_on(nodes, links, count, left, set, n);
+    go_on(nodes, links, returns, set, n);
     coverage::clear_bit(left, e);
 }
 
 // Goes on from the edges of the set that are left, until there is none.
-fn run(nodes: &[usize], links: &[usize], count: usize, left: &mut [u64], set: &mut [u64])
-    ensures { λ _. ⌜ Worked (now (left .entry)) (now (set .entry)) (now (left .exit)) (now (set .exit))
-        (Ends (now (nodes .entry)) (now (links .entry))
-        count (now (left .entry)) (now (set .entry)) (now (left .exit)) (now (set .exit))) ⌝ }
+fn run(nodes: &[usize], links: &[usize], left: &mut [u64], returns: &mut [u64], set: &mut [u64])
+    ensures { λ _. ⌜ Worked (now (left .entry)) (now (returns .entry)) (now (set .entry))
+        (now (left .exit)) (now (returns .exit)) (now (set .exit))
+        (Ends (now (nodes .entry)) (now (links .entry)) (now (left .entry)) (now (returns .entry)) (now (set .entry))
+        (now (left .exit)) (now (returns .exit)) (now (set .exit))) ⌝ }
 {
     loop {
         let found = coverage::first_danger(left, set);
         match found {
             Found::At(e) => {
-                visit(nodes, links, count, left, set, e);
+                visit(nodes, links, left, returns, set, e);
             }
             Found::Nothing => {
                 return;
@@ -196,12 +216,15 @@ fn run(nodes: &[usize], links: &[usize], count: usize, left: &mut [u64], set: &m
 // Makes the set, of edges of one version with `count` nodes, that of the edges after those that it has, these included. For tables that hold no program
 // the set is left open.
 //
-// The worst case. Each edge is gone on from at most once, and so is each exit. From an edge the edges of one node are added, at most 8; from an exit,
-// for every node and each of its at most 4 callees, one edge at most. To find the next edge at most 16 words are looked at. At the limits of the files
-// that is 1,025 * 16 words, 1,024 * 8 edges and 64 passes over 512 nodes.
+// The worst case. Each call is noted once, at the exit of each of its at most 4 callees. Each edge is gone on from at most once, and each noted node:
+// the edges of one node are added, at most 8. To find the next edge at most 16 words are looked at, and so for the next node. So it is linear in edges
+// and calls: at the limits of the files 1,025 edges and 2,048 callees of calls, 8 edges and 16 words for each, and 1,024 times 16 words where the last
+// node of an exit was taken out.
 pub fn spread(nodes: &[usize], links: &[usize], count: usize, set: &mut [u64])
     ensures { λ _. ⌜ Spread (now (nodes .entry)) (now (links .entry)) count (now (set .entry)) (now (set .exit)) ⌝ }
 {
-    let mut left = [18446744073709551615u64; 24];
-    run(nodes, links, count, &mut left, set);
+    let mut returns = [0u64; 4096];
+    note_all(nodes, links, count, &mut returns);
+    let mut left = [18446744073709551615u64; 16];
+    run(nodes, links, &mut left, &mut returns, set);
 }

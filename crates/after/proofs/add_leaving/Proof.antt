@@ -1,6 +1,6 @@
 use borrow.Author.Needs.{needs}
 use Rattle.after.proofs.All.{all}
-use Rattle.after.specs.Claims.{Sized}
+use Rattle.after.specs.State.{Sized}
 use Rattle.after.proofs.Adding.{Adding}
 use Rattle.after.proofs.add_leaving.Statement.{statement}
 use Rattle.after.proofs.add_leaving.Tie as tie

@@ -1,49 +1,64 @@
 use borrow.Author.Needs.{needs}
 use Rattle.after.proofs.All.{all}
+use Prim.Native.Nat.{_<_}
+use Rattle.after.specs.State.{BothSized}
+use Rattle.after.proofs.Search.{Leaving, notedAt}
 use Rattle.after.proofs.leave.Statement.{statement}
 use Rattle.after.proofs.leave.Tie as tie
 
-returns : tie.Need-returns
+abbrev Inv-loop : tie.InvT-loop
+Inv-loop links returns₀ set₀ n returns set = (n < 512) × BothSized returns₀ set₀ returns set (Leaving links n returns₀ set₀ returns set)
+
+abbrev μ-loop : tie.MeasureT-loop
+μ-loop links returns₀ set₀ n returns set = notedAt n returns
+
+returns : tie.Need-returns Inv-loop μ-loop
 returns c = search (all, needs)
 
-add-bit : tie.Need-add-bit
-add-bit c = search needs
+loop-holds : tie.Need-loop-holds Inv-loop μ-loop
+loop-holds c = search (all, needs)
 
-in-set-requires : tie.Need-in-set-requires
-in-set-requires c κs = search needs
+next-return-requires : tie.Need-next-return-requires Inv-loop μ-loop
+next-return-requires c κs = search (all, needs)
 
-resume-all-requires : tie.Need-resume-all-requires
-resume-all-requires c κs = search needs
+enum-known-found : tie.Need-enum-known-found Inv-loop μ-loop
+enum-known-found c = search (all, needs)
 
-clear-bit-requires : tie.Need-clear-bit-requires
-clear-bit-requires c κs = search needs
+take-return-requires : tie.Need-take-return-requires Inv-loop μ-loop
+take-return-requires c κs = search (all, needs)
 
-same-length : tie.Need-same-length
-same-length c = search needs
+loop-less : tie.Need-loop-less Inv-loop μ-loop
+loop-less c = search (all, needs)
 
-same-length-2 : tie.Need-same-length-2
-same-length-2 c = search needs
+loop-again : tie.Need-loop-again Inv-loop μ-loop
+loop-again c = search (all, needs)
 
-returns-2 : tie.Need-returns-2
+enum-told : tie.Need-enum-told Inv-loop μ-loop
+enum-told c = search (all, needs)
+
+same-length : tie.Need-same-length Inv-loop μ-loop
+same-length c = search (all, needs)
+
+same-length-2 : tie.Need-same-length-2 Inv-loop μ-loop
+same-length-2 c = search (all, needs)
+
+returns-2 : tie.Need-returns-2 Inv-loop μ-loop
 returns-2 c = search (all, needs)
-
-same-length-3 : tie.Need-same-length-3
-same-length-3 c = search needs
-
-returns-3 : tie.Need-returns-3
-returns-3 c = search (all, needs)
 
 pub leave-spec : {M : Type 1} → statement M
 leave-spec =
     tie.close
     (tie.spec
+    Inv-loop
+    μ-loop
     returns
-    add-bit
-    in-set-requires
-    resume-all-requires
-    clear-bit-requires
+    loop-holds
+    next-return-requires
+    enum-known-found
+    take-return-requires
+    loop-less
+    loop-again
+    enum-told
     same-length
     same-length-2
-    returns-2
-    same-length-3
-    returns-3)
+    returns-2)

@@ -7,10 +7,10 @@ use Rattle.after.proofs.run.Statement.{statement}
 use Rattle.after.proofs.run.Tie as tie
 
 abbrev Inv-loop : tie.InvT-loop
-Inv-loop nodes links count left₀ set₀ left set = Worked left₀ set₀ left set (Runs nodes links count left₀ set₀ left set)
+Inv-loop nodes links left₀ returns₀ set₀ left returns set = Worked left₀ returns₀ set₀ left returns set (Runs nodes links left₀ returns₀ set₀ left returns set)
 
 abbrev μ-loop : tie.MeasureT-loop
-μ-loop nodes links count left₀ set₀ left set = edgesLeft left
+μ-loop nodes links left₀ returns₀ set₀ left returns set = edgesLeft left
 
 loop-holds : tie.Need-loop-holds Inv-loop μ-loop
 loop-holds c = search (all, needs)
@@ -39,6 +39,9 @@ same-length c = search (all, needs)
 same-length-2 : tie.Need-same-length-2 Inv-loop μ-loop
 same-length-2 c = search (all, needs)
 
+same-length-3 : tie.Need-same-length-3 Inv-loop μ-loop
+same-length-3 c = search (all, needs)
+
 returns : tie.Need-returns Inv-loop μ-loop
 returns c = search (all, needs)
 
@@ -57,4 +60,5 @@ run-spec =
     enum-told
     same-length
     same-length-2
+    same-length-3
     returns)

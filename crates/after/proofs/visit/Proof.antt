@@ -18,10 +18,20 @@ same-length c = search needs
 same-length-2 : tie.Need-same-length-2
 same-length-2 c = search needs
 
+same-length-3 : tie.Need-same-length-3
+same-length-3 c = search needs
+
 returns : tie.Need-returns
 returns c = search (all, needs)
 
 pub visit-spec : {M : Type 1} → statement M
 visit-spec =
     tie.close
-    (tie.spec target-requires go-on-requires clear-bit-requires same-length same-length-2 returns)
+    (tie.spec
+    target-requires
+    go-on-requires
+    clear-bit-requires
+    same-length
+    same-length-2
+    same-length-3
+    returns)

@@ -1,7 +1,7 @@
 use borrow.Author.Needs.{needs}
 use Rattle.after.proofs.All.{all}
-use Rattle.after.proofs.resume_call.Statement.{statement}
-use Rattle.after.proofs.resume_call.Tie as tie
+use Rattle.after.proofs.note_call.Statement.{statement}
+use Rattle.after.proofs.note_call.Tie as tie
 
 kind-requires : tie.Need-kind-requires
 kind-requires c κs = search needs
@@ -12,8 +12,8 @@ returns c = search (all, needs)
 callees-requires : tie.Need-callees-requires
 callees-requires c κs = search needs
 
-resume-callees-requires : tie.Need-resume-callees-requires
-resume-callees-requires c κs = search needs
+note-callees-requires : tie.Need-note-callees-requires
+note-callees-requires c κs = search needs
 
 same-length : tie.Need-same-length
 same-length c = search needs
@@ -21,7 +21,7 @@ same-length c = search needs
 returns-2 : tie.Need-returns-2
 returns-2 c = search (all, needs)
 
-pub resume-call-spec : {M : Type 1} → statement M
-resume-call-spec =
+pub note-call-spec : {M : Type 1} → statement M
+note-call-spec =
     tie.close
-    (tie.spec kind-requires returns callees-requires resume-callees-requires same-length returns-2)
+    (tie.spec kind-requires returns callees-requires note-callees-requires same-length returns-2)

@@ -1,21 +1,21 @@
 use borrow.Author.Needs.{needs}
 use Rattle.after.proofs.All.{all}
-use Rattle.after.specs.Claims.{Sized}
-use Rattle.after.proofs.Adding.{Resuming}
-use Rattle.after.proofs.resume_callees.Statement.{statement}
-use Rattle.after.proofs.resume_callees.Tie as tie
+use Rattle.after.specs.State.{Sized}
+use Rattle.after.proofs.Returns.{Noting}
+use Rattle.after.proofs.note_callees.Statement.{statement}
+use Rattle.after.proofs.note_callees.Tie as tie
 
 abbrev Inv-loop : tie.InvT-loop
-Inv-loop links k callees n set₀ a₀ set a = Sized set₀ set (Resuming links k callees n set₀ set a)
+Inv-loop links k callees returns₀ a₀ returns a = Sized returns₀ returns (Noting links k callees returns₀ returns a)
 
 abbrev μ-loop : tie.MeasureT-loop
-μ-loop links k callees n set₀ a₀ set a = a
+μ-loop links k callees returns₀ a₀ returns a = a
 
 loop-holds : tie.Need-loop-holds Inv-loop μ-loop
 loop-holds c = search (all, needs)
 
-resume-first-requires : tie.Need-resume-first-requires Inv-loop μ-loop
-resume-first-requires c κs = search (all, needs)
+note-first-requires : tie.Need-note-first-requires Inv-loop μ-loop
+note-first-requires c κs = search (all, needs)
 
 loop-less : tie.Need-loop-less Inv-loop μ-loop
 loop-less c = search (all, needs)
@@ -29,14 +29,14 @@ same-length c = search (all, needs)
 returns : tie.Need-returns Inv-loop μ-loop
 returns c = search (all, needs)
 
-pub resume-callees-spec : {M : Type 1} → statement M
-resume-callees-spec =
+pub note-callees-spec : {M : Type 1} → statement M
+note-callees-spec =
     tie.close
     (tie.spec
     Inv-loop
     μ-loop
     loop-holds
-    resume-first-requires
+    note-first-requires
     loop-less
     loop-again
     same-length
