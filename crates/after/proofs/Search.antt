@@ -16,8 +16,8 @@ use Rattle.laws.specs.Slices.{below-or, getD-part, same-or}
 use Rattle.laws.specs.Reach.{reached-below, reached-first, reached-only, reached-onward}
 use Rattle.laws.specs.Bits.{bitAt, bitIn}
 use Rattle.laws.specs.BitSets.{bit-before, bit-cleared, bit-kept, clear-bits, full-bits, past-bit, without-size, withoutBit}
-use Rattle.rules.specs.Graph.{Program, WellFormed, X, edgeCount, kindNumber, nodeCount, sourceAt, targetAt}
-use Rattle.rules.specs.After.{edgesAfter, leads}
+use Rattle.rules.specs.Graph.{Kind, Program, WellFormed, X, edgeCount, kindAt, kindNumber, nodeCount, ownerAt, procCount, sourceAt, targetAt}
+use Rattle.rules.specs.After.{edgesAfter, goesOnFrom, leads}
 use Rattle.rules.specs.ProgramFile.{Listing}
 use Rattle.graph.specs.Table.{edgeBase, nodeBase}
 use Rattle.coverage.specs.declared.Found.{Found}
@@ -26,8 +26,8 @@ use Rattle.coverage.specs.Rows.{edgeFound, firstCommon}
 use Rattle.coverage.specs.RowLaws.{at-is, nothing-is}
 use Rattle.versions.specs.Memory.{InMemory, Memory, memory}
 use Rattle.versions.specs.MemoryLaws.{kind-is, sound, target-is, well-formed}
-use Rattle.after.specs.State.{Adds, BothSized, Gone, Has, IsExit, Reaches, Sized, State, Worked, noted, onFrom}
-use Rattle.after.specs.Claims.{AddsLeaving, Ends, GoesOn, GoesOnAt, Leave, Leaves, Notes, NotesAll, Runs, Spares, Spread, Spreads, Taken, Visit, Visits, returnRow}
+use Rattle.after.specs.State.{Adds, BothSized, Gone, Has, Owners, Reaches, Sized, State, Worked, noted, onFrom, returnsTo}
+use Rattle.after.specs.Claims.{AddsLeaving, Ends, FindsOwners, GoesOn, GoesOnAt, Leave, Leaves, Notes, NotesAll, Runs, Spares, Spread, Spreads, Taken, Visit, Visits, returnRow}
 use Rattle.after.proofs.Adding.{adds-same, adds-then, numbered}
 use Rattle.after.proofs.Returns.{return-below}
 
@@ -47,7 +47,7 @@ module _ (p : Program) (first : ℕ → Bool) where
         begun = λ e l b. keep e (st .begun e l b);
         only = λ e l b. ⊎-elim (st .only e l) (λ y. r e (ltb-true _ _ (and-left _ _ y)) (and-right _ _ y)) (or-cases _ _ (sym (x e) ∙ b));
         edges = λ e f l u m b. keep f (st .edges e f l u m b);
-        exits = λ n f y l b u. keep f (st .exits n f y l b u);
+        gone-by = λ q f y l b u. keep f (st .gone-by q f y l b u);
         notes = st .notes;
       }
     where
@@ -61,34 +61,40 @@ module _ (p : Program) (first : ℕ → Bool) where
   gone-adds n left returns set set′ st z x r =
       record { state = state-adds (onFrom p n) left returns set set′ st z x r; follows = λ f l b. x f ∙ or-right _ (and-both (lt-ltb _ _ l) b) }
 
-  -- The edges of the nodes noted at the exit n are added.
-  gone-exit : (n : ℕ) (left returns set returns′ set′ : List ℕ) → State p first left returns set → length set′ ≡ length set → ((f : ℕ) → f < edgeCount p → sourceAt p f < 512) → IsExit p n
-      → Leave p n returns set returns′ set′ → Reaches p first (onFrom p n) → Gone p first n left returns′ set′
-  unfolding Adds Has Reaches isnt _and_
-  gone-exit n left returns set returns′ set′ st z few y w r =
+  -- The edges of the nodes noted at the procedure of the exit n are added.
+  gone-exit : (n : ℕ) (left returns set returns′ set′ : List ℕ) → State p first left returns set → length set′ ≡ length set → ((f : ℕ) → f < edgeCount p → sourceAt p f < 512)
+      → kindAt p n ≡ X → ownerAt p n < procCount p → Leave p (ownerAt p n) returns set returns′ set′ → Reaches p first (onFrom p n) → Gone p first n left returns′ set′
+  unfolding Adds Has Reaches goesOnFrom isnt _and_
+  gone-exit n left returns set returns′ set′ st z few x own w r =
       record {
         state = record {
           room = added .room;
           begun = added .begun;
           only = added .only;
           edges = added .edges;
-          exits = λ m f x l b u.
-              same-or m n
-              (λ q. follow f l (subst (λ (i : ℕ). onFrom p i (sourceAt p f) ≡ true) q b))
-              (λ q. added .exits m f x l b (sym (kept m (sourceAt p f) q (few f l)) ∙ u));
-          notes = λ m j x l b. st .notes m j x l (and-right (isnt (eqb m n)) (noted returns m j) (sym (w .rest m j l) ∙ b));
+          gone-by = λ q f y l b u.
+              same-or q o
+              (λ e. all f l (subst (λ (i : ℕ). returnsTo p i (sourceAt p f) ≡ true) e b))
+              (λ e. added .gone-by q f y l b (sym (kept q (sourceAt p f) e (few f l)) ∙ u));
+          notes = λ q j y l b. st .notes q j y l (and-right (isnt (eqb q o)) (noted returns q j) (sym (w .rest q j l) ∙ b));
         };
-        follows = follow;
+        follows = λ f l b. all f l (sym (same f) ∙ b);
       }
     where
+      o : ℕ
+      o = ownerAt p n
+
+      same : (f : ℕ) → onFrom p n (sourceAt p f) ≡ returnsTo p o (sourceAt p f)
+      same f = ap (λ (c : Kind). goesOnFrom p c n (sourceAt p f)) x
+
       added : State p first left returns set′
-      added = state-adds (noted returns n) left returns set set′ st z (w .adds) (λ f l b. r f l (st .notes n (sourceAt p f) y (few f l) b .1))
+      added = state-adds (noted returns o) left returns set set′ st z (w .adds) (λ f l b. r f l (same f ∙ st .notes o (sourceAt p f) own (few f l) b .1))
 
-      follow : Has p (onFrom p n) set′
-      follow f l b = ⊎-elim (λ u. w .adds f ∙ or-right _ (and-both (lt-ltb _ _ l) u)) (λ u. w .adds f ∙ or-left _ (st .exits n f y l b u)) (passes? (noted returns n (sourceAt p f)))
+      all : (f : ℕ) → f < edgeCount p → returnsTo p o (sourceAt p f) ≡ true → bitIn set′ f ≡ true
+      all f l b = ⊎-elim (λ u. w .adds f ∙ or-right _ (and-both (lt-ltb _ _ l) u)) (λ u. w .adds f ∙ or-left _ (st .gone-by o f own l b u)) (passes? (noted returns o (sourceAt p f)))
 
-      kept : (m j : ℕ) → (m ≡ n → ⊥) → j < 512 → noted returns′ m j ≡ noted returns m j
-      kept m j q l = w .rest m j l ∙ ap (λ (t : Bool). isnt t and noted returns m j) (ne-eqb m n q)
+      kept : (q j : ℕ) → (q ≡ o → ⊥) → j < 512 → noted returns′ q j ≡ noted returns q j
+      kept q j e l = w .rest q j l ∙ ap (λ (t : Bool). isnt t and noted returns q j) (ne-eqb q o e)
 
   -- An edge that is left no more.
   edge-cleared : (e : ℕ) (left returns set : List ℕ) → Gone p first (targetAt p e) left returns set → State p first (withoutBit left e) returns set
@@ -103,13 +109,13 @@ module _ (p : Program) (first : ℕ → Bool) where
             same-or d e
             (λ q. g .follows f m (subst (λ (i : ℕ). leads p i f ≡ true) q b))
             (λ q. st .edges d f l (sym (bit-kept left e d (λ r. q (sym r))) ∙ u) m b);
-        exits = st .exits;
+        gone-by = st .gone-by;
         notes = st .notes;
       }
 
-  -- Where all is left to go on from, and all is noted that follows an exit.
+  -- Where all is left to go on from, and all returns are noted.
   state-start : (left returns set : List ℕ) → left ≡ replicate 16 18446744073709551615 → edgeCount p ≤ 1024 → ((f : ℕ) → f < edgeCount p → sourceAt p f < 512) → WellFormed p
-      → ((n j : ℕ) → IsExit p n → j < 512 → noted returns n j ≡ onFrom p n j) → 16 ≤ length set
+      → ((q j : ℕ) → q < procCount p → j < 512 → noted returns q j ≡ returnsTo p q j) → 16 ≤ length set
       → ((e : ℕ) → e < edgeCount p → first e ≡ true → bitIn set e ≡ true) → ((e : ℕ) → e < 1024 → bitIn set e ≡ true → (e < edgeCount p) × (first e ≡ true))
       → State p first left returns set
   unfolding edgesAfter
@@ -119,8 +125,8 @@ module _ (p : Program) (first : ℕ → Bool) where
         begun = into;
         only = λ e l b. let r = back e l b in reached-first (edgeCount p) (leads p) first e (r .0) (r .1);
         edges = λ e f l u m b. absurd (both-ways (full-bits left 16 q e (omega arith)) u);
-        exits = λ n f x l b u. absurd (both-ways (all n (sourceAt p f) x (sources f l) ∙ b) u);
-        notes = λ n j x l b. let on = sym (all n j x l) ∙ b in (return-below p wf n j x on, on);
+        gone-by = λ q f y l b u. absurd (both-ways (all q (sourceAt p f) y (sources f l) ∙ b) u);
+        notes = λ q j y l b. let on = sym (all q j y l) ∙ b in (return-below p wf q j on, on);
       }
 
   -- Where no edge of the set is left.
@@ -138,60 +144,60 @@ module _ (p : Program) (first : ℕ → Bool) where
 
 -- ---- `next_return`, `take_return`, `leave`
 
-pub row-searched : (returns row : List ℕ) (n : ℕ) (found : Found) → row ≡ take 8 (drop (8 * n) returns) → edgeFound found ≡ firstCommon row row
-    → edgeFound found ≡ firstCommon (returnRow returns n) (returnRow returns n)
-row-searched returns row n found e told = told ∙ ap (λ (l : List ℕ). firstCommon l l) e
+pub row-searched : (returns row : List ℕ) (q : ℕ) (found : Found) → row ≡ take 8 (drop (8 * q) returns) → edgeFound found ≡ firstCommon row row
+    → edgeFound found ≡ firstCommon (returnRow returns q) (returnRow returns q)
+row-searched returns row q found e told = told ∙ ap (λ (l : List ℕ). firstCommon l l) e
 
--- What a search of a row against itself says of the row: the lowest node noted at n, or that there is none.
-module _ (returns : List ℕ) (n : ℕ) (found : Found) (told : edgeFound found ≡ firstCommon (returnRow returns n) (returnRow returns n)) where
-  row-noted : (j : ℕ) → j < 512 → bitIn (returnRow returns n) j ≡ noted returns n j
+-- What a search of a row against itself says of the row: the lowest node noted at q, or that there is none.
+module _ (returns : List ℕ) (q : ℕ) (found : Found) (told : edgeFound found ≡ firstCommon (returnRow returns q) (returnRow returns q)) where
+  row-noted : (j : ℕ) → j < 512 → bitIn (returnRow returns q) j ≡ noted returns q j
   unfolding bitIn
   row-noted j l =
-      ap (λ (w : ℕ). bitAt w (j % 64)) (getD-part returns (8 * n) 8 (j / 64) 0 (omega arith))
-      ∙ ap₂ (λ (a b : ℕ). bitAt (getD returns a 0) b) (let z : 8 * n + j / 64 ≡ (512 * n + j) / 64 = omega arith in z) (let z : j % 64 ≡ (512 * n + j) % 64 = omega arith in z)
+      ap (λ (w : ℕ). bitAt w (j % 64)) (getD-part returns (8 * q) 8 (j / 64) 0 (omega arith))
+      ∙ ap₂ (λ (a b : ℕ). bitAt (getD returns a 0) b) (let z : 8 * q + j / 64 ≡ (512 * q + j) / 64 = omega arith in z) (let z : j % 64 ≡ (512 * q + j) % 64 = omega arith in z)
 
-  pub at-node : (j : ℕ) → found ≡ At j → (j < 512) × (noted returns n j ≡ true)
+  pub at-node : (j : ℕ) → found ≡ At j → (j < 512) × (noted returns q j ≡ true)
   unfolding firstCommon
-  at-node j q =
-      let r = first-at (λ i. bitIn (returnRow returns n) i and bitIn (returnRow returns n) i) 1024 j (sym told ∙ at-is found j .0 q) in
+  at-node j is =
+      let r = first-at (λ i. bitIn (returnRow returns q) i and bitIn (returnRow returns q) i) 1024 j (sym told ∙ at-is found j .0 is) in
       let b = and-left _ _ (r .1) in
-      let l : j < 512 = below-or j 512 (λ l. l) (λ l. absurd (both-ways b (past-bit (returnRow returns n) j (omega (arith, length-take 8 (drop (8 * n) returns)))))) in
+      let l : j < 512 = below-or j 512 (λ l. l) (λ l. absurd (both-ways b (past-bit (returnRow returns q) j (omega (arith, length-take 8 (drop (8 * q) returns)))))) in
       (l, sym (row-noted j l) ∙ b)
 
-  no-node : found ≡ Nothing → (j : ℕ) → j < 512 → noted returns n j ≡ false
+  no-node : found ≡ Nothing → (j : ℕ) → j < 512 → noted returns q j ≡ false
   unfolding firstCommon
-  no-node q j l =
+  no-node is j l =
       fails _
       (λ b.
       let u = row-noted j l ∙ b in
-      first-none (λ i. bitIn (returnRow returns n) i and bitIn (returnRow returns n) i) 1024 (sym told ∙ nothing-is found .0 q) j (omega arith) (and-both u u))
+      first-none (λ i. bitIn (returnRow returns q) i and bitIn (returnRow returns q) i) 1024 (sym told ∙ nothing-is found .0 is) j (omega arith) (and-both u u))
 
--- The nodes noted at n at first and now no more were gone on from.
-pub record LeavingTo (p : Program) (n : ℕ) (returns₀ set₀ returns set : List ℕ) : Type 0 where
-  pub adds : Adds p (λ j. noted returns₀ n j and isnt (noted returns n j)) set₀ set
-  pub others : (m j : ℕ) → (m ≡ n → ⊥) → j < 512 → noted returns m j ≡ noted returns₀ m j
-  pub less : (j : ℕ) → noted returns n j ≡ true → noted returns₀ n j ≡ true
+-- The nodes noted at q at first and now no more were gone on from.
+pub record LeavingTo (p : Program) (q : ℕ) (returns₀ set₀ returns set : List ℕ) : Type 0 where
+  pub adds : Adds p (λ j. noted returns₀ q j and isnt (noted returns q j)) set₀ set
+  pub others : (r j : ℕ) → (r ≡ q → ⊥) → j < 512 → noted returns r j ≡ noted returns₀ r j
+  pub less : (j : ℕ) → noted returns q j ≡ true → noted returns₀ q j ≡ true
 
 unfoldable pub Leaving : List ℕ → ℕ → List ℕ → List ℕ → List ℕ → List ℕ → Type 0
-Leaving links n returns₀ set₀ returns set =
-    (t nodes : List ℕ) (s : Listing) → InMemory (memory t nodes links) s → 16 ≤ length set₀ → n < nodeCount (s .program)
-    → ((j : ℕ) → j < 512 → noted returns₀ n j ≡ true → j < nodeCount (s .program)) → LeavingTo (s .program) n returns₀ set₀ returns set
+Leaving links q returns₀ set₀ returns set =
+    (t nodes : List ℕ) (s : Listing) → InMemory (memory t nodes links) s → 16 ≤ length set₀ → q < procCount (s .program)
+    → ((j : ℕ) → j < 512 → noted returns₀ q j ≡ true → j < nodeCount (s .program)) → LeavingTo (s .program) q returns₀ set₀ returns set
 
--- How many nodes are noted at n.
+-- How many nodes are noted at q.
 unfoldable pub notedAt : ℕ → List ℕ → ℕ
-notedAt n returns = count 512 (noted returns n)
+notedAt q returns = count 512 (noted returns q)
 
-module _ (links : List ℕ) (n : ℕ) (returns₀ set₀ : List ℕ) where
-  pub leave-past : 512 ≤ n → BothSized returns₀ set₀ returns₀ set₀ (Leaves links returns₀ set₀ n returns₀ set₀)
+module _ (links : List ℕ) (q : ℕ) (returns₀ set₀ : List ℕ) where
+  pub leave-past : 64 ≤ q → BothSized returns₀ set₀ returns₀ set₀ (Leaves links returns₀ set₀ q returns₀ set₀)
   unfolding Leaves
   leave-past l =
       record {
         returns-size = refl;
         size = refl;
-        claim = λ t nodes s h room i v. absurd (let z : ⊥ = omega (arith, sound _ s h .fewNodes) in z);
+        claim = λ t nodes s h room i v. absurd (let z : ⊥ = omega (arith, sound _ s h .fewProcs) in z);
       }
 
-  pub leave-start : BothSized returns₀ set₀ returns₀ set₀ (Leaving links n returns₀ set₀ returns₀ set₀)
+  pub leave-start : BothSized returns₀ set₀ returns₀ set₀ (Leaving links q returns₀ set₀ returns₀ set₀)
   unfolding Leaving Adds _and_ isnt
   leave-start =
       record {
@@ -199,8 +205,8 @@ module _ (links : List ℕ) (n : ℕ) (returns₀ set₀ : List ℕ) where
         size = refl;
         claim = λ t nodes s h room i v.
             record {
-              adds = λ f. sym (or-none (bitIn set₀ f) (and-none (ltb f (edgeCount (s .program))) (noted returns₀ n (sourceAt (s .program) f))));
-              others = λ m j q l. refl;
+              adds = λ f. sym (or-none (bitIn set₀ f) (and-none (ltb f (edgeCount (s .program))) (noted returns₀ q (sourceAt (s .program) f))));
+              others = λ r j d l. refl;
               less = λ j b. b;
             };
       }
@@ -210,31 +216,31 @@ module _ (links : List ℕ) (n : ℕ) (returns₀ set₀ : List ℕ) where
       and-none true false = refl
       and-none false b = refl
 
-  module _ (returns set : List ℕ) (found : Found) (told : edgeFound found ≡ firstCommon (returnRow returns n) (returnRow returns n)) where
+  module _ (returns set : List ℕ) (found : Found) (told : edgeFound found ≡ firstCommon (returnRow returns q) (returnRow returns q)) where
     module _ (j : ℕ) (at : found ≡ At j) where
       pub node-below : j < 512
-      node-below = at-node returns n found told j at .0
+      node-below = at-node returns q found told j at .0
 
-      pub leave-less : (returns′ set′ : List ℕ) → Taken links n j returns set returns′ set′ → notedAt n returns′ < notedAt n returns
+      pub leave-less : (returns′ set′ : List ℕ) → Taken links q j returns set returns′ set′ → notedAt q returns′ < notedAt q returns
       unfolding notedAt
       leave-less returns′ set′ w =
           let d = w .out in
-          let r = at-node returns n found told j at in
-          below-or (count 512 (noted returns′ n)) (count 512 (noted returns n)) (λ l. l)
+          let r = at-node returns q found told j at in
+          below-or (count 512 (noted returns′ q)) (count 512 (noted returns q)) (λ l. l)
           (λ l.
           absurd
-          (both-ways (count-same (noted returns′ n) (noted returns n) 512 (λ i _ b. bit-before returns (512 * n + j) (512 * n + i) (rw d at b)) l j (r .0) (r .1))
-          (ap (λ (w : List ℕ). noted w n j) d ∙ bit-cleared returns (512 * n + j))))
+          (both-ways (count-same (noted returns′ q) (noted returns q) 512 (λ i _ b. bit-before returns (512 * q + j) (512 * q + i) (rw d at b)) l j (r .0) (r .1))
+          (ap (λ (w : List ℕ). noted w q j) d ∙ bit-cleared returns (512 * q + j))))
 
-      pub leave-on : (returns′ set′ : List ℕ) → BothSized returns₀ set₀ returns set (Leaving links n returns₀ set₀ returns set) → Taken links n j returns set returns′ set′
-          → BothSized returns₀ set₀ returns′ set′ (Leaving links n returns₀ set₀ returns′ set′)
+      pub leave-on : (returns′ set′ : List ℕ) → BothSized returns₀ set₀ returns set (Leaving links q returns₀ set₀ returns set) → Taken links q j returns set returns′ set′
+          → BothSized returns₀ set₀ returns′ set′ (Leaving links q returns₀ set₀ returns′ set′)
       unfolding Leaving AddsLeaving
       leave-on returns′ set′ inv w =
           let a = w .adds in
           let d = w .out in
-          let r = at-node returns n found told j at in
+          let r = at-node returns q found told j at in
           record {
-            returns-size = ap length d ∙ without-size returns (512 * n + j) ∙ inv .returns-size;
+            returns-size = ap length d ∙ without-size returns (512 * q + j) ∙ inv .returns-size;
             size = a .size ∙ inv .size;
             claim = λ t nodes s h room i v.
                 let g = inv .claim t nodes s h room i v in
@@ -243,79 +249,83 @@ module _ (links : List ℕ) (n : ℕ) (returns₀ set₀ : List ℕ) where
                   adds = adds-then (s .program) _ (λ m. eqb m j) _ set₀ set set′ (g .adds) (a .claim t nodes s h (omega (arith, inv .size)) (v j (r .0) was))
                       (λ m.
                       same-or m j
-                      (λ q.
-                      and-both (ap (noted returns₀ n) q ∙ was) (true-isnt (ap₂ (λ (w : List ℕ) (x : ℕ). noted w n x) d q ∙ bit-cleared returns (512 * n + j)))
-                      ∙ sym (or-right _ (eq-eqb m j q)))
-                      (λ q.
-                      ap (λ (b : Bool). noted returns₀ n m and isnt b) (ap (λ (w : List ℕ). noted w n m) d ∙ bit-kept returns (512 * n + j) (512 * n + m) (λ e. q (omega arith)))
-                      ∙ sym (or-none _ (ne-eqb m j q))));
-                  others = λ m l q b.
-                      ap (λ (w : List ℕ). noted w m l) d
-                      ∙ bit-kept returns (512 * n + j) (512 * m + l) (λ e. q (let z : m ≡ n = omega (arith, r .0) in z))
-                      ∙ g .others m l q b;
-                  less = λ l b. g .less l (bit-before returns (512 * n + j) (512 * n + l) (rw d at b));
+                      (λ e.
+                      and-both (ap (noted returns₀ q) e ∙ was) (true-isnt (ap₂ (λ (w : List ℕ) (x : ℕ). noted w q x) d e ∙ bit-cleared returns (512 * q + j)))
+                      ∙ sym (or-right _ (eq-eqb m j e)))
+                      (λ e.
+                      ap (λ (b : Bool). noted returns₀ q m and isnt b) (ap (λ (w : List ℕ). noted w q m) d ∙ bit-kept returns (512 * q + j) (512 * q + m) (λ y. e (omega arith)))
+                      ∙ sym (or-none _ (ne-eqb m j e))));
+                  others = λ o l e b.
+                      ap (λ (w : List ℕ). noted w o l) d
+                      ∙ bit-kept returns (512 * q + j) (512 * o + l) (λ y. e (let z : o ≡ q = omega (arith, r .0) in z))
+                      ∙ g .others o l e b;
+                  less = λ l b. g .less l (bit-before returns (512 * q + j) (512 * q + l) (rw d at b));
                 };
           }
 
-    pub leave-end : BothSized returns₀ set₀ returns set (Leaving links n returns₀ set₀ returns set) → found ≡ Nothing
-        → BothSized returns₀ set₀ returns set (Leaves links returns₀ set₀ n returns set)
+    pub leave-end : BothSized returns₀ set₀ returns set (Leaving links q returns₀ set₀ returns set) → found ≡ Nothing
+        → BothSized returns₀ set₀ returns set (Leaves links returns₀ set₀ q returns set)
     unfolding Leaving Leaves isnt _and_
-    leave-end inv q =
+    leave-end inv is =
         record {
           returns-size = inv .returns-size;
           size = inv .size;
           claim = λ t nodes s h room i v.
               let g = inv .claim t nodes s h room i v in
-              let none-noted = no-node returns n found told q in
+              let none-noted = no-node returns q found told is in
               record {
-                adds = adds-same (s .program) _ (noted returns₀ n) set₀ set
+                adds = adds-same (s .program) _ (noted returns₀ q) set₀ set
                     (λ f l.
                     sym
-                    (ap (λ (b : Bool). noted returns₀ n (sourceAt (s .program) f) and isnt b) (none-noted (sourceAt (s .program) f) (few-sources _ s h f l))
-                    ∙ and-ends (noted returns₀ n (sourceAt (s .program) f))))
+                    (ap (λ (b : Bool). noted returns₀ q (sourceAt (s .program) f) and isnt b) (none-noted (sourceAt (s .program) f) (few-sources _ s h f l))
+                    ∙ and-ends (noted returns₀ q (sourceAt (s .program) f))))
                     (g .adds);
-                rest = λ m j l.
-                    same-or m n
-                    (λ e. ap (λ (x : ℕ). noted returns x j) e ∙ none-noted j l ∙ sym (ap (λ (b : Bool). isnt b and noted returns₀ m j) (eq-eqb m n e)))
-                    (λ e. g .others m j e l ∙ sym (ap (λ (b : Bool). isnt b and noted returns₀ m j) (ne-eqb m n e)));
+                rest = λ r j l.
+                    same-or r q
+                    (λ e. ap (λ (x : ℕ). noted returns x j) e ∙ none-noted j l ∙ sym (ap (λ (b : Bool). isnt b and noted returns₀ r j) (eq-eqb r q e)))
+                    (λ e. g .others r j e l ∙ sym (ap (λ (b : Bool). isnt b and noted returns₀ r j) (ne-eqb r q e)));
               };
         }
 
 -- ---- `go_on`
 
-module _ (nodes links : List ℕ) (returns set : List ℕ) (n v : ℕ) (ev : v ≡ getD nodes (nodeBase n) 0) where
-  pub on-exit : (returns′ set′ : List ℕ) → v ≡ 3 → BothSized returns set returns′ set′ (Leaves links returns set n returns′ set′)
-      → BothSized returns set returns′ set′ (GoesOn nodes links returns set n returns′ set′)
-  unfolding Leaves GoesOn
-  on-exit returns′ set′ z w =
+module _ (nodes links owners returns set : List ℕ) (n v : ℕ) (ev : v ≡ getD nodes (nodeBase n) 0) where
+  pub on-exit : (q : ℕ) (returns′ set′ : List ℕ) → v ≡ 3 → q ≡ getD owners n 0 → BothSized returns set returns′ set′ (Leaves links returns set q returns′ set′)
+      → BothSized returns set returns′ set′ (GoesOn nodes links owners returns set n returns′ set′)
+  unfolding Leaves GoesOn Owners
+  on-exit q returns′ set′ z eq w =
       record {
         returns-size = w .returns-size;
         size = w .size;
-        claim = λ t left s first h st i r.
-            let y : IsExit (s .program) n = record { below = i; kind = numbered _ X (sym (ev ∙ kind-is _ s h n i) ∙ z) } in
-            gone-exit (s .program) first n left returns set returns′ set′ st (w .size) (few-sources _ s h) y
-            (w .claim t nodes s h (st .room) i (λ j l b. st .notes n j y l b .0)) r;
+        claim = λ t left s first h own st i r.
+            let p : Program = s .program in
+            let kind : kindAt p n ≡ X = numbered _ X (sym (ev ∙ kind-is _ s h n i) ∙ z) in
+            let is : q ≡ ownerAt p n = eq ∙ own n (record { below = i; kind = kind }) in
+            let b = well-formed _ s h .owners n i in
+            let l : q < procCount p = rw is b in
+            gone-exit p first n left returns set returns′ set′ st (w .size) (few-sources _ s h) kind b
+            (subst (λ (o : ℕ). Leave p o returns set returns′ set′) is (w .claim t nodes s h (st .room) l (λ j k y. st .notes q j l k y .0))) r;
       }
 
   pub on-other : (j : ℕ) (set′ : List ℕ) → (v ≡ 3 → ⊥) → GoesOnAt nodes links n j → Sized set set′ (AddsLeaving links j set set′)
-      → BothSized returns set returns set′ (GoesOn nodes links returns set n returns set′)
+      → BothSized returns set returns set′ (GoesOn nodes links owners returns set n returns set′)
   unfolding GoesOn GoesOnAt AddsLeaving
   on-other j set′ z at a =
       record {
         returns-size = refl;
         size = a .size;
-        claim = λ t left s first h st i r.
+        claim = λ t left s first h own st i r.
             let y = at t s h i (λ x. z (ev ∙ kind-is _ s h n i ∙ ap kindNumber x)) in
             gone-adds (s .program) first n left returns set set′ st (a .size) (adds-same (s .program) _ _ set set′ (λ f l. y .1 (sourceAt (s .program) f)) (a .claim t nodes s h (st .room) (y .0))) r;
       }
 
 -- ---- `visit`
 
-pub visit-done : (nodes links left returns set : List ℕ) (e n : ℕ) (left′ returns′ set′ : List ℕ) → n ≡ getD links (edgeBase e + 3) 0
-    → BothSized returns set returns′ set′ (GoesOn nodes links returns set n returns′ set′) → left′ ≡ withoutBit left e
-    → Worked left returns set left′ returns′ set′ (Visit nodes links left returns set e left′ returns′ set′)
+pub visit-done : (nodes links owners left returns set : List ℕ) (e n : ℕ) (left′ returns′ set′ : List ℕ) → n ≡ getD links (edgeBase e + 3) 0
+    → BothSized returns set returns′ set′ (GoesOn nodes links owners returns set n returns′ set′) → left′ ≡ withoutBit left e
+    → Worked left returns set left′ returns′ set′ (Visit nodes links owners left returns set e left′ returns′ set′)
 unfolding GoesOn Visits Reaches leads edgesAfter
-visit-done nodes links left returns set e n left′ returns′ set′ en w q =
+visit-done nodes links owners left returns set e n left′ returns′ set′ en w q =
     record {
       left-size = ap length q ∙ without-size left e;
       returns-size = w .returns-size;
@@ -323,11 +333,11 @@ visit-done nodes links left returns set e n left′ returns′ set′ en w q =
       less = λ i u. bit-before left e i (rw q at u);
       claim = record {
         dropped = ap (λ (l : List ℕ). bitIn l e) q ∙ bit-cleared left e;
-        visits = λ t s first h st l b.
+        visits = λ t s first h own st l b.
             let p : Program = s .program in
             let i = state-below p first left returns set st e l b in
             let d : n ≡ targetAt p e = en ∙ target-is _ s h e i in
-            let g = w .claim t left s first h st (rw d (well-formed _ s h .targets e i))
+            let g = w .claim t left s first h own st (rw d (well-formed _ s h .targets e i))
             (λ f m y. reached-onward (edgeCount p) (leads p) first e f (st .only e l b) m (subst (λ (j : ℕ). onFrom p j (sourceAt p f) ≡ true) d y)) in
             rw q (edge-cleared p first e left returns′ set′ (subst (λ (j : ℕ). Gone p first j left returns′ set′) d g));
       };
@@ -339,10 +349,10 @@ visit-done nodes links left returns set e n left′ returns′ set′ en w q =
 unfoldable pub edgesLeft : List ℕ → ℕ
 edgesLeft left = count 1024 (bitIn left)
 
-module _ (nodes links : List ℕ) where
-  pub run-start : (left returns set : List ℕ) → Worked left returns set left returns set (Runs nodes links left returns set left returns set)
+module _ (nodes links owners : List ℕ) where
+  pub run-start : (left returns set : List ℕ) → Worked left returns set left returns set (Runs nodes links owners left returns set left returns set)
   unfolding Runs
-  run-start left returns set = record { left-size = refl; returns-size = refl; size = refl; less = λ i b. b; claim = λ t s first h st. st }
+  run-start left returns set = record { left-size = refl; returns-size = refl; size = refl; less = λ i b. b; claim = λ t s first h own st. st }
 
   module _ (left returns set : List ℕ) (found : Found) (told : edgeFound found ≡ firstCommon left set) where
     at-edge : (e : ℕ) → found ≡ At e → (e < 1024) × (bitIn left e ≡ true) × (bitIn set e ≡ true)
@@ -351,7 +361,7 @@ module _ (nodes links : List ℕ) where
         let r = first-at (λ i. bitIn left i and bitIn set i) 1024 e (sym told ∙ at-is found e .0 q) in
         (r .0, and-left _ _ (r .1), and-right _ _ (r .1))
 
-    module _ (e : ℕ) (at : found ≡ At e) (left′ returns′ set′ : List ℕ) (w : Worked left returns set left′ returns′ set′ (Visit nodes links left returns set e left′ returns′ set′)) where
+    module _ (e : ℕ) (at : found ≡ At e) (left′ returns′ set′ : List ℕ) (w : Worked left returns set left′ returns′ set′ (Visit nodes links owners left returns set e left′ returns′ set′)) where
       pub run-less : edgesLeft left′ < edgesLeft left
       unfolding edgesLeft
       run-less =
@@ -359,8 +369,8 @@ module _ (nodes links : List ℕ) where
           below-or (count 1024 (bitIn left′)) (count 1024 (bitIn left)) (λ l. l)
           (λ l. absurd (both-ways (count-same (bitIn left′) (bitIn left) 1024 (λ i _ b. w .less i b) l e (r .0) (r .1)) (w .claim .dropped)))
 
-      pub run-on : (left₀ returns₀ set₀ : List ℕ) → Worked left₀ returns₀ set₀ left returns set (Runs nodes links left₀ returns₀ set₀ left returns set)
-          → Worked left₀ returns₀ set₀ left′ returns′ set′ (Runs nodes links left₀ returns₀ set₀ left′ returns′ set′)
+      pub run-on : (left₀ returns₀ set₀ : List ℕ) → Worked left₀ returns₀ set₀ left returns set (Runs nodes links owners left₀ returns₀ set₀ left returns set)
+          → Worked left₀ returns₀ set₀ left′ returns′ set′ (Runs nodes links owners left₀ returns₀ set₀ left′ returns′ set′)
       unfolding Runs Visits
       run-on left₀ returns₀ set₀ inv =
           let r = at-edge e at in
@@ -369,11 +379,11 @@ module _ (nodes links : List ℕ) where
             returns-size = w .returns-size ∙ inv .returns-size;
             size = w .size ∙ inv .size;
             less = λ i b. inv .less i (w .less i b);
-            claim = λ t s first h st. w .claim .visits t s first h (inv .claim t s first h st) (r .0) (r .2);
+            claim = λ t s first h own st. w .claim .visits t s first h own (inv .claim t s first h own st) (r .0) (r .2);
           }
 
-    pub run-end : (left₀ returns₀ set₀ : List ℕ) → Worked left₀ returns₀ set₀ left returns set (Runs nodes links left₀ returns₀ set₀ left returns set) → found ≡ Nothing
-        → Worked left₀ returns₀ set₀ left returns set (Ends nodes links left₀ returns₀ set₀ left returns set)
+    pub run-end : (left₀ returns₀ set₀ : List ℕ) → Worked left₀ returns₀ set₀ left returns set (Runs nodes links owners left₀ returns₀ set₀ left returns set) → found ≡ Nothing
+        → Worked left₀ returns₀ set₀ left returns set (Ends nodes links owners left₀ returns₀ set₀ left returns set)
     run-end left₀ returns₀ set₀ inv q =
         record {
           left-size = inv .left-size;
@@ -385,24 +395,26 @@ module _ (nodes links : List ℕ) where
 
 -- ---- `spread`
 
-pub spread-done : (nodes links : List ℕ) (c : ℕ) (left returns₀ returns set left′ returns′ set′ : List ℕ) → returns₀ ≡ replicate 4096 0
-    → Sized returns₀ returns (NotesAll nodes links c returns₀ returns) → left ≡ replicate 16 18446744073709551615
-    → Worked left returns set left′ returns′ set′ (Ends nodes links left returns set left′ returns′ set′) → Spread nodes links c set set′
-unfolding Spreads Spares Runs NotesAll Notes _or_
-spread-done nodes links c left returns₀ returns set left′ returns′ set′ q₀ noting q w =
+pub spread-done : (nodes links : List ℕ) (c : ℕ) (owners₀ owners left returns₀ returns set left′ returns′ set′ : List ℕ) → owners₀ ≡ replicate 512 0
+    → Sized owners₀ owners (FindsOwners links owners₀ owners) → returns₀ ≡ replicate 512 0 → Sized returns₀ returns (NotesAll nodes links c returns₀ returns)
+    → left ≡ replicate 16 18446744073709551615 → Worked left returns set left′ returns′ set′ (Ends nodes links owners left returns set left′ returns′ set′) → Spread nodes links c set set′
+unfolding Spreads Spares Runs FindsOwners NotesAll Notes _or_
+spread-done nodes links c owners₀ owners left returns₀ returns set left′ returns′ set′ q₁ owned q₀ noting q w =
     record {
       spreads = λ t s h k room out e l. state-end (s .program) (bitIn set) left′ returns′ set′ (done t s h k room out) (w .claim .none-left) (sound _ s h .fewEdges) e l;
       spare = λ t s h k room out e l m. fails _ (λ b. let z : ⊥ = omega (arith, state-below (s .program) (bitIn set) left′ returns′ set′ (done t s h k room out) e l b) in z);
       size = w .size;
     }
   where
+    long : (l : List ℕ) → l ≡ replicate 512 0 → 512 ≤ length l
+    long l e = omega (arith, ap length e ∙ length-replicate {A = ℕ} 512 0)
+
     done : (t : List ℕ) (s : Listing) → InMemory (memory t nodes links) s → c ≡ nodeCount (s .program) → 16 ≤ length set
         → ((e : ℕ) → e < 1024 → edgeCount (s .program) ≤ e → bitIn set e ≡ false) → State (s .program) (bitIn set) left′ returns′ set′
     done t s h k room out =
-        w .claim .runs t s (bitIn set) h
+        w .claim .runs t s (bitIn set) h (owned .claim t nodes s h (long owners₀ q₁))
         (state-start (s .program) (bitIn set) left returns set q (sound _ s h .fewEdges) (few-sources _ s h) (well-formed _ s h)
-        (λ n j x l.
-        noting .claim t s h k (omega (arith, ap length q₀ ∙ length-replicate {A = ℕ} 4096 0)) n j x l ∙ ap (λ (b : Bool). b or onFrom (s .program) n j) (clear-bits returns₀ 4096 q₀ (512 * n + j)))
+        (λ r j y l. noting .claim t s h k (long returns₀ q₀) r j y l ∙ ap (λ (b : Bool). b or returnsTo (s .program) r j) (clear-bits returns₀ 512 q₀ (512 * r + j)))
         room (λ e l b. b)
         (λ e l b. below-or e (edgeCount (s .program)) (λ m. (m, b)) (λ m. absurd (both-ways b (out e l m)))))
 

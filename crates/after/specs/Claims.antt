@@ -10,13 +10,13 @@ use Rattle.laws.specs.Tests.{_and_, _or_, any, has, isnt}
 use Rattle.laws.specs.Bits.{bitIn}
 use Rattle.laws.specs.BitSets.{withoutBit}
 use Rattle.rules.specs.Text.{Bytes}
-use Rattle.rules.specs.Graph.{C, Program, X, calleeCount, called, edgeCount, kindAt, nodeCount, ownerAt, sameKind}
+use Rattle.rules.specs.Graph.{C, Program, X, calleeCount, edgeCount, kindAt, nodeCount, procCount}
 use Rattle.rules.specs.After.{edgesAfter, resumesAt}
 use Rattle.rules.specs.ProgramFile.{Listing}
 use Rattle.graph.specs.Table.{calleesFrom}
 use Rattle.coverage.specs.Rows.{firstCommon}
 use Rattle.versions.specs.Memory.{InMemory, memory}
-use Rattle.after.specs.State.{Adds, Gone, IsExit, Reaches, Sized, State, noted, onFrom}
+use Rattle.after.specs.State.{Adds, Gone, Owners, Reaches, Sized, State, fromCall, fromCallee, noted, onFrom, returnsTo}
 
 -- ---- the crate's promise
 
@@ -58,16 +58,13 @@ pub record IsCall (p : Program) (k : ℕ) : Type 0 where
   pub below : k < nodeCount p
   pub kind : kindAt p k ≡ C
 
--- A run that has come to the exit n may go on from the node j: behind the callee i of the call k; at the node k, if that is a call.
-abbrev pub fromCallee : Program → ℕ → ℕ → ℕ → ℕ → Bool
-fromCallee p n k j i = eqb (called p k i) (ownerAt p n) and eqb j (resumesAt p k i)
+-- `find_owners`
+unfoldable pub FindsOwners : List ℕ → List ℕ → List ℕ → Type 0
+FindsOwners links owners owners′ = (t nodes : List ℕ) (s : Listing) → InMemory (memory t nodes links) s → 512 ≤ length owners → Owners (s .program) owners′
 
-abbrev pub fromCall : Program → ℕ → ℕ → ℕ → Bool
-fromCall p n j k = sameKind (kindAt p k) C and any (calleeCount p k) (fromCallee p n k j)
-
--- The second table is the first with the node j noted at the exit n where these pass T; each table has room for 512 rows.
+-- The second table is the first with the nodes j noted at the procedures q that pass T, if it has room for 64 rows.
 unfoldable pub Notes : Program → (ℕ → ℕ → Bool) → List ℕ → List ℕ → Type 0
-Notes p T returns returns′ = 4096 ≤ length returns → (n j : ℕ) → IsExit p n → j < 512 → noted returns′ n j ≡ (noted returns n j or T n j)
+Notes p T returns returns′ = 512 ≤ length returns → (q j : ℕ) → q < procCount p → j < 512 → noted returns′ q j ≡ (noted returns q j or T q j)
 
 -- `resumes_at`
 unfoldable pub ResumesAt : List ℕ → ℕ → ℕ → ℕ → Type 0
@@ -79,58 +76,58 @@ ResumesAt links k rest r =
 unfoldable pub NotesFirst : List ℕ → ℕ → ℕ → List ℕ → List ℕ → Type 0
 NotesFirst links k callees returns returns′ =
     (t nodes : List ℕ) (s : Listing) → InMemory (memory t nodes links) s → IsCall (s .program) k → (i : ℕ) → callees ≡ calleesFrom (s .program) k i
-    → Notes (s .program) (λ n j. fromCallee (s .program) n k j i) returns returns′
+    → Notes (s .program) (λ q j. fromCallee (s .program) q k j i) returns returns′
 
 -- `note_callees`
 unfoldable pub NotesCallees : List ℕ → ℕ → ℕ → List ℕ → List ℕ → Type 0
 NotesCallees links k callees returns returns′ =
     (t nodes : List ℕ) (s : Listing) → InMemory (memory t nodes links) s → IsCall (s .program) k → callees ≡ calleesFrom (s .program) k 0
-    → Notes (s .program) (λ n j. any (calleeCount (s .program) k) (fromCallee (s .program) n k j)) returns returns′
+    → Notes (s .program) (λ q j. any (calleeCount (s .program) k) (fromCallee (s .program) q k j)) returns returns′
 
 -- `note_call`
 unfoldable pub NotesCall : List ℕ → List ℕ → ℕ → List ℕ → List ℕ → Type 0
 NotesCall nodes links k returns returns′ =
-    (t : Bytes) (s : Listing) → InMemory (memory t nodes links) s → k < nodeCount (s .program) → Notes (s .program) (λ n j. fromCall (s .program) n j k) returns returns′
+    (t : Bytes) (s : Listing) → InMemory (memory t nodes links) s → k < nodeCount (s .program) → Notes (s .program) (λ q j. fromCall (s .program) q j k) returns returns′
 
 -- `note_all`
 unfoldable pub NotesAll : List ℕ → List ℕ → ℕ → List ℕ → List ℕ → Type 0
 NotesAll nodes links count returns returns′ =
-    (t : Bytes) (s : Listing) → InMemory (memory t nodes links) s → count ≡ nodeCount (s .program) → Notes (s .program) (onFrom (s .program)) returns returns′
+    (t : Bytes) (s : Listing) → InMemory (memory t nodes links) s → count ≡ nodeCount (s .program) → Notes (s .program) (returnsTo (s .program)) returns returns′
 
 -- ---- the worklist
 
--- The words of the row of the node n in a table of returns.
+-- The words of the row of the procedure q in a table of returns.
 abbrev pub returnRow : List ℕ → ℕ → List ℕ
-returnRow returns n = take 8 (drop (8 * n) returns)
+returnRow returns q = take 8 (drop (8 * q) returns)
 
--- `take_return`: the edges of the node j are added, and it is noted at the exit n no more, whatever the tables hold.
-pub record Taken (links : List ℕ) (n j : ℕ) (returns set returns′ set′ : List ℕ) : Type 0 where
+-- `take_return`: the edges of the node j are added, and it is noted at the procedure q no more, whatever the tables hold.
+pub record Taken (links : List ℕ) (q j : ℕ) (returns set returns′ set′ : List ℕ) : Type 0 where
   pub adds : Sized set set′ (AddsLeaving links j set set′)
-  pub out : returns′ ≡ withoutBit returns (512 * n + j)
+  pub out : returns′ ≡ withoutBit returns (512 * q + j)
 
--- `leave`: the edges of the nodes noted at n are added, and these are noted no more.
-pub record Leave (p : Program) (n : ℕ) (returns set returns′ set′ : List ℕ) : Type 0 where
-  pub adds : Adds p (noted returns n) set set′
-  pub rest : (m j : ℕ) → j < 512 → noted returns′ m j ≡ (isnt (eqb m n) and noted returns m j)
+-- `leave`: the edges of the nodes noted at q are added, and these are noted no more.
+pub record Leave (p : Program) (q : ℕ) (returns set returns′ set′ : List ℕ) : Type 0 where
+  pub adds : Adds p (noted returns q) set set′
+  pub rest : (r j : ℕ) → j < 512 → noted returns′ r j ≡ (isnt (eqb r q) and noted returns r j)
 
 module _ (links returns set : List ℕ) where
   unfoldable pub Leaves : ℕ → List ℕ → List ℕ → Type 0
-  Leaves n returns′ set′ =
-      (t nodes : List ℕ) (s : Listing) → InMemory (memory t nodes links) s → 16 ≤ length set → n < nodeCount (s .program)
-      → ((j : ℕ) → j < 512 → noted returns n j ≡ true → j < nodeCount (s .program)) → Leave (s .program) n returns set returns′ set′
+  Leaves q returns′ set′ =
+      (t nodes : List ℕ) (s : Listing) → InMemory (memory t nodes links) s → 16 ≤ length set → q < procCount (s .program)
+      → ((j : ℕ) → j < 512 → noted returns q j ≡ true → j < nodeCount (s .program)) → Leave (s .program) q returns set returns′ set′
 
-module _ (nodes links returns set : List ℕ) where
+module _ (nodes links owners returns set : List ℕ) where
   -- `go_on`: what follows the node n is in the set.
   unfoldable pub GoesOn : ℕ → List ℕ → List ℕ → Type 0
   GoesOn n returns′ set′ =
-      (t left : List ℕ) (s : Listing) (first : ℕ → Bool) → InMemory (memory t nodes links) s → State (s .program) first left returns set
+      (t left : List ℕ) (s : Listing) (first : ℕ → Bool) → InMemory (memory t nodes links) s → Owners (s .program) owners → State (s .program) first left returns set
       → n < nodeCount (s .program) → Reaches (s .program) first (onFrom (s .program) n) → Gone (s .program) first n left returns′ set′
 
-module _ (nodes links left returns set : List ℕ) where
+module _ (nodes links owners left returns set : List ℕ) where
   -- `visit`: the state is kept, where e is an edge of the set; e is left no more, whatever the tables hold.
   unfoldable pub Visits : ℕ → List ℕ → List ℕ → List ℕ → Type 0
   Visits e left′ returns′ set′ =
-      (t : Bytes) (s : Listing) (first : ℕ → Bool) → InMemory (memory t nodes links) s → State (s .program) first left returns set
+      (t : Bytes) (s : Listing) (first : ℕ → Bool) → InMemory (memory t nodes links) s → Owners (s .program) owners → State (s .program) first left returns set
       → e < 1024 → bitIn set e ≡ true → State (s .program) first left′ returns′ set′
 
   pub record Visit (e : ℕ) (left′ returns′ set′ : List ℕ) : Type 0 where
@@ -140,7 +137,7 @@ module _ (nodes links left returns set : List ℕ) where
   -- `run`: the state is kept, and no edge of the set is left.
   unfoldable pub Runs : List ℕ → List ℕ → List ℕ → Type 0
   Runs left′ returns′ set′ =
-      (t : Bytes) (s : Listing) (first : ℕ → Bool) → InMemory (memory t nodes links) s → State (s .program) first left returns set
+      (t : Bytes) (s : Listing) (first : ℕ → Bool) → InMemory (memory t nodes links) s → Owners (s .program) owners → State (s .program) first left returns set
       → State (s .program) first left′ returns′ set′
 
   pub record Ends (left′ returns′ set′ : List ℕ) : Type 0 where

@@ -6,6 +6,9 @@ use Rattle.after.proofs.go_on.Tie as tie
 kind-requires : tie.Need-kind-requires
 kind-requires c κs = search needs
 
+get-requires : tie.Need-get-requires
+get-requires c κs = search needs
+
 leave-requires : tie.Need-leave-requires
 leave-requires c κs = search needs
 
@@ -35,6 +38,7 @@ go-on-spec =
     tie.close
     (tie.spec
     kind-requires
+    get-requires
     leave-requires
     same-length
     same-length-2

@@ -7,10 +7,10 @@ use Rattle.after.proofs.leave.Statement.{statement}
 use Rattle.after.proofs.leave.Tie as tie
 
 abbrev Inv-loop : tie.InvT-loop
-Inv-loop links returns₀ set₀ n returns set = (n < 512) × BothSized returns₀ set₀ returns set (Leaving links n returns₀ set₀ returns set)
+Inv-loop links returns₀ set₀ q returns set = (q < 64) × BothSized returns₀ set₀ returns set (Leaving links q returns₀ set₀ returns set)
 
 abbrev μ-loop : tie.MeasureT-loop
-μ-loop links returns₀ set₀ n returns set = notedAt n returns
+μ-loop links returns₀ set₀ q returns set = notedAt q returns
 
 returns : tie.Need-returns Inv-loop μ-loop
 returns c = search (all, needs)

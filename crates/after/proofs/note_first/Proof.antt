@@ -6,9 +6,6 @@ use Rattle.after.proofs.note_first.Tie as tie
 callee-requires : tie.Need-callee-requires
 callee-requires c κs = search needs
 
-exit-requires : tie.Need-exit-requires
-exit-requires c κs = search needs
-
 resumes-at-requires : tie.Need-resumes-at-requires
 resumes-at-requires c κs = search needs
 
@@ -38,7 +35,6 @@ note-first-spec =
     tie.close
     (tie.spec
     callee-requires
-    exit-requires
     resumes-at-requires
     returns
     returns-2

@@ -7,10 +7,10 @@ use Rattle.after.proofs.run.Statement.{statement}
 use Rattle.after.proofs.run.Tie as tie
 
 abbrev Inv-loop : tie.InvT-loop
-Inv-loop nodes links left₀ returns₀ set₀ left returns set = Worked left₀ returns₀ set₀ left returns set (Runs nodes links left₀ returns₀ set₀ left returns set)
+Inv-loop nodes links owners left₀ returns₀ set₀ left returns set = Worked left₀ returns₀ set₀ left returns set (Runs nodes links owners left₀ returns₀ set₀ left returns set)
 
 abbrev μ-loop : tie.MeasureT-loop
-μ-loop nodes links left₀ returns₀ set₀ left returns set = edgesLeft left
+μ-loop nodes links owners left₀ returns₀ set₀ left returns set = edgesLeft left
 
 loop-holds : tie.Need-loop-holds Inv-loop μ-loop
 loop-holds c = search (all, needs)
