@@ -1,31 +1,28 @@
 -- The turns and the returns of the functions that add edges, as `search` finds them: the premises are what the code holds there.
-use mathlib.Core.Path.{_≡_, refl, sym, ap, _∙_, subst}
+use mathlib.Core.Path.{_≡_, refl, sym, ap, _∙_}
 use mathlib.Core.Logic.{_⊎_, inl, inr, ⊎-elim}
 use mathlib.Core.Bool.{Bool, true, false}
 use mathlib.Core.List.{List}
-use Prim.Native.Nat.{ℕ, suc, _+_, _-_, _/_, _%_, _≤_, _<_}
-use native.Mathlib.Numerals.{add-one}
+use Prim.Native.Nat.{ℕ, _+_, _-_, _%_, _≤_, _<_}
 use native.Mathlib.Omega.{arith}
-use borrow.Author.Tests.{eqb-true, eq-eqb, lt-ltb, le-ltb, ltb-true, ne-eqb}
+use borrow.Author.Tests.{eqb-true, eq-eqb, lt-ltb, le-ltb, ltb-true}
 use lib.Dec.{eqb, ltb}
 use lib.ListN.{length, getD}
-use Rattle.laws.specs.Tests.{_and_, _or_, any}
+use Rattle.laws.specs.Tests.{_and_, _or_}
 use Rattle.laws.specs.TestLaws.{and-both, and-left, and-right, both-ways, eqb-self, fails, or-cases, or-left, or-none, or-right, same-test}
-use Rattle.laws.specs.Lists.{choose-yes, choose-no}
 use Rattle.laws.specs.Slices.{below-or}
 use Rattle.laws.specs.Chain.{Walk, walk-start, walk-step, walk-end}
 use Rattle.laws.specs.Bits.{bitIn}
 use Rattle.laws.specs.BitSets.{bit-with, with-size, withBit}
-use Rattle.rules.specs.Graph.{C, E, Kind, Program, S, WellFormed, X, calleeCount, called, edgeCount, entry, exit, kindAt, kindNumber, nodeCount, ownerAt, procCount, sameKind, sourceAt}
-use Rattle.rules.specs.Run.{another}
-use Rattle.rules.specs.After.{goesOnFrom, resumesAt}
+use Rattle.rules.specs.Graph.{C, E, Kind, Program, S, X, called, edgeCount, entry, kindAt, kindNumber, nodeCount, sameKind, sourceAt}
+use Rattle.rules.specs.After.{goesOnFrom}
 use Rattle.rules.specs.ProgramFile.{Listing}
-use Rattle.rules.specs.Proofs.GraphLaws.{called-below, entry-is, exit-only, exit-owner, sameKind-of, sameKind-true}
-use Rattle.graph.specs.Table.{calleesFrom, edgeBase, headBase, nodeBase, procBase}
+use Rattle.rules.specs.Proofs.GraphLaws.{called-below, entry-is, sameKind-true}
+use Rattle.graph.specs.Table.{edgeBase, headBase, nodeBase, procBase}
 use Rattle.graph.specs.Reads.{upTo, upTo-le}
 use Rattle.versions.specs.Memory.{InMemory, memory}
 use Rattle.versions.specs.MemoryLaws.{callees-are, edges-chained, kind-is, sound, well-formed}
-use Rattle.versions.specs.Called.{callee-there, callees-end, callees-on, fewer-callees, its-entry, its-exit}
+use Rattle.versions.specs.Called.{its-entry}
 use Rattle.after.specs.State.{Adds, Sized}
 use Rattle.after.specs.Claims.{AddsLeaving, GoesOnAt}
 

@@ -53,8 +53,8 @@ fn goes_on_at(nodes: &[usize], links: &[usize], n: usize) -> usize
 
 // ---- the returns
 
-// Finds the procedure of each exit. The last of 64 comes first: what stands behind the procedures of a program is put before theirs, and lost where they
-// are put.
+// Finds the procedure of each exit, from the last of 64 rows down: those past the procedures of the program hold anything, and what is put for them is put
+// over by the program's own.
 fn find_owners(links: &[usize], owners: &mut [usize])
     ensures { λ _. ⌜ Sized (now (owners .entry)) (now (owners .exit))
         (FindsOwners (now (links .entry)) (now (owners .entry)) (now (owners .exit))) ⌝ }
