@@ -35,6 +35,24 @@ use Rattle.after.proofs.Returns.{return-below}
 few-sources : (m : Memory) (s : Listing) → InMemory m s → (f : ℕ) → f < edgeCount (s .program) → sourceAt (s .program) f < 512
 few-sources m s h f l = omega (arith, sound m s h .fewNodes, well-formed m s h .sources f l)
 
+-- ---- the next one of a set, and that there are fewer then
+
+-- What a search for a bit that two sets have found: one of both; or that there is none.
+module _ (a b : List ℕ) (found : Found) (told : edgeFound found ≡ firstCommon a b) where
+  common-at : (i : ℕ) → found ≡ At i → (i < 1024) × (bitIn a i ≡ true) × (bitIn b i ≡ true)
+  unfolding firstCommon
+  common-at i is =
+      let r = first-at (λ j. bitIn a j and bitIn b j) 1024 i (sym told ∙ at-is found i .0 is) in
+      (r .0, and-left _ _ (r .1), and-right _ _ (r .1))
+
+none-common : (a b : List ℕ) → firstCommon a b ≡ none → (i : ℕ) → i < 1024 → bitIn b i ≡ true → bitIn a i ≡ false
+unfolding firstCommon
+none-common a b e i l y = fails _ (λ x. first-none (λ j. bitIn a j and bitIn b j) 1024 e i l (and-both x y))
+
+-- Fewer pass, where one no longer does and none does that did not.
+fewer : (f g : ℕ → Bool) (n i : ℕ) → ((j : ℕ) → f j ≡ true → g j ≡ true) → i < n → g i ≡ true → f i ≡ false → count n f < count n g
+fewer f g n i within l was gone = below-or (count n f) (count n g) (λ m. m) (λ m. absurd (both-ways (count-same f g n (λ j _ b. within j b) m i l was) gone))
+
 -- ---- the state
 
 module _ (p : Program) (first : ℕ → Bool) where
@@ -132,11 +150,11 @@ module _ (p : Program) (first : ℕ → Bool) where
   -- Where no edge of the set is left.
   state-end : (left returns set : List ℕ) → State p first left returns set → firstCommon left set ≡ none → edgeCount p ≤ 1024 → (e : ℕ) → e < edgeCount p
       → bitIn set e ≡ has (edgesAfter p first) e
-  unfolding edgesAfter firstCommon
+  unfolding edgesAfter
   state-end left returns set st ended few e l =
       same-test _ _ (st .only e (omega arith))
       (λ b. reached-only (edgeCount p) (leads p) first (λ i. (i < edgeCount p) × (bitIn set i ≡ true)) (λ i m t. (m, st .begun i m t))
-      (λ d f y m t. (m, st .edges d f (y .0) (fails _ (λ u. first-none (λ i. bitIn left i and bitIn set i) 1024 ended d (omega (arith, y .0)) (and-both u (y .1)))) m t)) e b .1)
+      (λ d f y m t. (m, st .edges d f (y .0) (none-common left set ended d (omega (arith, y .0)) (y .1)) m t)) e b .1)
 
   state-below : (left returns set : List ℕ) → State p first left returns set → (e : ℕ) → e < 1024 → bitIn set e ≡ true → e < edgeCount p
   unfolding edgesAfter
@@ -156,21 +174,18 @@ module _ (returns : List ℕ) (q : ℕ) (found : Found) (told : edgeFound found 
       ap (λ (w : ℕ). bitAt w (j % 64)) (getD-part returns (8 * q) 8 (j / 64) 0 (omega arith))
       ∙ ap₂ (λ (a b : ℕ). bitAt (getD returns a 0) b) (let z : 8 * q + j / 64 ≡ (512 * q + j) / 64 = omega arith in z) (let z : j % 64 ≡ (512 * q + j) % 64 = omega arith in z)
 
-  pub at-node : (j : ℕ) → found ≡ At j → (j < 512) × (noted returns q j ≡ true)
-  unfolding firstCommon
+  at-node : (j : ℕ) → found ≡ At j → (j < 512) × (noted returns q j ≡ true)
   at-node j is =
-      let r = first-at (λ i. bitIn (returnRow returns q) i and bitIn (returnRow returns q) i) 1024 j (sym told ∙ at-is found j .0 is) in
-      let b = and-left _ _ (r .1) in
+      let b = common-at (returnRow returns q) (returnRow returns q) found told j is .1 in
       let l : j < 512 = below-or j 512 (λ l. l) (λ l. absurd (both-ways b (past-bit (returnRow returns q) j (omega (arith, length-take 8 (drop (8 * q) returns)))))) in
       (l, sym (row-noted j l) ∙ b)
 
   no-node : found ≡ Nothing → (j : ℕ) → j < 512 → noted returns q j ≡ false
-  unfolding firstCommon
   no-node is j l =
       fails _
       (λ b.
       let u = row-noted j l ∙ b in
-      first-none (λ i. bitIn (returnRow returns q) i and bitIn (returnRow returns q) i) 1024 (sym told ∙ nothing-is found .0 is) j (omega arith) (and-both u u))
+      both-ways u (none-common (returnRow returns q) (returnRow returns q) (sym told ∙ nothing-is found .0 is) j (omega arith) u))
 
 -- The nodes noted at q at first and now no more were gone on from.
 pub record LeavingTo (p : Program) (q : ℕ) (returns₀ set₀ returns set : List ℕ) : Type 0 where
@@ -226,11 +241,8 @@ module _ (links : List ℕ) (q : ℕ) (returns₀ set₀ : List ℕ) where
       leave-less returns′ set′ w =
           let d = w .out in
           let r = at-node returns q found told j at in
-          below-or (count 512 (noted returns′ q)) (count 512 (noted returns q)) (λ l. l)
-          (λ l.
-          absurd
-          (both-ways (count-same (noted returns′ q) (noted returns q) 512 (λ i _ b. bit-before returns (512 * q + j) (512 * q + i) (rw d at b)) l j (r .0) (r .1))
-          (ap (λ (w : List ℕ). noted w q j) d ∙ bit-cleared returns (512 * q + j))))
+          fewer (noted returns′ q) (noted returns q) 512 j (λ i b. bit-before returns (512 * q + j) (512 * q + i) (rw d at b)) (r .0) (r .1)
+          (ap (λ (w : List ℕ). noted w q j) d ∙ bit-cleared returns (512 * q + j))
 
       pub leave-on : (returns′ set′ : List ℕ) → BothSized returns₀ set₀ returns set (Leaving links q returns₀ set₀ returns set) → Taken links q j returns set returns′ set′
           → BothSized returns₀ set₀ returns′ set′ (Leaving links q returns₀ set₀ returns′ set′)
@@ -355,25 +367,18 @@ module _ (nodes links owners : List ℕ) where
   run-start left returns set = record { left-size = refl; returns-size = refl; size = refl; less = λ i b. b; claim = λ t s first h own st. st }
 
   module _ (left returns set : List ℕ) (found : Found) (told : edgeFound found ≡ firstCommon left set) where
-    at-edge : (e : ℕ) → found ≡ At e → (e < 1024) × (bitIn left e ≡ true) × (bitIn set e ≡ true)
-    unfolding firstCommon
-    at-edge e q =
-        let r = first-at (λ i. bitIn left i and bitIn set i) 1024 e (sym told ∙ at-is found e .0 q) in
-        (r .0, and-left _ _ (r .1), and-right _ _ (r .1))
-
     module _ (e : ℕ) (at : found ≡ At e) (left′ returns′ set′ : List ℕ) (w : Worked left returns set left′ returns′ set′ (Visit nodes links owners left returns set e left′ returns′ set′)) where
       pub run-less : edgesLeft left′ < edgesLeft left
       unfolding edgesLeft
       run-less =
-          let r = at-edge e at in
-          below-or (count 1024 (bitIn left′)) (count 1024 (bitIn left)) (λ l. l)
-          (λ l. absurd (both-ways (count-same (bitIn left′) (bitIn left) 1024 (λ i _ b. w .less i b) l e (r .0) (r .1)) (w .claim .dropped)))
+          let r = common-at left set found told e at in
+          fewer (bitIn left′) (bitIn left) 1024 e (w .less) (r .0) (r .1) (w .claim .dropped)
 
       pub run-on : (left₀ returns₀ set₀ : List ℕ) → Worked left₀ returns₀ set₀ left returns set (Runs nodes links owners left₀ returns₀ set₀ left returns set)
           → Worked left₀ returns₀ set₀ left′ returns′ set′ (Runs nodes links owners left₀ returns₀ set₀ left′ returns′ set′)
       unfolding Runs Visits
       run-on left₀ returns₀ set₀ inv =
-          let r = at-edge e at in
+          let r = common-at left set found told e at in
           record {
             left-size = w .left-size ∙ inv .left-size;
             returns-size = w .returns-size ∙ inv .returns-size;

@@ -141,6 +141,7 @@ fn next_return(returns: &[u64], q: usize) -> Found
     ensures { λ r. ⌜ edgeFound r ≡ firstCommon (returnRow (now (returns .entry)) q) (returnRow (now (returns .entry)) q) ⌝ }
 {
     let row = text::run_words(returns, 8 * q, 8);
+    // the lowest bit that the row has in common with itself
     coverage::first_danger(row, row)
 }
 
