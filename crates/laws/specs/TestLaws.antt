@@ -10,7 +10,7 @@ use native.Mathlib.Decide.{decLt}
 use lib.Dec.{eqb}
 use lib.ListN.{length}
 use borrow.Author.Tests.{eqb-true, eq-eqb}
-use Rattle.laws.specs.Tests.{_and_, _or_, _⇒_, isnt, every, any, orElse, ifTrue, first, plus, count, those, has, anyOf, listed, allPairs, anyPair, keep, pick, gridRow, grid, firstFailed, found}
+use Rattle.laws.specs.Tests.{_and_, _or_, _⇒_, isnt, every, any, orElse, ifTrue, first, plus, count, those, has, anyOf, listed, allPairs, anyPair, keep, pick, gridRow, grid, firstFailed, found, some?}
 
 pub and-left : (a b : Bool) → (a and b) ≡ true → a ≡ true
 unfolding _and_
@@ -95,6 +95,32 @@ unfolding _⇒_
 implies true b f = f refl
 implies false b f = refl
 
+-- Why two tests do not both pass, or the second does not where the first does.
+pub and-fails : (a b : Bool) → (a and b) ≡ false → (a ≡ false) ⊎ (b ≡ false)
+unfolding _and_
+and-fails true b e = inr e
+and-fails false b e = inl refl
+
+pub unimplied : (a b : Bool) → (a ⇒ b) ≡ false → (a ≡ true) × (b ≡ false)
+unfolding _⇒_
+unimplied true b e = (refl, e)
+unimplied false b e = absurd (true≢false e)
+
+-- There is one.
+pub some-at : (o : Option ℕ) → some? o ≡ true → (i : ℕ) × (o ≡ some i)
+unfolding some?
+some-at none e = absurd (false≢true e)
+some-at (some i) e = (i, refl)
+
+pub some-of : {o : Option ℕ} {i : ℕ} → o ≡ some i → some? o ≡ true
+unfolding some?
+some-of e = rw e
+
+pub some-none : (o : Option ℕ) → some? o ≡ false → o ≡ none
+unfolding some?
+some-none none e = refl
+some-none (some i) e = absurd (true≢false e)
+
 pub isnt-true : (a : Bool) → isnt a ≡ true → a ≡ false
 unfolding isnt
 isnt-true true e = absurd (false≢true e)
@@ -159,6 +185,12 @@ module _ (f : ℕ → Bool) where
   unfolding every
   every-of zero h = refl
   every-of (suc n) h = and-both (every-of n (λ i l. h i (omega arith))) (h n (omega arith))
+
+  pub every-not : (n : ℕ) → every n f ≡ false → (i : ℕ) × (i < n) × (f i ≡ false)
+  unfolding every
+  every-not zero e = absurd (true≢false e)
+  every-not (suc n) e =
+      ⊎-elim (λ p. let r = every-not n p in (r .0, omega (arith, r .1), r .2)) (λ p. (n, omega arith, p)) (and-fails _ _ e)
 
   pub any-at : (n : ℕ) → any n f ≡ true → (i : ℕ) × (i < n) × (f i ≡ true)
   unfolding any

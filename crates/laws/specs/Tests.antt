@@ -44,6 +44,11 @@ unfoldable pub none? : {A : Type 0} → List A → Bool
 none? [] = true
 none? (x ∷ l) = false
 
+-- There is one.
+unfoldable pub some? : Option ℕ → Bool
+some? none = false
+some? (some n) = true
+
 -- A number found, as a number: 1 + it, or 0 for none.
 abbrev pub found : Option ℕ → ℕ
 found none = 0

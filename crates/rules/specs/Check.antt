@@ -4,9 +4,9 @@ use mathlib.Core.List.{List, [], _∷_}
 use Prim.Native.Nat.{ℕ}
 use lib.Dec.{eqb}
 use lib.ListN.{length, getD}
-use Rattle.laws.specs.Tests.{_and_, _or_, _⇒_, every, any, has, listed, allPairs, firstFailed}
-use Rattle.rules.specs.Graph.{Program, edgeCount, sourceAt, targetAt, entry, calleeCount, called}
-use Rattle.rules.specs.Closing.{alike, bothCall, exitsMet, goesOn, Coverage, meets, sameWord}
+use Rattle.laws.specs.Tests.{_or_, _⇒_, every, has, listed, allPairs, firstFailed}
+use Rattle.rules.specs.Graph.{Program, edgeCount, sourceAt, entry, calleeCount, called}
+use Rattle.rules.specs.Closing.{alike, bothCall, exitsMet, goesOn, keptBy, Coverage, meets}
 use Rattle.rules.specs.Sheet.{Sheet}
 
 -- The entries of the callees i of the C nodes n and n′ are listed, if the exits of every callee before them are.
@@ -29,12 +29,9 @@ module _ (old new : Program) (s : Sheet) where
   unfoldable pub rule3 : Bool
   rule3 = allPairs entered (s .M)
 
-  -- 4: for each listed pair that may go on by the list, each old edge is listed under D, or the new node has the word and the ends are listed.
-  unfoldable pub keeps : ℕ → ℕ → ℕ → Bool
-  keeps n′ e e′ = eqb (sourceAt new e′) n′ and sameWord old new e e′ and listed (s .M) (targetAt old e) (targetAt new e′)
-
+  -- 4: for each listed pair that may go on by the list, each old edge is listed under D, or, for every word for which it is taken, the new node takes an edge and the ends are listed.
   unfoldable pub edgeKept : ℕ → ℕ → ℕ → Bool
-  edgeKept n n′ e = eqb (sourceAt old e) n ⇒ has (s .D) e or any (edgeCount new) (keeps n′ e)
+  edgeKept n n′ e = eqb (sourceAt old e) n ⇒ has (s .D) e or keptBy old new (listed (s .M)) e n′
 
   unfoldable pub edgesKept : ℕ → ℕ → Bool
   edgesKept n n′ = goesOn old new (s .M) n n′ ⇒ every (edgeCount old) (edgeKept n n′)

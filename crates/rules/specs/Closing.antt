@@ -1,30 +1,35 @@
 -- The closing rules: which nodes are alike and which are pairs, which old edges are dangerous, which tests are repeated, which edges are counterparts, which need a probe, and a test's marks.
 use mathlib.Core.Path.{_≡_}
 use mathlib.Core.Bool.{Bool, true, false}
-use mathlib.Core.Option.{Option}
+use mathlib.Core.Option.{Option, some}
 use mathlib.Core.List.{List, []}
 use Prim.Native.Nat.{ℕ, zero, suc, _<_}
 use lib.Dec.{eqb}
 use lib.ListN.{length, getD}
-use Rattle.laws.specs.Tests.{_and_, _or_, _⇒_, choose, isnt, every, any, first, those, has, anyOf, listed, anyPair, pick, grid}
+use Rattle.laws.specs.Tests.{_and_, _or_, _⇒_, after, choose, isnt, every, any, first, some?, those, has, anyOf, listed, anyPair, pick, grid}
 use Rattle.rules.specs.Text.{same, sameLabel, Bytes}
-use Rattle.rules.specs.Graph.{C, Program, nodeCount, edgeCount, kindAt, labelAt, calleeAt, sourceAt, wordAt, targetAt, entry, exit, calleeCount, called, sameKind}
+use Rattle.rules.specs.Graph.{C, Program, nodeCount, edgeCount, kindAt, labelAt, calleeAt, sourceAt, wordAt, targetAt, entry, exit, calleeCount, called, edgeTaken, sameKind}
 use Rattle.rules.specs.After.{After, edgesAfter}
 
 -- Two callee fields that count as equal: those of equal bytes.
 unfoldable pub sameCallee : Bytes → Bytes → Bool
 sameCallee c c′ = same c c′
 
+-- The edge e is taken for the word w, at its node.
+unfoldable pub takes : Program → Bytes → ℕ → Bool
+takes p w e = after (edgeTaken p (sourceAt p e) w) false (λ f. eqb f e)
+
 module _ (old new : Program) where
   -- An old node and a new one are alike: kind and callee field have equal bytes, and the labels match.
   unfoldable pub alike : ℕ → ℕ → Bool
   alike n n′ = sameKind (kindAt old n) (kindAt new n′) and sameLabel (labelAt old n) (labelAt new n′) and sameCallee (calleeAt old n) (calleeAt new n′)
 
-  -- An old edge and a new one are taken for one word: equal words.
+  -- An old edge and a new one are taken for one word, each at its node. If they are, it is so for the word of one of them: `*` stands for every word that neither node names
+  -- (`one-word`, `word-one` in Proofs/ClosingLaws).
   unfoldable pub sameWord : ℕ → ℕ → Bool
-  sameWord e e′ = same (wordAt old e) (wordAt new e′)
+  sameWord e e′ = takes new (wordAt old e) e′ or takes old (wordAt new e′) e
 
-  -- An old edge and a new one have equal words, and ends that are alike.
+  -- An old edge and a new one are taken for one word, and their ends are alike.
   unfoldable pub fits : ℕ → ℕ → Bool
   fits e e′ = sameWord e e′ and alike (targetAt old e) (targetAt new e′)
 
@@ -33,45 +38,45 @@ module _ (old new : Program) where
   ExitsMet R n n′ i = (j : ℕ) → j < i → R (exit old (called old n j)) (exit new (called new n′ j))
 
   -- The pairs, as the smallest relation with rules 1, 2 and 3. Of a C pair the first callee's entries are a pair, each later one's only if the exits of every callee before it are; and
-  -- it may go on only if the exits of all its callees are pairs. (`ExitsMet` of the relation itself is written out.)
+  -- it may go on only if the exits of all its callees are pairs. (`ExitsMet` of the relation itself is written out.) For each word, the edge that the old node takes is set against the
+  -- edge that the new node takes.
   pub data Pair : ℕ → ℕ → Type 0 where
     first-entries : Pair (entry old 0) (entry new 0)
     callee-entries : {n n′ : ℕ} → Pair n n′ → kindAt old n ≡ C → kindAt new n′ ≡ C → (i : ℕ) → i < calleeCount old n
         → ((j : ℕ) → j < i → Pair (exit old (called old n j)) (exit new (called new n′ j)))
         → Pair (entry old (called old n i)) (entry new (called new n′ i))
-    edge-ends : {e e′ : ℕ} → Pair (sourceAt old e) (sourceAt new e′)
-        → (kindAt old (sourceAt old e) ≡ C → (j : ℕ) → j < calleeCount old (sourceAt old e)
-        → Pair (exit old (called old (sourceAt old e) j)) (exit new (called new (sourceAt new e′) j)))
-        → e < edgeCount old → e′ < edgeCount new → fits e e′ ≡ true
+    edge-ends : {n n′ e e′ : ℕ} → Pair n n′
+        → (kindAt old n ≡ C → (j : ℕ) → j < calleeCount old n → Pair (exit old (called old n j)) (exit new (called new n′ j)))
+        → (w : Bytes) → edgeTaken old n w ≡ some e → edgeTaken new n′ w ≡ some e′ → alike (targetAt old e) (targetAt new e′) ≡ true
         → Pair (targetAt old e) (targetAt new e′)
 
   -- A pair may go on.
   abbrev pub MayGoOn : ℕ → ℕ → Type 0
   MayGoOn n n′ = kindAt old n ≡ C → ExitsMet Pair n n′ (calleeCount old n)
 
-  -- Rule 3 joins an old edge and a new one for some pair: they are counterparts.
+  -- Rule 3 joins an old edge and a new one for some pair and some word: they are counterparts.
   pub record Counterparts (e e′ : ℕ) : Type 0 where
-    pub isOld : e < edgeCount old
-    pub isNew : e′ < edgeCount new
     pub pair : Pair (sourceAt old e) (sourceAt new e′)
     pub mayGoOn : MayGoOn (sourceAt old e) (sourceAt new e′)
-    pub fit : fits e e′ ≡ true
+    pub word : Bytes
+    pub oldTakes : edgeTaken old (sourceAt old e) word ≡ some e
+    pub newTakes : edgeTaken new (sourceAt new e′) word ≡ some e′
+    pub alikeEnds : alike (targetAt old e) (targetAt new e′) ≡ true
 
-  -- An old edge is dangerous: for some pair that may go on, the new node has no edge with its word, or the ends are not alike.
+  -- An old edge is dangerous: for some pair that may go on, and some word for which the old node takes it, the new node takes no edge, or one whose end is not alike.
   pub record Dangerous (e : ℕ) : Type 0 where
-    pub isOld : e < edgeCount old
     pub partner : ℕ
     pub pair : Pair (sourceAt old e) partner
     pub mayGoOn : MayGoOn (sourceAt old e) partner
-    pub unfit : (e′ : ℕ) → e′ < edgeCount new → sourceAt new e′ ≡ partner → fits e e′ ≡ true → ⊥
+    pub word : Bytes
+    pub oldTakes : edgeTaken old (sourceAt old e) word ≡ some e
+    pub unfit : (e′ : ℕ) → edgeTaken new partner word ≡ some e′ → alike (targetAt old e) (targetAt new e′) ≡ true → ⊥
 
-  -- A new edge at which a new run may part from the old one: it has the word of a dangerous edge, at a pair that makes it dangerous.
+  -- A new edge at which a new run may part from the old one: it is taken for a word that makes a danger, at the pair that makes it.
   pub record Parting (e′ : ℕ) : Type 0 where
-    pub isNew : e′ < edgeCount new
     pub cause : ℕ
     pub danger : Dangerous cause
-    pub there : sourceAt new e′ ≡ danger .partner
-    pub word : sameWord cause e′ ≡ true
+    pub taken : edgeTaken new (danger .partner) (danger .word) ≡ some e′
 
   -- A new edge needs a probe: it lies after such an edge. An old edge lies after a danger.
   abbrev pub Probe : ℕ → Type 0
@@ -84,9 +89,16 @@ module _ (old new : Program) where
   unfoldable pub bothCall : ℕ → ℕ → Bool
   bothCall n n′ = sameKind (kindAt old n) C and sameKind (kindAt new n′) C
 
-  -- The new node n′ has an edge that fits the old edge e.
+  -- For every word for which the old edge e is taken, the new node n′ takes an edge, and the ends pass f. It is enough that it takes one for the word of e, and that the ends pass for
+  -- each edge of n′ that is taken with e for one word (`kept-at`, `kept-of` in Proofs/ClosingLaws).
+  unfoldable pub keptBy : (ℕ → ℕ → Bool) → ℕ → ℕ → Bool
+  keptBy f e n′ =
+      some? (edgeTaken new n′ (wordAt old e))
+      and every (edgeCount new) (λ e′. eqb (sourceAt new e′) n′ and sameWord e e′ ⇒ f (targetAt old e) (targetAt new e′))
+
+  -- For every word for which the old edge e is taken, the new node n′ takes an edge whose end is alike.
   unfoldable pub fitted : ℕ → ℕ → Bool
-  fitted e n′ = any (edgeCount new) (λ e′. eqb (sourceAt new e′) n′ and fits e e′)
+  fitted e n′ = keptBy alike e n′
 
   -- The pair (a, b) is given by rule 1.
   unfoldable pub byStart : ℕ → ℕ → Bool

@@ -6,17 +6,17 @@ use lib.Dec.{eqb}
 use mathlib.Core.List.{List, [], _∷_, _++_, map}
 use Prim.Native.Nat.{ℕ, zero, suc}
 use Prim.Native.String.{String}
-use Rattle.laws.specs.Tests.{_and_, _or_, _⇒_, isnt, every, any, orElse, ifTrue, first, plus, count, those, has, anyOf, listed, allPairs, anyPair, pick, gridRow, grid, firstFailed, choose, none?, after}
+use Rattle.laws.specs.Tests.{_and_, _or_, _⇒_, isnt, every, any, orElse, ifTrue, first, plus, count, those, has, anyOf, some?, listed, allPairs, anyPair, pick, gridRow, grid, firstFailed, choose, none?, after}
 use Rattle.laws.specs.Reach.{reached, spread, spreads}
 use Rattle.rules.specs.Text.{Bytes, same, empty, bytes, maxBytes, then, unless, onto, split, joinBy, textOf, between, allBytes, nameByte, labelByte, wordByte, digitByte, isName, nameCount, nameIn, isCallees, isLabel, isWord, isNumber, nonEmpty, squeezed, sameLabel, valueFrom, digits, decimal, readLines, readText, Reading, accepted, refused}
-use Rattle.rules.specs.Graph.{sameKind, orZero, isOf, entry, exit, procOf, leaves, edgeTaken, degree, worded, Program, edgeCount, called}
+use Rattle.rules.specs.Graph.{sameKind, orZero, isOf, entry, exit, procOf, leaves, edgeWith, edgeTaken, degree, worded, Program, edgeCount, called}
 use Rattle.rules.specs.ProgramFile.{Listing, kindOf, isNode, isEdge, formOf, hasEdge, named, isNodeOf, hasWord, degreeFine, complete, lost, takeLine, stepProgram, finishProgram, readListing, readProgram}
 use Rattle.rules.specs.SuiteFile.{testForm, hexByte, hexValue, bitsOf, noneSet, rowFine, tested, takeTest, stepSuite, readTests, readSuite}
 use Rattle.rules.specs.Run.{Meaning, another, crossing, edgeAhead, ended, endedAt, listOf, run, start, step, stepAt, trail}
 use Rattle.rules.specs.After.{edgesAfter, resumesAt, goesOnFrom, leads}
-use Rattle.rules.specs.Closing.{alike, fits, bothCall, fitted, exitsMet, goesOn, joined, byStart, byCall, byEdge, follows, grown, dangerousAt, dangerous, closed, pairs, dangers, firstDanger, meets, repeated, carries, carriesOnly, mark, sameCallee, sameWord, parting, parted, probes, afterDangers, carriedMark, endangered}
+use Rattle.rules.specs.Closing.{takes, alike, fits, keptBy, bothCall, fitted, exitsMet, goesOn, joined, byStart, byCall, byEdge, follows, grown, dangerousAt, dangerous, closed, pairs, dangers, firstDanger, meets, repeated, carries, carriesOnly, mark, sameCallee, sameWord, parting, parted, probes, afterDangers, carriedMark, endangered}
 use Rattle.rules.specs.Sheet.{selected, mLine, dLine, rLine, endLine, sheetLines, sheetText, markByte, marksOf, crossed, vLine, recordText, qLine, probesText, sheetForm, before, allBelow, testOf, takeSheetLine, stepSheet, finishSheet, readSheet}
-use Rattle.rules.specs.Check.{entered, keeps, edgeKept, edgesKept, rule1, rule2, rule3, rule4, rule5, broken}
+use Rattle.rules.specs.Check.{entered, edgeKept, edgesKept, rule1, rule2, rule3, rule4, rule5, broken}
 use Rattle.rules.specs.Job.{Outcome, wrote, refusal, passed, outcome, readJob, written, writing, sheetBytes, recordBytes, probesBytes, sheetAnswer, recordAnswer, probesAnswer, judged, checkAnswer, labelPart, bySide, writingBack, programAnswer, serving, answering}
 use Rattle.rules.specs.Layout.{edgeLine, linesOfThose, nodeLine, procLine, procLines, programLines, writeProgram}
 use Rattle.rules.specs.WriteBack.{inPart, ofParts, otherAlone}
@@ -157,6 +157,22 @@ never-back = "P,up\nN,E,,\nN,C,wind,up\nN,S,a,\nN,X,,\nB,0,-,1\nB,1,-,2\nB,2,ok,
 
 never-back-changed : String
 never-back-changed = "P,up\nN,E,,\nN,C,wind,up\nN,S,b,\nN,X,,\nB,0,-,1\nB,1,-,2\nB,2,ok,3\n"
+
+-- A step with a branch for anything else, which stands before the other; with a third branch, to the same end or to another; the same with a name; and that branch alone.
+switching : String
+switching = "P,up\nN,E,,\nN,S,read layer,\nN,S,hold,\nN,X,,\nB,0,-,1\nB,1,*,3\nB,1,up,2\nB,2,ok,3\n"
+
+switching-stop : String
+switching-stop = "P,up\nN,E,,\nN,S,read layer,\nN,S,hold,\nN,X,,\nB,0,-,1\nB,1,*,3\nB,1,up,2\nB,2,ok,3\nB,1,stop,3\n"
+
+switching-down : String
+switching-down = "P,up\nN,E,,\nN,S,read layer,\nN,S,hold,\nN,X,,\nB,0,-,1\nB,1,*,3\nB,1,up,2\nB,2,ok,3\nB,1,down,2\n"
+
+switching-named : String
+switching-named = "P,up\nN,E,,\nN,S,read layer,\nN,S,hold,\nN,X,,\nB,0,-,1\nB,1,stop,3\nB,1,up,2\nB,2,ok,3\n"
+
+always : String
+always = "P,up\nN,E,,\nN,S,read layer,\nN,X,,\nB,0,-,1\nB,1,*,2\n"
 
 two-tests : String
 two-tests = "T,t1,a8\nT,t2,f8\n"
@@ -312,6 +328,25 @@ probings =
     ∷ probing (job never-back never-back-changed "") maxBytes (wrote [])
     ∷ []
 
+-- ---- the branch for anything else (document 02, job 6)
+
+-- An old word meets a new `*`; a word that neither names finds no new edge; a new word is compared with the old `*`, which then has two counterparts, or is dangerous: the check asks for it,
+-- and the probe starts at that word's edge alone; two old words meet one new `*`, the one is dangerous, and the probe starts there. An entry has no `*`.
+pub switches : List Example
+unfolding writes checks records probing job switching switching-stop switching-down switching-named always
+switches =
+    writes (job switching-named switching "") "sheet,1\nM,0,0\nM,1,1\nM,2,2\nM,3,3\nend,4,0,0\n"
+    ∷ writes (job switching switching-named "") "sheet,1\nM,0,0\nM,1,1\nM,2,2\nM,3,3\nD,1\nend,4,1,0\n"
+    ∷ records (job switching switching-stop "T,t,c\n") 0 "V,t,2,1?00?\n"
+    ∷ writes (job switching switching-down "") "sheet,1\nM,0,0\nM,1,1\nM,2,2\nM,3,3\nD,1\nend,4,1,0\n"
+    ∷ checks (job switching switching-down "") "sheet,1\nM,0,0\nM,1,1\nM,2,2\nM,3,3\nend,4,0,0\n" (refusal 12 4)
+    ∷ probing (job switching switching-down "") maxBytes (wrote (bytes "Q,3\nQ,4\n"))
+    ∷ writes (job switching-named always "T,t,c\n") "sheet,1\nM,0,0\nM,1,1\nM,3,2\nD,2\nend,3,1,0\n"
+    ∷ records (job switching-named always "T,t,c\n") 0 "V,t,2,11\n"
+    ∷ probing (job switching-named always "") maxBytes (wrote (bytes "Q,1\n"))
+    ∷ (checkAnswer (bytes "P,up\nN,E,,\nN,X,,\nB,0,*,1\n") [] [] [], refusal 8 1)
+    ∷ []
+
 -- ---- refusals
 
 -- The text t, n times.
@@ -381,16 +416,16 @@ refusals =
 -- ---- the statement
 
 -- The definitions answer P1 to P8, and the refusals, as document 01 says, and the change requests as document 02 does: one statement over their list, by computation.
-pub examples-answered : answered (examples ++ (backs ++ (blanks ++ (severals ++ (searches ++ (probings ++ refusals)))))) ≡ true
-unfolding answered sameOutcome examples backs blanks severals searches probings refusals
-    _and_ _or_ _⇒_ isnt choose every any orElse ifTrue first plus count those has anyOf listed allPairs anyPair pick gridRow grid firstFailed none?
+pub examples-answered : answered (examples ++ (backs ++ (blanks ++ (severals ++ (searches ++ (probings ++ (switches ++ refusals))))))) ≡ true
+unfolding answered sameOutcome examples backs blanks severals searches probings switches refusals
+    _and_ _or_ _⇒_ isnt choose every any orElse ifTrue first plus count those has anyOf some? listed allPairs anyPair pick gridRow grid firstFailed none?
     same empty onto split joinBy textOf between allBytes nameByte labelByte wordByte digitByte isName nameCount nameIn isCallees isLabel isWord isNumber valueFrom digits decimal then unless readLines readText
-    sameKind orZero isOf entry exit procOf called leaves edgeTaken degree worded
+    sameKind orZero isOf entry exit procOf called leaves edgeWith edgeTaken degree worded
     kindOf isNode isEdge formOf hasEdge named isNodeOf hasWord degreeFine complete lost takeLine stepProgram finishProgram readListing readProgram
     testForm hexByte hexValue bitsOf noneSet rowFine tested takeTest stepSuite readTests readSuite nonEmpty squeezed
-    sameLabel sameCallee sameWord alike fits bothCall fitted exitsMet goesOn joined byStart byCall byEdge follows grown dangerousAt dangerous closed pairs dangers meets firstDanger repeated carries carriesOnly spread spreads reached another resumesAt goesOnFrom leads edgesAfter parted parting probes afterDangers carriedMark endangered mark
+    sameLabel sameCallee takes sameWord alike fits keptBy bothCall fitted exitsMet goesOn joined byStart byCall byEdge follows grown dangerousAt dangerous closed pairs dangers meets firstDanger repeated carries carriesOnly spread spreads reached another resumesAt goesOnFrom leads edgesAfter parted parting probes afterDangers carriedMark endangered mark
     selected mLine dLine rLine endLine sheetLines sheetText markByte marksOf crossed vLine recordText qLine probesText sheetForm before allBelow testOf takeSheetLine stepSheet finishSheet readSheet
-    entered keeps edgeKept edgesKept rule1 rule2 rule3 rule4 rule5 broken formerAlike formerRule2 formerBroken formerCheckAnswer
+    entered edgeKept edgesKept rule1 rule2 rule3 rule4 rule5 broken formerAlike formerRule2 formerBroken formerCheckAnswer
     outcome readJob written writing sheetBytes recordBytes probesBytes judged serving answering
     edgeLine linesOfThose nodeLine procLine procLines programLines writeProgram bySide writingBack labelPart
 examples-answered = refl
@@ -423,6 +458,7 @@ stopping = "P,up\nN,E,,\nN,S,hold,\nN,X,,\nB,0,-,1\nB,1,go,2\n"
 
 -- P2's programs, the call that returns and the step that stops run as document 01 says: a run that has stopped takes no more steps and has not ended. Calls of several run as document 02
 -- says, also in one another: an action is done once, each callee is entered as often as it is named, and an exit is that of the newest open call, which stays open until its last callee.
+-- So does a step with `*`: its edge with the chosen word, or else that one.
 runs-computed : (ran 5 layers ≡ some (true, 2, bytes "read layer" ∷ bytes "hold" ∷ [], 0 ∷ 2 ∷ 4 ∷ []))
     × (ran 5 by-layer ≡ some (true, 2, bytes "read layer" ∷ bytes "hold" ∷ [], 0 ∷ 2 ∷ 4 ∷ []))
     × (ran 5 returning ≡ some (true, 1, bytes "wind" ∷ [], 0 ∷ 2 ∷ 1 ∷ []))
@@ -430,12 +466,14 @@ runs-computed : (ran 5 layers ≡ some (true, 2, bytes "read layer" ∷ bytes "h
     × (ran 13 several ≡ some (true, 2, bytes "wind" ∷ bytes "hold" ∷ [], 0 ∷ 2 ∷ 3 ∷ 4 ∷ 2 ∷ 2 ∷ 1 ∷ []))
     × (ran 2 stopping ≡ some (false, 1, bytes "hold" ∷ [], 0 ∷ []))
     × (ran 3 stopping ≡ none)
-unfolding ran layers by-layer returning nested several stopping run step stepAt another start trail crossing edgeAhead listOf ended endedAt
+    × (ran 3 switching ≡ some (true, 1, bytes "read layer" ∷ [], 0 ∷ 1 ∷ []))
+    × (ran 3 switching-stop ≡ some (true, 1, bytes "read layer" ∷ [], 0 ∷ 4 ∷ []))
+unfolding ran layers by-layer returning nested several stopping switching switching-stop run step stepAt another start trail crossing edgeAhead listOf ended endedAt
     _and_ _or_ _⇒_ isnt choose every any orElse ifTrue first plus count
     same empty onto split joinBy nonEmpty squeezed between allBytes nameByte labelByte wordByte digitByte isName nameCount nameIn isCallees isLabel isWord isNumber valueFrom then unless readLines readText
-    sameKind orZero isOf entry exit procOf called leaves edgeTaken degree worded
+    sameKind orZero isOf entry exit procOf called leaves edgeWith edgeTaken degree worded
     kindOf isNode isEdge formOf hasEdge named isNodeOf hasWord degreeFine complete lost takeLine stepProgram finishProgram readListing readProgram
-runs-computed = (refl, refl, refl, refl, refl, refl, refl)
+runs-computed = (refl, refl, refl, refl, refl, refl, refl, refl, refl)
 
 -- ---- other bytes than names, callees, labels and words (document 02, job 1)
 
@@ -458,6 +496,6 @@ alone-computed : (alone "xxupxxxxxxxxxxxwindxupxxxxxxxxxxx-xxxxxxx-xxx" calls-it
 unfolding alone calls-itself otherAlone ofParts inPart
     _and_ _or_ _⇒_ isnt choose every any orElse ifTrue first plus count
     same empty onto split between allBytes nameByte labelByte wordByte digitByte isName nameCount nameIn isCallees isLabel isWord isNumber valueFrom then unless readLines readText
-    sameKind orZero isOf entry exit procOf called leaves edgeTaken degree worded
+    sameKind orZero isOf entry exit procOf called leaves edgeWith edgeTaken degree worded
     kindOf isNode isEdge formOf hasEdge named isNodeOf hasWord degreeFine complete lost takeLine stepProgram finishProgram readListing
 alone-computed = (refl, refl, refl, refl, refl, refl, refl)

@@ -6,7 +6,7 @@ use mathlib.Core.List.{List, [], _∷_}
 use Prim.Native.Nat.{ℕ, _≤_, _<_}
 use lib.Dec.{eqb}
 use lib.ListN.{length, getD}
-use Rattle.laws.specs.Tests.{_and_, isnt, first, count}
+use Rattle.laws.specs.Tests.{_and_, isnt, first, count, orElse}
 use Rattle.rules.specs.Text.{Bytes, empty, nameCount, nameIn, same}
 
 -- The kinds of node: entry, step, call, exit.
@@ -85,6 +85,10 @@ edgeCount p = length (p .edges)
 abbrev pub dash : Bytes
 dash = 45 ∷ []
 
+-- The word of the edge for anything else.
+abbrev pub star : Bytes
+star = 42 ∷ []
+
 -- A kind's number: its place in the table of degrees, too.
 abbrev pub kindNumber : Kind → ℕ
 kindNumber E = 0
@@ -126,12 +130,16 @@ procOf p name = orZero (first (procCount p) (λ q. same (nameAt p q) name))
 unfoldable pub called : Program → ℕ → ℕ → ℕ
 called p n i = procOf p (calleeName p n i)
 
--- The edge e leaves the node n with the word w; the edge that the node n takes for the word w.
+-- The edge e leaves the node n with the word w; the edge of the node n with the word w.
 unfoldable pub leaves : Program → ℕ → Bytes → ℕ → Bool
 leaves p n w e = eqb (sourceAt p e) n and same (wordAt p e) w
 
+unfoldable pub edgeWith : Program → ℕ → Bytes → Option ℕ
+edgeWith p n w = first (edgeCount p) (leaves p n w)
+
+-- The edge that the node n takes for the word w: the one with that word, or else the one with the word `*`.
 unfoldable pub edgeTaken : Program → ℕ → Bytes → Option ℕ
-edgeTaken p n w = first (edgeCount p) (leaves p n w)
+edgeTaken p n w = orElse (edgeWith p n w) (edgeWith p n star)
 
 -- The edge of an E or C: the one that it has, whose word is `-` (`its-edge` in Proofs/GraphLaws).
 abbrev pub itsEdge : Program → ℕ → Option ℕ

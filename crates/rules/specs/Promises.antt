@@ -10,11 +10,11 @@ use Rattle.laws.specs.Tests.{has, listed, count, plus}
 use Rattle.laws.specs.TestLaws.{Ascending}
 use Rattle.laws.specs.Lists.{Rising}
 use Rattle.rules.specs.Text.{Bytes, accepted, fieldsOf, isCallees, isName, joinBy, linesOf, maxBytes, maxPairs, refused, sameLabel, squeezed, textOf, tooMany}
-use Rattle.rules.specs.Graph.{C, E, Program, WellFormed, X, called, calleeAt, calleeCount, calleeName, edgeCount, edgeTaken, entry, exit, itsEdge, kindAt, labelAt, nameAt, nodeCount, ownerAt, procCount, sourceAt, targetAt, wordAt}
+use Rattle.rules.specs.Graph.{C, E, Program, WellFormed, X, called, calleeAt, calleeCount, calleeName, edgeCount, edgeTaken, entry, exit, itsEdge, kindAt, labelAt, nameAt, nodeCount, ownerAt, procCount, sourceAt, star, targetAt, wordAt}
 use Rattle.rules.specs.ProgramFile.{Listing, readListing, readProgram}
 use Rattle.rules.specs.SuiteFile.{Suite, TestListing, coverageAt, readSuite, readTests, testCount, testName}
 use Rattle.rules.specs.Run.{Config, Crosses, Ends, Meaning, ended, run, start, trail}
-use Rattle.rules.specs.Closing.{AfterDanger, Counterparts, Coverage, Dangerous, ExitsMet, Pair, Probe, afterDangers, alike, dangers, firstDanger, fits, holds, joined, pairs, probes, repeated}
+use Rattle.rules.specs.Closing.{AfterDanger, Counterparts, Coverage, Dangerous, ExitsMet, Pair, Probe, afterDangers, alike, dangers, firstDanger, holds, joined, pairs, probes, repeated}
 use Rattle.rules.specs.Sheet.{Sheet, SheetLine, crossed, d-line, end-line, head-line, leftOff, m-line, no-form, qLine, r-line, rLine, sheetForm, sheetLines, sheetText, vLine}
 use Rattle.rules.specs.Check.{rule1, rule2, rule3, rule4, rule5}
 use Rattle.rules.specs.Job.{Given, Outcome, Request, Version, answering, check-sheet, checkAnswer, givenOf, labelPart, labelShown, labelSpan, lastNumber, no-request, numberOf, outputAfter, packed, packedSpan, passed, placeOf, probesAnswer, probesBytes, programAnswer, readJob, readNewAnswer, readOldAnswer, readTestsAnswer, recordAnswer, recordBytes, refusal, requestBy, serving, sheetAnswer, sheetBytes, show-label, spanShown, success, write-probes, write-program, write-record, write-sheet, written, wrote}
@@ -238,13 +238,18 @@ LabelShown = (v : Version) → readListing (v .text) ≡ accepted (v .listing) �
 
 -- ---- what runs and rules look up in a program
 
--- The entry and the exit of a procedure are its E and its X, the callee i of a C is the procedure of the name i in its callee field, the edge that a node takes for a word is its edge of
--- that word, and that of an E or C is the one that it has.
+-- For the word w the node n takes the edge e (document 02, job 6): it leaves n, and it has that word, or it is `*` and no edge of n has that word.
+abbrev pub Takes : Program → ℕ → Bytes → ℕ → Type 0
+Takes p n w e =
+    (e < edgeCount p) × (sourceAt p e ≡ n) × ((wordAt p e ≡ w) ⊎ ((wordAt p e ≡ star) × ((f : ℕ) → f < edgeCount p → sourceAt p f ≡ n → wordAt p f ≡ w → ⊥)))
+
+-- The entry and the exit of a procedure are its E and its X, the callee i of a C is the procedure of the name i in its callee field, the edge that a node takes for a word is just that of
+-- `Takes`, and that of an E or C is the one that it has.
 pub record Lookups (p : Program) : Type 0 where
   pub entry-is : (q : ℕ) → q < procCount p → (entry p q < nodeCount p) × (ownerAt p (entry p q) ≡ q) × (kindAt p (entry p q) ≡ E)
   pub exit-is : (q : ℕ) → q < procCount p → (exit p q < nodeCount p) × (ownerAt p (exit p q) ≡ q) × (kindAt p (exit p q) ≡ X)
   pub called-is : (n : ℕ) → n < nodeCount p → kindAt p n ≡ C → (i : ℕ) → i < calleeCount p n → (called p n i < procCount p) × (nameAt p (called p n i) ≡ calleeName p n i)
-  pub taken-is : (n : ℕ) (w : Bytes) (e : ℕ) → (edgeTaken p n w ≡ some e) ↔ ((e < edgeCount p) × (sourceAt p e ≡ n) × (wordAt p e ≡ w))
+  pub taken-is : (n : ℕ) (w : Bytes) (e : ℕ) → (edgeTaken p n w ≡ some e) ↔ Takes p n w e
   pub its-edge-there : (n : ℕ) → n < nodeCount p → (kindAt p n ≡ E) ⊎ (kindAt p n ≡ C) → (e : ℕ) × (itsEdge p n ≡ some e)
   pub its-edge-is : (n : ℕ) → n < nodeCount p → (kindAt p n ≡ E) ⊎ (kindAt p n ≡ C) → (e : ℕ) → (itsEdge p n ≡ some e) ↔ ((e < edgeCount p) × (sourceAt p e ≡ n))
 
@@ -277,10 +282,10 @@ pub record SqueezedExact (s t : Bytes) : Type 0 where
 abbrev pub LabelsMatch : Type 0
 LabelsMatch = (l l′ : Bytes) → (sameLabel l l′ ≡ true) ↔ (squeezed l ≡ squeezed l′)
 
--- Two nodes are alike exactly if kind and callee field have equal bytes and the labels match; an old edge and a new one fit exactly if their words are equal and their ends alike.
-pub record AlikeExact (old new : Program) : Type 0 where
-  pub alike-are : (n n′ : ℕ) → (alike old new n n′ ≡ true) ↔ ((kindAt old n ≡ kindAt new n′) × (squeezed (labelAt old n) ≡ squeezed (labelAt new n′)) × (calleeAt old n ≡ calleeAt new n′))
-  pub fits-are : (e e′ : ℕ) → (fits old new e e′ ≡ true) ↔ ((wordAt old e ≡ wordAt new e′) × (alike old new (targetAt old e) (targetAt new e′) ≡ true))
+-- Two nodes are alike exactly if kind and callee field have equal bytes and the labels match.
+abbrev pub AlikeExact : Program → Program → Type 0
+AlikeExact old new =
+    (n n′ : ℕ) → (alike old new n n′ ≡ true) ↔ ((kindAt old n ≡ kindAt new n′) × (squeezed (labelAt old n) ≡ squeezed (labelAt new n′)) × (calleeAt old n ≡ calleeAt new n′))
 
 -- ---- pairs, dangerous edges, counterparts and repeated tests are exactly those of the closing rules
 
@@ -292,9 +297,8 @@ pub record Exact (old new : Program) : Type 1 where
   pub smallest : (P : ℕ → ℕ → Type 0) → P (entry old 0) (entry new 0)
       → ((n n′ : ℕ) → P n n′ → kindAt old n ≡ C → kindAt new n′ ≡ C → (i : ℕ) → i < calleeCount old n → ExitsMet old new P n n′ i
       → P (entry old (called old n i)) (entry new (called new n′ i)))
-      → ((e e′ : ℕ) → P (sourceAt old e) (sourceAt new e′)
-      → (kindAt old (sourceAt old e) ≡ C → ExitsMet old new P (sourceAt old e) (sourceAt new e′) (calleeCount old (sourceAt old e)))
-      → e < edgeCount old → e′ < edgeCount new → fits old new e e′ ≡ true → P (targetAt old e) (targetAt new e′))
+      → ((n n′ e e′ : ℕ) → P n n′ → (kindAt old n ≡ C → ExitsMet old new P n n′ (calleeCount old n))
+      → (w : Bytes) → edgeTaken old n w ≡ some e → edgeTaken new n′ w ≡ some e′ → alike old new (targetAt old e) (targetAt new e′) ≡ true → P (targetAt old e) (targetAt new e′))
       → {n n′ : ℕ} → Pair old new n n′ → P n n′
   pub dangers-are : (e : ℕ) → (has (dangers old new) e ≡ true) ↔ Dangerous old new e
   pub dangers-rise : Rising (dangers old new)
@@ -427,7 +431,7 @@ StoredSheetsPass = (old new tests sheet : Bytes) → formerCheckAnswer old new t
 abbrev pub Listed : Sheet → ℕ → ℕ → Type 0
 Listed c n n′ = listed (c .M) n n′ ≡ true
 
--- The five rules, in words.
+-- The five rules, in words. Rule 4 is over all words: the edge that the old node takes is listed under D, or the new node takes one for that word and the ends are listed.
 pub record RulesExact (old new : Program) (suite : List Coverage) (c : Sheet) : Type 0 where
   pub first-listed : (rule1 old new c ≡ true) ↔ Listed c (entry old 0) (entry new 0)
   pub pairs-alike : (rule2 old new c ≡ true) ↔ ((n n′ : ℕ) → Listed c n n′ → alike old new n n′ ≡ true)
@@ -436,10 +440,14 @@ pub record RulesExact (old new : Program) (suite : List Coverage) (c : Sheet) : 
       → Listed c (entry old (called old n i)) (entry new (called new n′ i)))
   pub edges-kept : (rule4 old new c ≡ true)
       ↔ ((n n′ : ℕ) → Listed c n n′ → (kindAt old n ≡ C → ExitsMet old new (Listed c) n n′ (calleeCount old n))
-      → (e : ℕ) → e < edgeCount old → sourceAt old e ≡ n
-      → (has (c .D) e ≡ true)
-      ⊎ ((e′ : ℕ) × (e′ < edgeCount new) × (sourceAt new e′ ≡ n′) × (wordAt old e ≡ wordAt new e′) × Listed c (targetAt old e) (targetAt new e′)))
+      → (w : Bytes) (e : ℕ) → edgeTaken old n w ≡ some e
+      → (has (c .D) e ≡ true) ⊎ ((e′ : ℕ) × (edgeTaken new n′ w ≡ some e′) × Listed c (targetAt old e) (targetAt new e′)))
   pub tests-listed : (rule5 suite c ≡ true) ↔ ((i : ℕ) → i < length suite → (e : ℕ) → has (c .D) e ≡ true → holds (getD suite i []) e ≡ true → has (c .R) i ≡ true)
+
+-- Of the programs that texts give.
+abbrev pub CheckRulesExact : Type 0
+CheckRulesExact =
+    (old new : Bytes) (p p′ : Program) → readProgram old ≡ accepted p → readProgram new ≡ accepted p′ → (suite : List Coverage) (c : Sheet) → RulesExact p p′ suite c
 
 -- A test is left off a sheet exactly if no line of the sheet is its R line.
 abbrev pub LeftOffExact : Type 0

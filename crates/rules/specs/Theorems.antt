@@ -15,6 +15,7 @@ use Rattle.rules.specs.Promises.{
   AnswersPlain,
   BackExactly,
   CalleesExact,
+  CheckRulesExact,
   ClaimsFalse,
   ClosingRulesExact,
   Demand2,
@@ -190,8 +191,8 @@ former-exact = former-is
 pub stored-sheets-pass : StoredSheetsPass
 stored-sheets-pass old new tests sheet e = check-exact old new tests sheet .1 (former-is old new tests sheet .0 e .passes)
 
-pub rules-exact : (old new : Program) (suite : List Coverage) (c : Sheet) → RulesExact old new suite c
-rules-exact = Words.rules-exact
+pub rules-exact : CheckRulesExact
+rules-exact old new p p′ e e′ = Words.rules-exact p p′ (read-well-formed old p e) (read-well-formed new p′ e′)
 
 pub left-off-exact : LeftOffExact
 left-off-exact = Words.left-off-exact

@@ -1,19 +1,19 @@
 -- What `alike`, `sameWord` and `fits` give: the only proofs that look behind these names.
 use mathlib.Core.Path.{_≡_, refl, sym, ap, _∙_}
-use mathlib.Core.Logic.{_↔_}
-use mathlib.Core.Bool.{Bool, true}
+use mathlib.Core.Logic.{_↔_, _⊎_, inl, inr, ⊎-elim}
+use mathlib.Core.Bool.{Bool, true, false, false≢true}
+use mathlib.Core.Option.{Option, none, some, Option·none-ne-some, Option·some-injective}
 use mathlib.Core.List.{[]}
-use Prim.Native.Nat.{ℕ}
+use Prim.Native.Nat.{ℕ, _<_}
 use lib.Dec.{eqb}
 use lib.Seq.{ext-getD}
-use borrow.Author.Tests.{eqb-true}
-use Rattle.laws.specs.Tests.{_and_, every, first}
-use Rattle.laws.specs.TestLaws.{and-both, and-left, and-right, eqb-self, every-at, every-of, same-test}
-use Rattle.laws.specs.Counting.{first-agree}
+use borrow.Author.Tests.{eqb-true, eq-eqb}
+use Rattle.laws.specs.Tests.{_and_, every, _or_, _⇒_, after, isnt, orElse, some?}
+use Rattle.laws.specs.TestLaws.{and-both, and-left, and-right, eqb-self, every-at, every-of, same-test, and-fails, both-ways, every-not, implied, or-cases, or-left, or-right, passes?, fails, implies, isnt-true, some-at, some-none, some-of, true-isnt, unimplied}
 use Rattle.rules.specs.Text.{Bytes, joinBy, nameCount, nameIn, same, sameLabel, split, squeezed}
-use Rattle.rules.specs.Graph.{Program, calleeAt, edgeCount, edgeTaken, kindAt, labelAt, leaves, sameKind, sourceAt, targetAt, wordAt}
-use Rattle.rules.specs.Closing.{alike, fits, sameCallee, sameWord}
-use Rattle.rules.specs.Proofs.GraphLaws.{sameKind-of, sameKind-true}
+use Rattle.rules.specs.Graph.{Program, calleeAt, edgeCount, edgeTaken, edgeWith, kindAt, labelAt, sameKind, sourceAt, targetAt, wordAt, WellFormed, star}
+use Rattle.rules.specs.Closing.{alike, fits, sameCallee, sameWord, keptBy, takes, Counterparts, Dangerous}
+use Rattle.rules.specs.Proofs.GraphLaws.{edge-is, sameKind-of, sameKind-true, star-takes, taken-at, taken-else, taken-star, taken-with, with-at, with-is}
 use Rattle.rules.specs.Proofs.TextLaws.{join-split, same-of, same-self, same-true}
 
 -- Labels match by what is left of them.
@@ -92,15 +92,166 @@ alike-then p q r a b c h k =
     let y = alike-is q r b c .0 k in
     alike-is p r a c .1 (x .0 ∙ y .0, x .1 ∙ y .1, x .2 ∙ y .2)
 
+-- ---- the edges taken for a word
+
+module _ (p : Program) (w : Bytes) (e : ℕ) where
+  takes-at : takes p w e ≡ true → edgeTaken p (sourceAt p e) w ≡ some e
+  unfolding takes
+  takes-at h = go (edgeTaken p (sourceAt p e) w) h
+    where
+      go : (o : Option ℕ) → after o false (λ f. eqb f e) ≡ true → o ≡ some e
+      go none h = absurd (false≢true h)
+      go (some f) h = ap {B = Option ℕ} some (eqb-true f e h)
+
+  takes-of : edgeTaken p (sourceAt p e) w ≡ some e → takes p w e ≡ true
+  unfolding takes
+  takes-of h = rw h (eqb-self e)
+
+module _ (old new : Program) (wo : WellFormed old) (wn : WellFormed new) where
+  -- Edges that pass `sameWord` are taken for one word; and those that are taken for one word pass it.
+  pub one-word : (e e′ : ℕ) → e < edgeCount old → e′ < edgeCount new → sameWord old new e e′ ≡ true
+      → (w : Bytes) × (edgeTaken old (sourceAt old e) w ≡ some e) × (edgeTaken new (sourceAt new e′) w ≡ some e′)
+  unfolding sameWord
+  one-word e e′ h h′ t =
+      ⊎-elim (λ u. (wordAt old e, edge-is old wo e _ _ h refl refl, takes-at new (wordAt old e) e′ u))
+      (λ u. (wordAt new e′, takes-at old (wordAt new e′) e u, edge-is new wn e′ _ _ h′ refl refl)) (or-cases _ _ t)
+
+  pub word-one : (n n′ e e′ : ℕ) (w : Bytes) → edgeTaken old n w ≡ some e → edgeTaken new n′ w ≡ some e′ → sameWord old new e e′ ≡ true
+  unfolding sameWord
+  word-one n n′ e e′ w t t′ = go (taken-at old n w e t) (taken-at new n′ w e′ t′)
+    where
+      go : (e < edgeCount old) × (sourceAt old e ≡ n) × ((wordAt old e ≡ w) ⊎ (wordAt old e ≡ star))
+          → (e′ < edgeCount new) × (sourceAt new e′ ≡ n′) × ((wordAt new e′ ≡ w) ⊎ (wordAt new e′ ≡ star))
+          → (takes new (wordAt old e) e′ or takes old (wordAt new e′) e) ≡ true
+      go (h, a, inl b) (h′, a′, b′) = or-left _ (takes-of new (wordAt old e) e′ (rw (a′, b) t′))
+      go (h, a, inr b) (h′, a′, inl b′) = or-right _ (takes-of old (wordAt new e′) e (rw (a, b′) t))
+      go (h, a, inr b) (h′, a′, inr b′) = or-left _ (takes-of new (wordAt old e) e′ (edge-is new wn e′ _ _ h′ refl (b′ ∙ sym b)))
+
+  -- By edges: the new node takes the new edge for the word of the old one, or the old edge is `*` and the old node has no edge with the word of the new one.
+  pub same-word-cases : (e e′ : ℕ) → e < edgeCount old → e′ < edgeCount new → sameWord old new e e′ ≡ true
+      → (edgeTaken new (sourceAt new e′) (wordAt old e) ≡ some e′) ⊎ ((wordAt old e ≡ star) × (edgeWith old (sourceAt old e) (wordAt new e′) ≡ none))
+  unfolding sameWord edgeTaken orElse
+  same-word-cases e e′ h h′ t =
+      ⊎-elim (λ u. inl (takes-at new (wordAt old e) e′ u)) (λ u. go (edgeWith old (sourceAt old e) (wordAt new e′)) refl (takes-at old (wordAt new e′) e u)) (or-cases _ _ t)
+    where
+      go : (o : Option ℕ) → edgeWith old (sourceAt old e) (wordAt new e′) ≡ o → orElse o (edgeWith old (sourceAt old e) star) ≡ some e
+          → (edgeTaken new (sourceAt new e′) (wordAt old e) ≡ some e′) ⊎ ((wordAt old e ≡ star) × (edgeWith old (sourceAt old e) (wordAt new e′) ≡ none))
+      go none q k = inr (with-at old (sourceAt old e) star e k .2, q)
+      go (some f) q k = inl (edge-is new wn e′ _ _ h′ refl (sym (with-at old (sourceAt old e) (wordAt new e′) e (q ∙ k) .2)))
+
+  pub same-word-of : (e e′ : ℕ) → e < edgeCount old
+      → (edgeTaken new (sourceAt new e′) (wordAt old e) ≡ some e′) ⊎ ((wordAt old e ≡ star) × (edgeWith old (sourceAt old e) (wordAt new e′) ≡ none))
+      → sameWord old new e e′ ≡ true
+  unfolding sameWord edgeTaken orElse
+  same-word-of e e′ h (inl t) = or-left _ (takes-of new (wordAt old e) e′ t)
+  same-word-of e e′ h (inr t) = or-right _ (takes-of old (wordAt new e′) e (rw (t .1) (with-is old wo e _ _ h refl (t .0))))
+
+  module _ (f : ℕ → ℕ → Bool) (e n′ : ℕ) where
+    -- What `keptBy` says of every word; where it fails, a word that shows it; and that it passes where there is none.
+    pub kept-at : keptBy old new f e n′ ≡ true → (w : Bytes) → edgeTaken old (sourceAt old e) w ≡ some e
+        → (e′ : ℕ) × (edgeTaken new n′ w ≡ some e′) × (f (targetAt old e) (targetAt new e′) ≡ true)
+    unfolding keptBy
+    kept-at h w t = go (taken-at old _ w e t .2)
+      where
+        own : (e′ : ℕ) × (edgeTaken new n′ (wordAt old e) ≡ some e′)
+        own = some-at _ (and-left _ _ h)
+
+        found : (e′ : ℕ) → edgeTaken new n′ w ≡ some e′ → (e′ : ℕ) × (edgeTaken new n′ w ≡ some e′) × (f (targetAt old e) (targetAt new e′) ≡ true)
+        found e′ t′ =
+            let r = taken-at new n′ w e′ t′ in (
+              e′,
+              t′,
+              implied _ _ (every-at _ (edgeCount new) (and-right _ _ h) e′ (r .0)) (and-both (eq-eqb _ _ (r .1)) (word-one _ n′ e e′ w t t′)),
+            )
+
+        go : (wordAt old e ≡ w) ⊎ (wordAt old e ≡ star) → (e′ : ℕ) × (edgeTaken new n′ w ≡ some e′) × (f (targetAt old e) (targetAt new e′) ≡ true)
+        go (inl b) = found (own .0) (ap (edgeTaken new n′) (sym b) ∙ own .1)
+        go (inr b) = let s = star-takes new n′ w (own .0) (ap (edgeTaken new n′) (sym b) ∙ own .1) in found (s .0) (s .1)
+
+    pub unkept-at : e < edgeCount old → keptBy old new f e n′ ≡ false
+        → (w : Bytes) × (edgeTaken old (sourceAt old e) w ≡ some e) × ((e′ : ℕ) → edgeTaken new n′ w ≡ some e′ → f (targetAt old e) (targetAt new e′) ≡ true → ⊥)
+    unfolding keptBy
+    unkept-at h k = ⊎-elim none-taken some-ends (and-fails _ _ k)
+      where
+        none-taken : some? (edgeTaken new n′ (wordAt old e)) ≡ false
+            → (w : Bytes) × (edgeTaken old (sourceAt old e) w ≡ some e) × ((e′ : ℕ) → edgeTaken new n′ w ≡ some e′ → f (targetAt old e) (targetAt new e′) ≡ true → ⊥)
+        none-taken u = (wordAt old e, edge-is old wo e _ _ h refl refl, λ e′ t g. both-ways (some-of t) u)
+
+        some-ends : every (edgeCount new) (λ e′. eqb (sourceAt new e′) n′ and sameWord old new e e′ ⇒ f (targetAt old e) (targetAt new e′)) ≡ false
+            → (w : Bytes) × (edgeTaken old (sourceAt old e) w ≡ some e) × ((e′ : ℕ) → edgeTaken new n′ w ≡ some e′ → f (targetAt old e) (targetAt new e′) ≡ true → ⊥)
+        some-ends u =
+            let r = every-not (λ e′. eqb (sourceAt new e′) n′ and sameWord old new e e′ ⇒ f (targetAt old e) (targetAt new e′)) (edgeCount new) u in
+            let v = unimplied _ _ (r .2) in
+            let s : sourceAt new (r .0) ≡ n′ = eqb-true _ _ (and-left _ _ (v .0)) in
+            let w = one-word e (r .0) h (r .1) (and-right _ _ (v .0)) in (
+              w .0,
+              w .1,
+              λ e′ t g.
+                  let q : e′ ≡ r .0 = Option·some-injective _ _ (sym t ∙ ap (λ (n : ℕ). edgeTaken new n (w .0)) (sym s) ∙ w .2) in
+                  both-ways (sym (ap (λ (i : ℕ). f (targetAt old e) (targetAt new i)) q) ∙ g) (v .1),
+            )
+
+    pub kept-of : e < edgeCount old → ((w : Bytes) → edgeTaken old (sourceAt old e) w ≡ some e → (e′ : ℕ) × (edgeTaken new n′ w ≡ some e′) × (f (targetAt old e) (targetAt new e′) ≡ true))
+        → keptBy old new f e n′ ≡ true
+    kept-of h k = ⊎-elim (λ t. t) (λ u. let r = unkept-at h u in let t = k (r .0) (r .1) in absurd (r .2 (t .0) (t .1) (t .2))) (passes? (keptBy old new f e n′))
+
+    -- By edges. An edge with another word than `*` is taken for its word alone; `*` for every word that the old node does not name, so that it is set against `*` and against each edge of
+    -- the new node whose word the old node does not have.
+    pub kept-named : e < edgeCount old → (wordAt old e ≡ star → ⊥)
+        → keptBy old new f e n′ ≡ after (edgeTaken new n′ (wordAt old e)) false (λ e′. f (targetAt old e) (targetAt new e′))
+    kept-named h x = same-test _ _ there (λ t. back (edgeTaken new n′ (wordAt old e)) refl t)
+      where
+        there : keptBy old new f e n′ ≡ true → after (edgeTaken new n′ (wordAt old e)) false (λ e′. f (targetAt old e) (targetAt new e′)) ≡ true
+        there t = let r = kept-at t (wordAt old e) (edge-is old wo e _ _ h refl refl) in rw (r .1) (r .2)
+
+        back : (o : Option ℕ) → edgeTaken new n′ (wordAt old e) ≡ o → after o false (λ e′. f (targetAt old e) (targetAt new e′)) ≡ true → keptBy old new f e n′ ≡ true
+        back none q t = absurd (false≢true t)
+        back (some e′) q t = kept-of h (λ w u. (e′, ap (edgeTaken new n′) (⊎-elim sym (λ s. absurd (x s)) (taken-at old _ w e u .2)) ∙ q, t))
+
+    pub kept-star : e < edgeCount old → wordAt old e ≡ star
+        → keptBy old new f e n′
+        ≡ (after (edgeWith new n′ star) false (λ e′. f (targetAt old e) (targetAt new e′))
+        and every (edgeCount new) (λ e′. eqb (sourceAt new e′) n′ and isnt (some? (edgeWith old (sourceAt old e) (wordAt new e′))) ⇒ f (targetAt old e) (targetAt new e′)))
+    kept-star h s = same-test _ _ (λ t. and-both (own t) (others t)) (λ t. back (edgeWith new n′ star) refl (and-left _ _ t) (and-right _ _ t))
+      where
+        own : keptBy old new f e n′ ≡ true → after (edgeWith new n′ star) false (λ e′. f (targetAt old e) (targetAt new e′)) ≡ true
+        own t = let r = kept-at t star (edge-is old wo e _ _ h refl s) in rw (sym (taken-star new n′) ∙ r .1) (r .2)
+
+        others : keptBy old new f e n′ ≡ true
+            → every (edgeCount new) (λ e′. eqb (sourceAt new e′) n′ and isnt (some? (edgeWith old (sourceAt old e) (wordAt new e′))) ⇒ f (targetAt old e) (targetAt new e′)) ≡ true
+        others t =
+            every-of _ (edgeCount new) (λ e′ l. implies _ _ (λ c.
+            let x : edgeWith old (sourceAt old e) (wordAt new e′) ≡ none = some-none _ (isnt-true _ (and-right _ _ c)) in
+            let r = kept-at t (wordAt new e′) (taken-else old _ (wordAt new e′) x ∙ with-is old wo e _ _ h refl s) in
+            let q : r .0 ≡ e′ = Option·some-injective _ _ (sym (r .1) ∙ edge-is new wn e′ n′ _ l (eqb-true _ _ (and-left _ _ c)) refl) in
+            sym (ap (λ (i : ℕ). f (targetAt old e) (targetAt new i)) q) ∙ r .2))
+
+        back : (o : Option ℕ) → edgeWith new n′ star ≡ o → after o false (λ e′. f (targetAt old e) (targetAt new e′)) ≡ true
+            → every (edgeCount new) (λ e′. eqb (sourceAt new e′) n′ and isnt (some? (edgeWith old (sourceAt old e) (wordAt new e′))) ⇒ f (targetAt old e) (targetAt new e′)) ≡ true
+            → keptBy old new f e n′ ≡ true
+        back none q a b = absurd (false≢true a)
+        back (some g) q a b =
+            kept-of h (λ w u.
+            let r = star-takes new n′ w g (taken-star new n′ ∙ q) in
+            let v = taken-at new n′ w (r .0) (r .1) in (
+              r .0,
+              r .1,
+              ⊎-elim (λ x. named w u (r .0) (r .1) (v .0) (v .1) x (edgeWith old (sourceAt old e) w) refl) (λ x. is-star (r .0) (with-is new wn (r .0) n′ star (v .0) (v .1) x)) (v .2),
+            ))
+          where
+            is-star : (e′ : ℕ) → edgeWith new n′ star ≡ some e′ → f (targetAt old e) (targetAt new e′) ≡ true
+            is-star e′ x = ap (λ (i : ℕ). f (targetAt old e) (targetAt new i)) (Option·some-injective _ _ (sym x ∙ q)) ∙ a
+
+            named : (w : Bytes) → edgeTaken old (sourceAt old e) w ≡ some e → (e′ : ℕ) → edgeTaken new n′ w ≡ some e′ → e′ < edgeCount new → sourceAt new e′ ≡ n′ → wordAt new e′ ≡ w
+                → (o : Option ℕ) → edgeWith old (sourceAt old e) w ≡ o → f (targetAt old e) (targetAt new e′) ≡ true
+            named w u e′ t l c x none k =
+                implied _ _ (every-at _ (edgeCount new) b e′ l) (and-both (eq-eqb _ _ c) (true-isnt (fails _ (λ y. let z = some-at _ y in absurd (Option·none-ne-some (z .0) (sym k ∙ ap (edgeWith old (sourceAt old e)) (sym x) ∙ z .1))))))
+            named w u e′ t l c x (some i) k =
+                let same-one : i ≡ e = Option·some-injective _ _ (sym (taken-with old _ w i k) ∙ u) in
+                let y : w ≡ star = sym (with-at old _ w i k .2) ∙ ap (wordAt old) same-one ∙ s in
+                is-star e′ (sym (taken-star new n′) ∙ ap (edgeTaken new n′) (sym y) ∙ t)
+
 module _ (old new : Program) (e e′ : ℕ) where
-  pub same-word : sameWord old new e e′ ≡ true → wordAt old e ≡ wordAt new e′
-  unfolding sameWord
-  same-word h = same-true _ _ h
-
-  pub word-same : wordAt old e ≡ wordAt new e′ → sameWord old new e e′ ≡ true
-  unfolding sameWord
-  word-same h = same-of h
-
   pub fits-word : fits old new e e′ ≡ true → sameWord old new e e′ ≡ true
   unfolding fits
   fits-word h = and-left _ _ h
@@ -113,10 +264,14 @@ module _ (old new : Program) (e e′ : ℕ) where
   unfolding fits
   fits-of w a = and-both w a
 
--- The edge that the new node m takes for the word of the old edge e.
-module _ (old new : Program) (e m : ℕ) where
-  pub taken-same : edgeTaken new m (wordAt old e) ≡ first (edgeCount new) (λ e′. eqb (sourceAt new e′) m and sameWord old new e e′)
-  unfolding edgeTaken leaves sameWord
-  taken-same =
-      first-agree (leaves new m (wordAt old e)) (λ e′. eqb (sourceAt new e′) m and sameWord old new e e′) (edgeCount new)
-      (λ i l. ap (λ (t : Bool). eqb (sourceAt new i) m and t) (same-test _ _ (λ t. same-of (sym (same-true _ _ t))) (λ t. same-of (sym (same-true _ _ t)))))
+-- Counterparts are an old edge and a new one.
+module _ (old new : Program) {e e′ : ℕ} (c : Counterparts old new e e′) where
+  pub counterpart-old : e < edgeCount old
+  counterpart-old = taken-at old _ (c .word) e (c .oldTakes) .0
+
+  pub counterpart-new : e′ < edgeCount new
+  counterpart-new = taken-at new _ (c .word) e′ (c .newTakes) .0
+
+-- A dangerous edge is an old one.
+pub danger-old : (old new : Program) {e : ℕ} → Dangerous old new e → e < edgeCount old
+danger-old old new {e} d = taken-at old _ (d .word) e (d .oldTakes) .0

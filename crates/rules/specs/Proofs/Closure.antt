@@ -1,7 +1,9 @@
 -- The computed pairs are the smallest set with the closing rules (T4), and what the selector writes passes the check (T2).
-use mathlib.Core.Path.{_≡_, refl, sym, _∙_, subst, subst₂}
+use mathlib.Core.Path.{_≡_, refl, sym, ap, _∙_, subst₂, subst}
 use mathlib.Core.Logic.{_⊎_, inl, inr, ⊎-elim, _↔_}
+use mathlib.Core.Option.{Option·some-injective}
 use mathlib.Core.Bool.{Bool, true, false, false≢true}
+use mathlib.Core.Option.{some}
 use mathlib.Core.List.{List, [], _∷_}
 use Prim.Native.Nat.{ℕ, zero, suc, _+_, _≤_, _<_}
 use native.Mathlib.Omega.{arith}
@@ -12,15 +14,16 @@ use Rattle.laws.specs.Tests.{_and_, _or_, any, has, listed, anyPair, pick, grid
 use Rattle.laws.specs.TestLaws.{and-left, and-right, and-both, implied, implies, or-cases, or-left, or-right, both-ways, fails, passes?, true-isnt, isnt-true, eqb-self, every-at, every-of, any-at, any-of, those-of, anyPair-at, anyPair-of, allPairs-of, pick-of, pick-at, pick-more, pick-same, pick-all, grid-of, grid-at, Ascending, grid-ascends, pick-ascends, none-left, none-failed, those-at, anyOf-at, anyOf-of}
 use Rattle.laws.specs.Lists.{Rising, those-rise}
 use Rattle.laws.specs.Reach.{reached-below, reached-few, reached-rise}
-use Rattle.rules.specs.Graph.{E, C, Program, WellFormed, procCount, nodeCount, edgeCount, kindAt, labelAt, calleeAt, sourceAt, targetAt, entry, calleeCount, called, filled}
+use Rattle.rules.specs.Text.{Bytes}
+use Rattle.rules.specs.Graph.{E, C, Program, WellFormed, procCount, nodeCount, edgeCount, kindAt, labelAt, calleeAt, sourceAt, targetAt, entry, calleeCount, called, edgeTaken, filled}
 use Rattle.rules.specs.After.{edgesAfter}
-use Rattle.rules.specs.Closing.{ExitsMet, alike, fits, Pair, first-entries, callee-entries, edge-ends, Counterparts, Dangerous, bothCall, fitted, exitsMet, goesOn, joined, byStart, byCall, byEdge, follows, grown, dangerousAt, dangerous, closed, pairs, dangers, Coverage, meets, repeated, holds, AfterDanger, Parting, Probe, afterDangers, parting, parted, probes}
+use Rattle.rules.specs.Closing.{ExitsMet, MayGoOn, alike, fits, keptBy, Pair, first-entries, callee-entries, edge-ends, Counterparts, Dangerous, bothCall, fitted, exitsMet, goesOn, joined, byStart, byCall, byEdge, follows, grown, dangerousAt, dangerous, closed, pairs, dangers, Coverage, meets, repeated, holds, AfterDanger, Parting, Probe, afterDangers, parting, parted, probes}
 use Rattle.rules.specs.Sheet.{selected}
-use Rattle.rules.specs.Check.{entered, keeps, edgeKept, edgesKept, rule1, rule2, rule3, rule4, rule5, broken}
+use Rattle.rules.specs.Check.{entered, edgeKept, edgesKept, rule1, rule2, rule3, rule4, rule5, broken}
 use Rattle.rules.specs.Promises.{Exact}
+use Rattle.rules.specs.Proofs.ClosingLaws.{alike-bare, danger-old, fits-ends, fits-of, fits-word, kept-at, kept-of, one-word, unkept-at, word-one}
+use Rattle.rules.specs.Proofs.GraphLaws.{sameKind-true, sameKind-of, entry-is, called-below, taken-at}
 use Rattle.rules.specs.Proofs.AfterLaws.{after-iff}
-use Rattle.rules.specs.Proofs.ClosingLaws.{alike-bare, fits-ends, fits-of, fits-word, same-word}
-use Rattle.rules.specs.Proofs.GraphLaws.{sameKind-true, sameKind-of, entry-is, called-below}
 use Rattle.rules.specs.Proofs.TextLaws.{empty-true}
 
 pick-none : (l : List (ℕ × ℕ)) → pick (λ n k. false) l ≡ []
@@ -116,7 +119,7 @@ module _ (old new : Program) where
   pub pairs-inside : (a b : ℕ) → listed (pairs old new) a b ≡ true → (a < nodeCount old) × (b < nodeCount new)
   pairs-inside a b l = grid-at _ _ a b (pick-at (pairs-picked .0) all a b (rw (pairs-picked .1) at l) .0)
 
-  -- ---- every listed pair is a pair
+  -- ---- what a list says of its pairs
 
   Sound : List (ℕ × ℕ) → Type 0
   Sound M = (a b : ℕ) → listed M a b ≡ true → Pair old new a b
@@ -143,63 +146,8 @@ module _ (old new : Program) where
     unfolding joined
     joined-of e e′ l g f = and-both l (and-both g f)
 
-    -- What rule 3 joins by a list of pairs are counterparts.
-    joined-sound : Sound M → (e e′ : ℕ) → e < edgeCount old → e′ < edgeCount new → joined old new M e e′ ≡ true → Counterparts old new e e′
-    unfolding Sound joined
-    joined-sound s e e′ h h′ j =
-        record {
-          isOld = h;
-          isNew = h′;
-          pair = s _ _ (and-left _ _ j);
-          mayGoOn = λ k i l. s _ _ (goesOn-at _ _ (and-left _ _ (and-right _ _ j)) k i l);
-          fit = and-right _ _ (and-right _ _ j);
-        }
+    -- ---- what the rules give from a list
 
-    byCall-sound : Sound M → (a b : ℕ) → anyPair (byCall old new M a b) M ≡ true → Pair old new a b
-    unfolding Sound byCall bothCall
-    byCall-sound s a b t =
-        let r = anyPair-at (byCall old new M a b) M t in
-        let k = and-left _ _ (r .3) in
-        let i = any-at _ (calleeCount old (r .0)) (and-right _ _ (r .3)) in
-        let v = and-right _ _ (i .2) in
-        subst₂ (Pair old new) (eqb-true _ _ (and-left _ _ v)) (eqb-true _ _ (and-right _ _ v))
-        (callee-entries (s _ _ (r .2)) (sameKind-true _ _ (and-left _ _ k)) (sameKind-true _ _ (and-right _ _ k)) (i .0) (i .1)
-        (λ j l. s _ _ (exitsMet-at (r .0) (r .1) (i .0) (and-left _ _ (i .2)) j l)))
-
-    byEdge-sound : Sound M → (a b : ℕ) → any (edgeCount old) (λ e. any (edgeCount new) (byEdge old new M a b e)) ≡ true → Pair old new a b
-    unfolding byEdge
-    byEdge-sound s a b t =
-        let r = any-at (λ e. any (edgeCount new) (byEdge old new M a b e)) (edgeCount old) t in
-        let r′ = any-at (byEdge old new M a b (r .0)) (edgeCount new) (r .2) in
-        let v = and-right _ _ (r′ .2) in
-        let c = joined-sound s (r .0) (r′ .0) (r .1) (r′ .1) (and-right _ _ v) in
-        subst₂ (Pair old new) (eqb-true _ _ (and-left _ _ (r′ .2))) (eqb-true _ _ (and-left _ _ v)) (edge-ends (c .pair) (c .mayGoOn) (c .isOld) (c .isNew) (c .fit))
-
-    grown-sound : Sound M → Sound (grown old new M)
-    unfolding Sound grown follows byStart
-    grown-sound s a b l =
-        ⊎-elim (s a b)
-        (λ f. ⊎-elim (λ t. subst₂ (Pair old new) (eqb-true _ _ (and-left _ _ t)) (eqb-true _ _ (and-right _ _ t)) first-entries)
-        (λ t. ⊎-elim (byCall-sound s a b) (byEdge-sound s a b) (or-cases _ _ t)) (or-cases _ _ f))
-        (or-cases _ _ (pick-at _ all a b l .1))
-
-  closed-sound : (k : ℕ) (M : List (ℕ × ℕ)) → Sound M → Sound (closed old new k M)
-  unfolding closed
-  closed-sound zero M s = s
-  closed-sound (suc k) M s = go (eqb (length (grown old new M)) (length M)) (closed-sound k (grown old new M) (grown-sound M s))
-    where
-      go : (t : Bool) → Sound (closed old new k (grown old new M)) → Sound (elim t as (λ _. List (ℕ × ℕ)) [ true ↦ M | false ↦ closed old new k (grown old new M) ])
-      go true ih = s
-      go false ih = ih
-
-  -- The listed pairs are pairs.
-  pub pairs-sound : (a b : ℕ) → listed (pairs old new) a b ≡ true → Pair old new a b
-  unfolding pairs Sound listed
-  pairs-sound = closed-sound (length all) [] (λ a b l. absurd (false≢true l))
-
-  -- ---- every pair is listed
-
-  module _ (M : List (ℕ × ℕ)) where
     follows-start : follows old new M (entry old 0) (entry new 0) ≡ true
     unfolding follows byStart
     follows-start = or-left _ (and-both (eqb-self (entry old 0)) (eqb-self (entry new 0)))
@@ -227,15 +175,81 @@ module _ (old new : Program) where
 pub least : (old new : Program) (P : ℕ → ℕ → Type 0) → P (entry old 0) (entry new 0)
     → ((n n′ : ℕ) → P n n′ → kindAt old n ≡ C → kindAt new n′ ≡ C → (i : ℕ) → i < calleeCount old n → ExitsMet old new P n n′ i
     → P (entry old (called old n i)) (entry new (called new n′ i)))
-    → ((e e′ : ℕ) → P (sourceAt old e) (sourceAt new e′)
-    → (kindAt old (sourceAt old e) ≡ C → ExitsMet old new P (sourceAt old e) (sourceAt new e′) (calleeCount old (sourceAt old e)))
-    → e < edgeCount old → e′ < edgeCount new → fits old new e e′ ≡ true → P (targetAt old e) (targetAt new e′))
+    → ((n n′ e e′ : ℕ) → P n n′ → (kindAt old n ≡ C → ExitsMet old new P n n′ (calleeCount old n))
+    → (w : Bytes) → edgeTaken old n w ≡ some e → edgeTaken new n′ w ≡ some e′ → alike old new (targetAt old e) (targetAt new e′) ≡ true → P (targetAt old e) (targetAt new e′))
     → {a b : ℕ} → Pair old new a b → P a b
 least old new P r1 r2 r3 first-entries = r1
 least old new P r1 r2 r3 (callee-entries p k k′ i h x) = r2 _ _ (least old new P r1 r2 r3 p) k k′ i h (λ j l. least old new P r1 r2 r3 (x j l))
-least old new P r1 r2 r3 (edge-ends p x h h′ f) = r3 _ _ (least old new P r1 r2 r3 p) (λ k j l. least old new P r1 r2 r3 (x k j l)) h h′ f
+least old new P r1 r2 r3 (edge-ends p x w t t′ f) = r3 _ _ _ _ (least old new P r1 r2 r3 p) (λ k j l. least old new P r1 r2 r3 (x k j l)) w t t′ f
 
 module _ (old new : Program) (wo : WellFormed old) (wn : WellFormed new) where
+  -- ---- every listed pair is a pair
+
+  module _ (M : List (ℕ × ℕ)) where
+    -- What rule 3 joins by a list of pairs are counterparts.
+    joined-sound : Sound old new M → (e e′ : ℕ) → e < edgeCount old → e′ < edgeCount new → joined old new M e e′ ≡ true → Counterparts old new e e′
+    unfolding Sound joined
+    joined-sound s e e′ h h′ j =
+        let f = and-right _ _ (and-right _ _ j) in
+        let w = one-word old new wo wn e e′ h h′ (fits-word old new e e′ f) in
+        record {
+          pair = s _ _ (and-left _ _ j);
+          mayGoOn = λ k i l. s _ _ (goesOn-at old new M _ _ (and-left _ _ (and-right _ _ j)) k i l);
+          word = w .0;
+          oldTakes = w .1;
+          newTakes = w .2;
+          alikeEnds = fits-ends old new e e′ f;
+        }
+
+    byCall-sound : Sound old new M → (a b : ℕ) → anyPair (byCall old new M a b) M ≡ true → Pair old new a b
+    unfolding Sound byCall bothCall
+    byCall-sound s a b t =
+        let r = anyPair-at (byCall old new M a b) M t in
+        let k = and-left _ _ (r .3) in
+        let i = any-at _ (calleeCount old (r .0)) (and-right _ _ (r .3)) in
+        let v = and-right _ _ (i .2) in
+        subst₂ (Pair old new) (eqb-true _ _ (and-left _ _ v)) (eqb-true _ _ (and-right _ _ v))
+        (callee-entries (s _ _ (r .2)) (sameKind-true _ _ (and-left _ _ k)) (sameKind-true _ _ (and-right _ _ k)) (i .0) (i .1)
+        (λ j l. s _ _ (exitsMet-at old new M (r .0) (r .1) (i .0) (and-left _ _ (i .2)) j l)))
+
+    byEdge-sound : Sound old new M → (a b : ℕ) → any (edgeCount old) (λ e. any (edgeCount new) (byEdge old new M a b e)) ≡ true → Pair old new a b
+    unfolding byEdge
+    byEdge-sound s a b t =
+        let r = any-at (λ e. any (edgeCount new) (byEdge old new M a b e)) (edgeCount old) t in
+        let r′ = any-at (byEdge old new M a b (r .0)) (edgeCount new) (r .2) in
+        let v = and-right _ _ (r′ .2) in
+        let c = joined-sound s (r .0) (r′ .0) (r .1) (r′ .1) (and-right _ _ v) in
+        subst₂ (Pair old new) (eqb-true _ _ (and-left _ _ (r′ .2))) (eqb-true _ _ (and-left _ _ v)) (edge-ends (c .pair) (c .mayGoOn) (c .word) (c .oldTakes) (c .newTakes) (c .alikeEnds))
+
+    grown-sound : Sound old new M → Sound old new (grown old new M)
+    unfolding Sound grown follows byStart
+    grown-sound s a b l =
+        ⊎-elim (s a b)
+        (λ f. ⊎-elim (λ t. subst₂ (Pair old new) (eqb-true _ _ (and-left _ _ t)) (eqb-true _ _ (and-right _ _ t)) first-entries)
+        (λ t. ⊎-elim (byCall-sound s a b) (byEdge-sound s a b) (or-cases _ _ t)) (or-cases _ _ f))
+        (or-cases _ _ (pick-at _ (all old new) a b l .1))
+
+  closed-sound : (k : ℕ) (M : List (ℕ × ℕ)) → Sound old new M → Sound old new (closed old new k M)
+  unfolding closed
+  closed-sound zero M s = s
+  closed-sound (suc k) M s = go (eqb (length (grown old new M)) (length M)) (closed-sound k (grown old new M) (grown-sound M s))
+    where
+      go : (t : Bool) → Sound old new (closed old new k (grown old new M)) → Sound old new (elim t as (λ _. List (ℕ × ℕ)) [ true ↦ M | false ↦ closed old new k (grown old new M) ])
+      go true ih = s
+      go false ih = ih
+
+  -- The listed pairs are pairs.
+  pub pairs-sound : (a b : ℕ) → listed (pairs old new) a b ≡ true → Pair old new a b
+  unfolding pairs Sound listed
+  pairs-sound = closed-sound (length (all old new)) [] (λ a b l. absurd (false≢true l))
+
+  -- ---- every pair is listed
+
+  -- Rule 3 joins fitting edges of a listed pair that may go on.
+  joined-at : (n n′ e e′ : ℕ) → sourceAt old e ≡ n → sourceAt new e′ ≡ n′ → listed (pairs old new) n n′ ≡ true → goesOn old new (pairs old new) n n′ ≡ true
+      → fits old new e e′ ≡ true → joined old new (pairs old new) e e′ ≡ true
+  joined-at n n′ e e′ a a′ l g f = joined-of old new (pairs old new) e e′ (rw (a, a′) l) (rw (a, a′) g) f
+
   -- The pairs are listed.
   pub pairs-complete : {a b : ℕ} → Pair old new a b → listed (pairs old new) a b ≡ true
   unfolding Stable
@@ -246,119 +260,115 @@ module _ (old new : Program) (wo : WellFormed old) (wn : WellFormed new) where
       let e′ = entry-is new wn (called new n′ i) (called-below new wn n′ i) in
       pairs-stable old new _ _ (grid-of _ _ _ _ (e .0) (e′ .0))
       (follows-call old new (pairs old new) n n′ (pairs-complete p) k k′ i h (exitsMet-of old new (pairs old new) n n′ i (λ j l. pairs-complete (x j l))))
-  pairs-complete (edge-ends {e = e} {e′ = e′} p x h h′ f) =
-      pairs-stable old new _ _ (grid-of _ _ _ _ (wo .targets e h) (wn .targets e′ h′))
-      (follows-edge old new (pairs old new) e e′ h h′
-      (joined-of old new (pairs old new) e e′ (pairs-complete p) (goesOn-of old new (pairs old new) _ _ (λ k j l. pairs-complete (x k j l))) f))
+  pairs-complete (edge-ends {n = n} {n′ = n′} {e = e} {e′ = e′} p x w t t′ f) =
+      let u = taken-at old n w e t in
+      let u′ = taken-at new n′ w e′ t′ in
+      pairs-stable old new _ _ (grid-of _ _ _ _ (wo .targets e (u .0)) (wn .targets e′ (u′ .0)))
+      (follows-edge old new (pairs old new) e e′ (u .0) (u′ .0)
+      (joined-at n n′ e e′ (u .1) (u′ .1) (pairs-complete p) (goesOn-of old new (pairs old new) n n′ (λ k j l. pairs-complete (x k j l)))
+      (fits-of old new e e′ (word-one old new wo wn n n′ e e′ w t t′) f)))
 
   -- The computed list holds just the pairs.
   pub smallest : (a b : ℕ) → (listed (pairs old new) a b ≡ true) ↔ Pair old new a b
-  smallest a b = (pairs-sound old new a b, pairs-complete)
+  smallest a b = (pairs-sound a b, pairs-complete)
 
   -- Rule 3 joins by the list of pairs just the counterparts.
   pub joined-iff : (e e′ : ℕ) → e < edgeCount old → e′ < edgeCount new → (joined old new (pairs old new) e e′ ≡ true) ↔ Counterparts old new e e′
   unfolding Sound
   joined-iff e e′ h h′ = (
-    joined-sound old new (pairs old new) (pairs-sound old new) e e′ h h′,
-    λ c. joined-of old new (pairs old new) e e′ (pairs-complete (c .pair)) (goesOn-of old new (pairs old new) _ _ (λ k j l. pairs-complete (c .mayGoOn k j l))) (c .fit),
+    joined-sound (pairs old new) pairs-sound e e′ h h′,
+    λ c. joined-at _ _ e e′ refl refl (pairs-complete (c .pair)) (goesOn-of old new (pairs old new) _ _ (λ k j l. pairs-complete (c .mayGoOn k j l)))
+        (fits-of old new e e′ (word-one old new wo wn _ _ e e′ (c .word) (c .oldTakes) (c .newTakes)) (c .alikeEnds)),
   )
 
-  -- Joined edges end on a pair.
-  pub joined-ends : (e e′ : ℕ) → e < edgeCount old → e′ < edgeCount new → joined old new (pairs old new) e e′ ≡ true → Pair old new (targetAt old e) (targetAt new e′)
-  joined-ends e e′ h h′ j = let c = joined-iff e e′ h h′ .0 j in edge-ends (c .pair) (c .mayGoOn) h h′ (c .fit)
+  -- An edge is dangerous, by edges: for some pair that may go on it is not fitted. Then it is an old edge.
+  pub danger-of : (e n′ : ℕ) → e < edgeCount old → Pair old new (sourceAt old e) n′ → MayGoOn old new (sourceAt old e) n′ → fitted old new e n′ ≡ false → Dangerous old new e
+  unfolding fitted
+  danger-of e n′ h p g u =
+      let w = unkept-at old new wo wn (alike old new) e n′ h u in
+      record { partner = n′; pair = p; mayGoOn = g; word = w .0; oldTakes = w .1; unfit = w .2 }
 
-  -- The test of an edge for a pair passes just the pairs that make it dangerous.
-  pub danger-true : (e n′ : ℕ) → e < edgeCount old → listed (pairs old new) (sourceAt old e) n′ ≡ true → dangerousAt old new (pairs old new) e (sourceAt old e) n′ ≡ true
-      → (d : Dangerous old new e) × (d .partner ≡ n′)
-  unfolding dangerousAt fitted
-  danger-true e n′ h l t =
-      let u = and-right _ _ t in (
-        record {
-          isOld = h;
-          partner = n′;
-          pair = pairs-sound old new _ _ l;
-          mayGoOn = λ k j i. pairs-sound old new _ _ (goesOn-at old new (pairs old new) _ _ (and-left _ _ u) k j i);
-          unfit = λ f i a x. both-ways (any-of (λ f. eqb (sourceAt new f) n′ and fits old new e f) (edgeCount new) f i (and-both (eq-eqb _ _ a) x)) (isnt-true _ (and-right _ _ u));
-        },
-        refl,
-      )
-
-  danger-of : (e : ℕ) (d : Dangerous old new e)
-      → (listed (pairs old new) (sourceAt old e) (d .partner) ≡ true) × (dangerousAt old new (pairs old new) e (sourceAt old e) (d .partner) ≡ true)
-  unfolding dangerousAt fitted
-  danger-of e d = (
-    pairs-complete (d .pair),
-    and-both (eqb-self (sourceAt old e)) (and-both (goesOn-of old new (pairs old new) _ _ (λ k j l. pairs-complete (d .mayGoOn k j l)))
-        (true-isnt (fails _ (λ t. let r = any-at _ (edgeCount new) t in d .unfit (r .0) (r .1) (eqb-true _ _ (and-left _ _ (r .2))) (and-right _ _ (r .2)))))),
-  )
+  pub danger-unfitted : {e : ℕ} (d : Dangerous old new e) → fitted old new e (d .partner) ≡ false
+  unfolding fitted
+  danger-unfitted {e} d = fails _ (λ t. let u = kept-at old new wo wn (alike old new) e (d .partner) t (d .word) (d .oldTakes) in d .unfit (u .0) (u .1) (u .2))
 
   -- The test of a dangerous edge passes just the dangerous ones.
   pub dangerous-iff : (e : ℕ) → e < edgeCount old → (dangerous old new (pairs old new) e ≡ true) ↔ Dangerous old new e
   unfolding dangerous dangerousAt
-  dangerous-iff e h = (
-    λ t.
-        let r = anyPair-at (dangerousAt old new (pairs old new) e) (pairs old new) t in
-        let s : sourceAt old e ≡ r .0 = eqb-true _ _ (and-left _ _ (r .3)) in
-        danger-true e (r .1) h (subst (λ (n : ℕ). listed (pairs old new) n (r .1) ≡ true) (sym s) (r .2))
-        (subst (λ (n : ℕ). dangerousAt old new (pairs old new) e n (r .1) ≡ true) (sym s) (r .3)) .0,
-    λ d. let r = danger-of e d in anyPair-of (dangerousAt old new (pairs old new) e) (pairs old new) (sourceAt old e) (d .partner) (r .0) (r .1),
-  )
+  dangerous-iff e h = (there, back)
+    where
+      there : dangerous old new (pairs old new) e ≡ true → Dangerous old new e
+      there d =
+          let r = anyPair-at (dangerousAt old new (pairs old new) e) (pairs old new) d in
+          let t = and-right _ _ (r .3) in
+          let s : sourceAt old e ≡ r .0 = eqb-true _ _ (and-left _ _ (r .3)) in
+          danger-of e (r .1) h (pairs-sound _ _ (ap (λ (n : ℕ). listed (pairs old new) n (r .1)) s ∙ r .2))
+          (λ k j i. pairs-sound _ _ (goesOn-at old new (pairs old new) _ _ (ap (λ (n : ℕ). goesOn old new (pairs old new) n (r .1)) s ∙ and-left _ _ t) k j i))
+          (isnt-true _ (and-right _ _ t))
 
-  -- The test of an edge at which the runs may part passes just these; the old edge is dangerous there.
-  pub parted-danger : (e e′ : ℕ) → e < edgeCount old → e′ < edgeCount new → parted old new (pairs old new) e e′ ≡ true → (d : Dangerous old new e) × (sourceAt new e′ ≡ d .partner)
+      back : Dangerous old new e → dangerous old new (pairs old new) e ≡ true
+      back d =
+          anyPair-of (dangerousAt old new (pairs old new) e) (pairs old new) (sourceAt old e) (d .partner) (pairs-complete (d .pair))
+          (and-both (eqb-self (sourceAt old e))
+          (and-both (goesOn-of old new (pairs old new) _ _ (λ k j l. pairs-complete (d .mayGoOn k j l))) (true-isnt (danger-unfitted d))))
+
+  -- The test of an edge at which the runs may part passes just these; the old edge is dangerous there, for a word for which the new one is taken.
+  pub parted-danger : (e e′ : ℕ) → e < edgeCount old → e′ < edgeCount new → parted old new (pairs old new) e e′ ≡ true
+      → (d : Dangerous old new e) × (edgeTaken new (d .partner) (d .word) ≡ some e′)
   unfolding parted
   parted-danger e e′ h h′ t =
       let g = and-right _ _ t in
       let w = and-right _ _ g in
-      let only : (f : ℕ) → f < edgeCount new → sourceAt new f ≡ sourceAt new e′ → fits old new e f ≡ true → f ≡ e′
-      = λ f i a x. wn .words e′ f h′ i a (sym (same-word old new e f (fits-word old new e f x)) ∙ same-word old new e e′ (and-left _ _ w)) in (
+      let u = one-word old new wo wn e e′ h h′ (and-left _ _ w) in (
         record {
-          isOld = h;
           partner = sourceAt new e′;
-          pair = pairs-sound old new _ _ (and-left _ _ t);
-          mayGoOn = λ k j i. pairs-sound old new _ _ (goesOn-at old new (pairs old new) _ _ (and-left _ _ g) k j i);
-          unfit = λ f i a x.
-              both-ways (subst (λ (y : ℕ). alike old new (targetAt old e) (targetAt new y) ≡ true) (only f i a x) (fits-ends old new e f x)) (isnt-true _ (and-right _ _ w));
+          pair = pairs-sound _ _ (and-left _ _ t);
+          mayGoOn = λ k j i. pairs-sound _ _ (goesOn-at old new (pairs old new) _ _ (and-left _ _ g) k j i);
+          word = u .0;
+          oldTakes = u .1;
+          unfit = λ f q a.
+              both-ways (subst (λ (y : ℕ). alike old new (targetAt old e) (targetAt new y) ≡ true) (Option·some-injective f e′ (sym q ∙ u .2)) a) (isnt-true _ (and-right _ _ w));
         },
-        refl,
+        u .2,
       )
 
   parting-true : (e e′ : ℕ) → e < edgeCount old → e′ < edgeCount new → parted old new (pairs old new) e e′ ≡ true → Parting old new e′
-  unfolding parted
-  parting-true e e′ h h′ t =
-      let d = parted-danger e e′ h h′ t in
-      record { isNew = h′; cause = e; danger = d .0; there = d .1; word = and-left _ _ (and-right _ _ (and-right _ _ t)) }
+  parting-true e e′ h h′ t = let d = parted-danger e e′ h h′ t in record { cause = e; danger = d .0; taken = d .1 }
 
   parting-of : (e′ : ℕ) (p : Parting old new e′) → parted old new (pairs old new) (p .cause) e′ ≡ true
   unfolding parted
   parting-of e′ p =
       let d = p .danger in
-      rw (p .there)
-      (and-both (pairs-complete (d .pair)) (and-both (goesOn-of old new (pairs old new) _ _ (λ k j l. pairs-complete (d .mayGoOn k j l))) (and-both (p .word)
-      (true-isnt (fails _ (λ a. d .unfit e′ (p .isNew) (p .there) (fits-of old new (p .cause) e′ (p .word) a)))))))
+      let f = taken-at new (d .partner) (d .word) e′ (p .taken) in
+      rw (f .1)
+      (and-both (pairs-complete (d .pair)) (and-both (goesOn-of old new (pairs old new) _ _ (λ k j l. pairs-complete (d .mayGoOn k j l)))
+      (and-both (word-one old new wo wn _ _ (p .cause) e′ (d .word) (d .oldTakes) (p .taken)) (true-isnt (fails _ (λ a. d .unfit e′ (p .taken) a))))))
+
+  pub parting-new : {e′ : ℕ} → Parting old new e′ → e′ < edgeCount new
+  parting-new {e′} p = taken-at new _ _ e′ (p .taken) .0
 
   parting-iff : (e′ : ℕ) → e′ < edgeCount new → (parting old new (pairs old new) e′ ≡ true) ↔ Parting old new e′
   unfolding parting
   parting-iff e′ h = (
     λ t. let r = any-at (λ e. parted old new (pairs old new) e e′) (edgeCount old) t in parting-true (r .0) e′ (r .1) h (r .2),
-    λ p. any-of (λ e. parted old new (pairs old new) e e′) (edgeCount old) (p .cause) (p .danger .isOld) (parting-of e′ p),
+    λ p. any-of (λ e. parted old new (pairs old new) e e′) (edgeCount old) (p .cause) (danger-old old new (p .danger)) (parting-of e′ p),
   )
 
   -- The computed probes are just the edges that need one; the computed old edges after a danger are just these.
   pub probes-iff : (e′ : ℕ) → (has (probes old new) e′ ≡ true) ↔ Probe old new e′
   unfolding probes
-  probes-iff = after-iff new wn (parting old new (pairs old new)) (Parting old new) (λ e h. parting-iff e h .0) (λ e p. (p .isNew, parting-iff e (p .isNew) .1 p))
+  probes-iff = after-iff new wn (parting old new (pairs old new)) (Parting old new) (λ e h. parting-iff e h .0) (λ e p. (parting-new p, parting-iff e (parting-new p) .1 p))
 
   pub afterDangers-iff : (e : ℕ) → (has (afterDangers old new) e ≡ true) ↔ AfterDanger old new e
   unfolding afterDangers
-  afterDangers-iff = after-iff old wo (dangerous old new (pairs old new)) (Dangerous old new) (λ e h. dangerous-iff e h .0) (λ e d. (d .isOld, dangerous-iff e (d .isOld) .1 d))
+  afterDangers-iff = after-iff old wo (dangerous old new (pairs old new)) (Dangerous old new) (λ e h. dangerous-iff e h .0) (λ e d. (danger-old old new d, dangerous-iff e (danger-old old new d) .1 d))
 
   -- The listed dangers are just the dangerous edges.
   pub dangers-iff : (e : ℕ) → (has (dangers old new) e ≡ true) ↔ Dangerous old new e
   unfolding dangers
   dangers-iff e = (
     λ t. let r = those-at _ _ e t in dangerous-iff e (r .0) .0 (r .1),
-    λ d. those-of _ _ e (d .isOld) (dangerous-iff e (d .isOld) .1 d),
+    λ d. those-of _ _ e (danger-old old new d) (dangerous-iff e (danger-old old new d) .1 d),
   )
 
   -- The repeated tests are just those whose coverage holds a dangerous edge.
@@ -385,7 +395,7 @@ module _ (old new : Program) (wo : WellFormed old) (wn : WellFormed new) where
   pub pair-alike : {a b : ℕ} → Pair old new a b → alike old new a b ≡ true
   pair-alike first-entries = entries-alike 0 0 (wo .begins) (wn .begins)
   pair-alike (callee-entries {n = n} {n′ = n′} p k k′ i h x) = entries-alike _ _ (called-below old wo n i) (called-below new wn n′ i)
-  pair-alike (edge-ends p x h h′ f) = fits-ends old new _ _ f
+  pair-alike (edge-ends p x w t t′ f) = f
 
   -- For an old edge that is not dangerous, the new node of a pair that may go on has an edge that fits.
   safe-fitted : (n n′ : ℕ) → listed (pairs old new) n n′ ≡ true → goesOn old new (pairs old new) n n′ ≡ true → (e : ℕ) → sourceAt old e ≡ n
@@ -403,34 +413,30 @@ module _ (old new : Program) (wo : WellFormed old) (wn : WellFormed new) where
 
     passes2 : rule2 old new (selected old new suite) ≡ true
     unfolding rule2 selected
-    passes2 = allPairs-of (alike old new) (pairs old new) (λ n n′ l. pair-alike (pairs-sound old new n n′ l))
+    passes2 = allPairs-of (alike old new) (pairs old new) (λ n n′ l. pair-alike (pairs-sound n n′ l))
 
     passes3 : rule3 old new (selected old new suite) ≡ true
     unfolding rule3 entered bothCall selected
     passes3 =
         allPairs-of (entered old new (selected old new suite)) (pairs old new) (λ n n′ l. implies _ _ (λ k.
         every-of _ (calleeCount old n) (λ i h. implies _ _ (λ x.
-        pairs-complete (callee-entries (pairs-sound old new n n′ l) (sameKind-true _ _ (and-left _ _ k)) (sameKind-true _ _ (and-right _ _ k)) i h
-        (λ j g. pairs-sound old new _ _ (exitsMet-at old new (pairs old new) n n′ i x j g)))))))
+        pairs-complete (callee-entries (pairs-sound n n′ l) (sameKind-true _ _ (and-left _ _ k)) (sameKind-true _ _ (and-right _ _ k)) i h
+        (λ j g. pairs-sound _ _ (exitsMet-at old new (pairs old new) n n′ i x j g)))))))
 
-    -- A fitting edge is one that rule 4 asks for.
-    kept : (n n′ : ℕ) → listed (pairs old new) n n′ ≡ true → goesOn old new (pairs old new) n n′ ≡ true → (e : ℕ) → e < edgeCount old → sourceAt old e ≡ n
-        → (e′ : ℕ) → e′ < edgeCount new → (eqb (sourceAt new e′) n′ and fits old new e e′) ≡ true → keeps old new (selected old new suite) n′ e e′ ≡ true
-    unfolding keeps selected
-    kept n n′ l g e h s e′ h′ t =
-        let s′ : sourceAt new e′ ≡ n′ = eqb-true _ _ (and-left _ _ t) in
-        let f : fits old new e e′ ≡ true = and-right _ _ t in
-        let j = joined-of old new (pairs old new) e e′ (rw (s, s′) l) (rw (s, s′) g) f in
-        and-both (and-left _ _ t) (and-both (fits-word old new e e′ f) (pairs-complete (joined-ends e e′ h h′ j)))
-
+    -- Where every word for which an old edge is taken gives alike ends, these are pairs.
     edge-kept : (n n′ : ℕ) → listed (pairs old new) n n′ ≡ true → goesOn old new (pairs old new) n n′ ≡ true → (e : ℕ) → e < edgeCount old → sourceAt old e ≡ n
         → (dangerous old new (pairs old new) e ≡ true) ⊎ (dangerous old new (pairs old new) e ≡ false)
-        → (has (dangers old new) e or any (edgeCount new) (keeps old new (selected old new suite) n′ e)) ≡ true
+        → (has (dangers old new) e or keptBy old new (listed (pairs old new)) e n′) ≡ true
     unfolding dangers fitted
     edge-kept n n′ l g e h s (inl d) = or-left _ (those-of _ _ e h d)
     edge-kept n n′ l g e h s (inr d) =
-        let r = any-at (λ e′. eqb (sourceAt new e′) n′ and fits old new e e′) (edgeCount new) (safe-fitted n n′ l g e s d) in
-        or-right _ (any-of (keeps old new (selected old new suite) n′ e) (edgeCount new) (r .0) (r .1) (kept n n′ l g e h s (r .0) (r .1) (r .2)))
+        or-right _ (kept-of old new wo wn (listed (pairs old new)) e n′ h (λ w t.
+        let r = kept-at old new wo wn (alike old new) e n′ (safe-fitted n n′ l g e s d) w t in (
+          r .0,
+          r .1,
+          pairs-complete (edge-ends (pairs-sound n n′ l) (λ k j i. pairs-sound _ _ (goesOn-at old new (pairs old new) n n′ g k j i)) w
+              (ap (λ (m : ℕ). edgeTaken old m w) (sym s) ∙ t) (r .1) (r .2)),
+        )))
 
     passes4 : rule4 old new (selected old new suite) ≡ true
     unfolding rule4 edgesKept edgeKept selected

@@ -2,17 +2,17 @@
 use mathlib.Core.Path.{_≡_, refl, sym, ap, _∙_, subst}
 use mathlib.Core.Logic.{_⊎_, inl, inr}
 use mathlib.Core.Bool.{Bool, true, true≢false}
-use mathlib.Core.Option.{Option, none, some}
+use mathlib.Core.Option.{Option, none, some, Option·none-ne-some}
 use mathlib.Core.List.{[]}
 use Prim.Native.Nat.{ℕ, zero, suc, _≤_, _<_}
 use native.Mathlib.Omega.{arith}
 use lib.Dec.{eqb}
 use lib.ListN.{List·getD-eq-default}
 use borrow.Author.Tests.{eqb-true, eq-eqb}
-use Rattle.laws.specs.Tests.{_and_, first, count}
+use Rattle.laws.specs.Tests.{_and_, first, count, orElse}
 use Rattle.laws.specs.TestLaws.{and-left, and-right, and-both, eqb-self, first-at, first-only, count-one}
 use Rattle.rules.specs.Text.{Bytes, between, isName, nameCount, nameIn, namesIn, same}
-use Rattle.rules.specs.Graph.{Kind, E, S, C, X, Program, WellFormed, nameAt, ownerAt, kindAt, calleeAt, calleeCount, calleeName, sourceAt, wordAt, procCount, nodeCount, edgeCount, dash, kindNumber, sameKind, orZero, isOf, entry, exit, procOf, called, leaves, edgeTaken, degree, worded}
+use Rattle.rules.specs.Graph.{Kind, E, S, C, X, Program, WellFormed, nameAt, ownerAt, kindAt, calleeAt, calleeCount, calleeName, sourceAt, wordAt, procCount, nodeCount, edgeCount, dash, kindNumber, sameKind, orZero, isOf, entry, exit, procOf, called, leaves, edgeTaken, degree, worded, edgeWith, star}
 use Rattle.rules.specs.Proofs.TextLaws.{same-of, same-true, split-cons}
 
 kindOf : ℕ → Kind
@@ -55,13 +55,48 @@ pub leaves-of : (p : Program) (n : ℕ) (w : Bytes) (e : ℕ) → sourceAt p e �
 unfolding leaves
 leaves-of p n w e a b = and-both (eq-eqb _ _ a) (same-of b)
 
--- What `edgeTaken` finds is an edge of that node with that word.
-pub taken-at : (p : Program) (n : ℕ) (w : Bytes) (e : ℕ) → edgeTaken p n w ≡ some e → (e < edgeCount p) × (sourceAt p e ≡ n) × (wordAt p e ≡ w)
-unfolding edgeTaken
-taken-at p n w e h =
+-- What `edgeWith` finds is an edge of that node with that word; what `edgeTaken` finds is one with that word or with `*`.
+pub with-at : (p : Program) (n : ℕ) (w : Bytes) (e : ℕ) → edgeWith p n w ≡ some e → (e < edgeCount p) × (sourceAt p e ≡ n) × (wordAt p e ≡ w)
+unfolding edgeWith
+with-at p n w e h =
     let r = first-at (leaves p n w) (edgeCount p) e h in
     let s = leaves-true p n w e (r .1) in
     (r .0, s .0, s .1)
+
+pub taken-at : (p : Program) (n : ℕ) (w : Bytes) (e : ℕ) → edgeTaken p n w ≡ some e → (e < edgeCount p) × (sourceAt p e ≡ n) × ((wordAt p e ≡ w) ⊎ (wordAt p e ≡ star))
+unfolding edgeTaken orElse
+taken-at p n w e h = go (edgeWith p n w) refl h
+  where
+    go : (o : Option ℕ) → edgeWith p n w ≡ o → orElse o (edgeWith p n star) ≡ some e → (e < edgeCount p) × (sourceAt p e ≡ n) × ((wordAt p e ≡ w) ⊎ (wordAt p e ≡ star))
+    go none q k = let r = with-at p n star e k in (r .0, r .1, inr (r .2))
+    go (some f) q k = let r = with-at p n w e (q ∙ k) in (r .0, r .1, inl (r .2))
+
+-- A node takes its edge with the word; where it has none, its edge `*`; for the word `*` that edge.
+pub taken-with : (p : Program) (n : ℕ) (w : Bytes) (e : ℕ) → edgeWith p n w ≡ some e → edgeTaken p n w ≡ some e
+unfolding edgeTaken orElse
+taken-with p n w e h = rw h
+
+pub taken-else : (p : Program) (n : ℕ) (w : Bytes) → edgeWith p n w ≡ none → edgeTaken p n w ≡ edgeWith p n star
+unfolding edgeTaken orElse
+taken-else p n w h = rw h
+
+pub taken-star : (p : Program) (n : ℕ) → edgeTaken p n star ≡ edgeWith p n star
+unfolding edgeTaken orElse
+taken-star p n = go (edgeWith p n star)
+  where
+    go : (o : Option ℕ) → orElse o o ≡ o
+    go none = refl
+    go (some e) = refl
+
+-- A node that takes an edge for `*` takes one for every word.
+pub star-takes : (p : Program) (n : ℕ) (w : Bytes) (e : ℕ) → edgeTaken p n star ≡ some e → (f : ℕ) × (edgeTaken p n w ≡ some f)
+unfolding edgeTaken orElse
+star-takes p n w e h = go (edgeWith p n w) (edgeWith p n star) h
+  where
+    go : (o s : Option ℕ) → orElse s s ≡ some e → (f : ℕ) × (orElse o s ≡ some f)
+    go (some f) s k = (f, refl)
+    go none (some f) k = (f, refl)
+    go none none k = absurd (Option·none-ne-some e k)
 
 -- Where all procedures have names that are names, none is empty; so past the last callee the procedure 0 is taken.
 pub nameless : (p : Program) → ((q : ℕ) → q < procCount p → isName (nameAt p q) ≡ true) → first (procCount p) (λ q. same (nameAt p q) []) ≡ none
@@ -134,12 +169,16 @@ module _ (p : Program) (wf : WellFormed p) where
       = λ j l s. wf .names (r .0) j (r .1) l (same-true _ _ s ∙ sym (r .2)) in
       rw (first-only (λ q. same (nameAt p q) (calleeName p n i)) (procCount p) (r .0) (r .1) (same-of (r .2)) only) (r .2)
 
-  -- An edge is the one of its node and word.
-  pub edge-is : (e n : ℕ) (w : Bytes) → e < edgeCount p → sourceAt p e ≡ n → wordAt p e ≡ w → edgeTaken p n w ≡ some e
-  unfolding edgeTaken
-  edge-is e n w h a b =
+  -- An edge is the one of its node and word, and the node takes it for that word.
+  pub with-is : (e n : ℕ) (w : Bytes) → e < edgeCount p → sourceAt p e ≡ n → wordAt p e ≡ w → edgeWith p n w ≡ some e
+  unfolding edgeWith
+  with-is e n w h a b =
       first-only (leaves p n w) (edgeCount p) e h (leaves-of p n w e a b)
       (λ f l s. let t = leaves-true p n w f s in wf .words e f h l (t .0 ∙ sym a) (t .1 ∙ sym b))
+
+  pub edge-is : (e n : ℕ) (w : Bytes) → e < edgeCount p → sourceAt p e ≡ n → wordAt p e ≡ w → edgeTaken p n w ≡ some e
+  unfolding edgeTaken orElse
+  edge-is e n w h a b = rw (with-is e n w h a b)
 
   -- A kind with one edge, named `-`.
   its-edge-of : (n : ℕ) → n < nodeCount p → degree p n ≡ 1 → ((w : Bytes) → worded (kindAt p n) w ≡ true → w ≡ dash)

@@ -9,19 +9,19 @@ use Prim.Native.Nat.{ℕ, zero, suc, _<_}
 use native.Mathlib.Omega.{arith}
 use lib.ListN.{length, getD}
 use lib.Dec.{ltb}
-use borrow.Author.Tests.{eqb-true, eq-eqb, ltb-true, ltb-false}
-use Rattle.laws.specs.Tests.{any, choose, every, has, listed, after}
-use Rattle.laws.specs.TestLaws.{and-left, and-right, and-both, implied, implies, or-cases, both-ways, fails, every-at, any-at, anyOf-of, allPairs-at, has-append-left, has-append-right, has-here, failed-none, passes?}
+use borrow.Author.Tests.{eq-eqb, ltb-true, ltb-false}
+use Rattle.laws.specs.Tests.{choose, every, has, listed, after}
+use Rattle.laws.specs.TestLaws.{and-both, implied, implies, or-cases, both-ways, fails, every-at, anyOf-of, allPairs-at, has-append-left, has-append-right, has-here, failed-none}
 use Rattle.rules.specs.Text.{Bytes, nameCount, sameLabel}
-use Rattle.rules.specs.Graph.{Kind, E, S, C, X, Program, WellFormed, nodeCount, edgeCount, ownerAt, kindAt, labelAt, sourceAt, wordAt, targetAt, dash, entry, exit, calleeAt, calleeCount, called, edgeTaken, itsEdge, sameKind}
+use Rattle.rules.specs.Graph.{Kind, E, S, C, X, Program, WellFormed, nodeCount, edgeCount, ownerAt, kindAt, labelAt, sourceAt, targetAt, dash, entry, exit, calleeAt, calleeCount, called, edgeTaken, itsEdge, sameKind}
 use Rattle.rules.specs.Run.{Meaning, Config, OpenCall, another, calling, listOf, acted, across, start, stepAt, step, edgeAhead, crossing, run, trail, endedAt, ended}
 use Rattle.rules.specs.Closing.{alike, bothCall, exitsMet, goesOn, joined, Coverage, holds, meets}
 use Rattle.rules.specs.Sheet.{Sheet}
-use Rattle.rules.specs.Check.{entered, keeps, edgeKept, edgesKept, rule1, rule2, rule3, rule4, rule5, broken}
+use Rattle.rules.specs.Check.{entered, edgeKept, edgesKept, rule1, rule2, rule3, rule4, rule5, broken}
 use Rattle.rules.specs.Promises.{Alongside}
+use Rattle.rules.specs.Proofs.ClosingLaws.{alike-callee, alike-kind, alike-label, fits-of, kept-at, word-one}
+use Rattle.rules.specs.Proofs.GraphLaws.{sameKind-of, taken-at, entry-is, exit-only, called-below, some-name}
 use Rattle.rules.specs.Proofs.AfterLaws.{Calls, Crossing, no-call, one-call}
-use Rattle.rules.specs.Proofs.ClosingLaws.{alike-callee, alike-kind, alike-label, fits-of, same-word, word-same}
-use Rattle.rules.specs.Proofs.GraphLaws.{sameKind-of, taken-at, entry-is, exit-only, called-below, edge-is, some-name}
 
 -- ---- the rules as facts
 
@@ -57,35 +57,18 @@ module _ (old new : Program) (suite : List Coverage) (s : Sheet) (pass : broken 
   pass3 n n′ l k k′ i h =
       implied _ _ (every-at _ (calleeCount old n) (implied _ _ (allPairs-at (entered old new s) (s .M) (five-rules .2) n n′ l) (and-both (sameKind-of k) (sameKind-of k′))) i h)
 
-  pass4 : (n n′ : ℕ) → listed (s .M) n n′ ≡ true → goesOn old new (s .M) n n′ ≡ true → (e : ℕ) → e < edgeCount old → sourceAt old e ≡ n → has (s .D) e ≡ false
-      → any (edgeCount new) (keeps old new s n′ e) ≡ true
-  unfolding rule4 edgesKept edgeKept
-  pass4 n n′ l g e h a u =
-      let t = implied _ _ (every-at (edgeKept old new s n n′) (edgeCount old) (implied _ _ (allPairs-at (edgesKept old new s) (s .M) (five-rules .3) n n′ l) g) e h) (eq-eqb _ _ a) in
-      ⊎-elim (λ d. absurd (both-ways d u)) (λ d. d) (or-cases _ _ t)
+  module _ (wo : WellFormed old) (wn : WellFormed new) where
+    pass4 : (n n′ : ℕ) → listed (s .M) n n′ ≡ true → goesOn old new (s .M) n n′ ≡ true → (w : Bytes) (e : ℕ) → edgeTaken old n w ≡ some e
+        → ((e′ : ℕ) × (edgeTaken new n′ w ≡ some e′) × (listed (s .M) (targetAt old e) (targetAt new e′) ≡ true)) ⊎ Listed (s .D) e (edgeTaken new n′ w)
+    unfolding rule4 edgesKept edgeKept
+    pass4 n n′ l g w e t =
+        let r = taken-at old n w e t in
+        let k = implied _ _ (every-at (edgeKept old new s n n′) (edgeCount old) (implied _ _ (allPairs-at (edgesKept old new s) (s .M) (five-rules .3) n n′ l) g) e (r .0)) (eq-eqb _ _ (r .1)) in
+        ⊎-elim (λ d. inr d) (λ d. inl (kept-at old new wo wn (listed (s .M)) e n′ d w (ap (λ (m : ℕ). edgeTaken old m w) (r .1) ∙ t))) (or-cases _ _ k)
 
-  kept : (n′ e e′ : ℕ) → keeps old new s n′ e e′ ≡ true → (sourceAt new e′ ≡ n′) × (wordAt old e ≡ wordAt new e′) × (listed (s .M) (targetAt old e) (targetAt new e′) ≡ true)
-  unfolding keeps
-  kept n′ e e′ h = let t = and-right _ _ h in (eqb-true _ _ (and-left _ _ h), same-word old new e e′ (and-left _ _ t), and-right _ _ t)
-
-  pub rules : WellFormed new → Rules old new (s .M) (Listed (s .D))
-  unfolding rule1 rule2
-  rules wn =
-      record {
-        first = five-rules .0;
-        likes = allPairs-at (alike old new) (s .M) (five-rules .1);
-        opens = pass3;
-        goes = λ n n′ l g w e h. go n n′ l g w e h (passes? (has (s .D) e));
-      }
-    where
-      go : (n n′ : ℕ) → listed (s .M) n n′ ≡ true → goesOn old new (s .M) n n′ ≡ true → (w : Bytes) (e : ℕ) → edgeTaken old n w ≡ some e → (has (s .D) e ≡ true) ⊎ (has (s .D) e ≡ false)
-          → ((e′ : ℕ) × (edgeTaken new n′ w ≡ some e′) × (listed (s .M) (targetAt old e) (targetAt new e′) ≡ true)) ⊎ Listed (s .D) e (edgeTaken new n′ w)
-      go n n′ l g w e h (inl d) = inr d
-      go n n′ l g w e h (inr u) =
-          let f = taken-at old n w e h in
-          let r = any-at (keeps old new s n′ e) (edgeCount new) (pass4 n n′ l g e (f .0) (f .1) u) in
-          let t = kept n′ e (r .0) (r .2) in
-          inl (r .0, edge-is new wn (r .0) n′ w (r .1) (t .0) (sym (t .1) ∙ f .2), t .2)
+    pub rules : Rules old new (s .M) (Listed (s .D))
+    unfolding rule1 rule2
+    rules = record { first = five-rules .0; likes = allPairs-at (alike old new) (s .M) (five-rules .1); opens = pass3; goes = pass4 }
 
   -- A test that is not listed holds no edge listed under D.
   pub unlisted : (i : ℕ) → i < length suite → has (s .R) i ≡ false → (e : ℕ) → holds (getD suite i []) e ≡ true → has (s .D) e ≡ false
@@ -224,7 +207,7 @@ module _ (old new : Program) (wo : WellFormed old) (wn : WellFormed new) (M : Li
       let f = taken-at old n w e h in
       let f′ = taken-at new n′ w e′ h′ in
       let s : joined old new M e e′ ≡ true
-      = rw (f .1, f′ .1) (and-both l (and-both g (fits-of old new e e′ (word-same old new e e′ (f .2 ∙ sym (f′ .2))) (r .likes _ _ t)))) in
+      = rw (f .1, f′ .1) (and-both l (and-both g (fits-of old new e e′ (word-one old new wo wn n n′ e e′ w h h′) (r .likes _ _ t)))) in
       (record { isOld = f .0; isNew = f′ .0; join = s }, f .1, f′ .1)
 
   -- The ends of joined edges, inside the same procedures.
@@ -436,7 +419,7 @@ pub checked {ℓ κ} : {St : Type ℓ} {Out : Type κ} (old new : Program) → W
     → ((e : ℕ) → has (trail old m k (start old s)) e ≡ true → holds (getD suite i []) e ≡ true)
     → (c′ : Config St Out) × (run new m k (start new s) ≡ some c′) × Alongside old new c c′
 checked old new wo wn suite sheet pass i h u m s k c e crossed =
-    let r = rules old new suite sheet pass wn in
+    let r = rules old new suite sheet pass wo wn in
     ⊎-elim
     (λ a. (moved c (a .node) (a .calls), a .takes, alongside old new wo wn (sheet .M) (Listed (sheet .D)) r m k (start old s) (start new s) c a))
     (λ a. absurd (both-ways (a .part) (unlisted old new suite sheet pass i h u (a .edge) (crossed (a .edge) (a .within)))))

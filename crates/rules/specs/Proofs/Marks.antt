@@ -3,25 +3,24 @@
 use mathlib.Core.Path.{_≡_, refl, sym, _∙_, subst}
 use mathlib.Core.Logic.{_⊎_, inl, inr, ⊎-elim}
 use mathlib.Core.Bool.{Bool, true, false, false≢true, true≢false}
-use mathlib.Core.Option.{Option, some, Option·some-injective}
+use mathlib.Core.Option.{Option, none, some, Option·some-injective, Option·none-ne-some}
 use mathlib.Core.List.{List, []}
 use Prim.Native.Nat.{ℕ, _<_}
 use lib.ListN.{length, getD}
-use lib.Dec.{eqb}
 use borrow.Author.Tests.{eqb-true}
 use Rattle.laws.specs.Tests.{_and_, _or_, any, choose, has, isnt, listed}
 use Rattle.laws.specs.Reach.{among-first, led-to}
-use Rattle.laws.specs.TestLaws.{and-left, and-right, and-both, implied, or-cases, or-left, or-right, both-ways, fails, isnt-true, eqb-self, every-at, any-at, any-of, anyOf-of, those-of, passes?, true-isnt}
+use Rattle.laws.specs.TestLaws.{and-left, and-right, and-both, implied, or-cases, or-left, or-right, both-ways, fails, isnt-true, eqb-self, every-at, any-at, any-of, anyOf-of, those-of, passes?}
 use Rattle.rules.specs.Text.{Bytes}
-use Rattle.rules.specs.Graph.{Kind, Program, WellFormed, edgeCount, edgeTaken, kindAt, sourceAt, targetAt}
+use Rattle.rules.specs.Graph.{Kind, Program, WellFormed, edgeCount, edgeTaken, kindAt, targetAt}
 use Rattle.rules.specs.Run.{Config, Crosses, Ends, Meaning, crossing, ended, run, start, trail}
-use Rattle.rules.specs.Closing.{AfterDanger, Coverage, Parting, Probe, afterDangers, callee-entries, carriedMark, carries, carriesOnly, dangerousAt, dangers, endangered, first-entries, fits, fitted, goesOn, holds, mark, mark-0, mark-1, mark-?, meets, pairs, probes, repeated}
+use Rattle.rules.specs.Closing.{AfterDanger, Coverage, Parting, Probe, afterDangers, callee-entries, carriedMark, carries, carriesOnly, dangers, endangered, first-entries, holds, mark, mark-0, mark-1, mark-?, meets, pairs, probes, repeated, Dangerous, MayGoOn, Pair, alike, edge-ends}
 use Rattle.rules.specs.Promises.{Alongside, ExactFor}
 use Rattle.rules.specs.Proofs.AfterLaws.{Crossing, crosses-within, crossing-ahead}
-use Rattle.rules.specs.Proofs.Closure.{afterDangers-iff, danger-true, dangers-iff, dangers-inside, exitsMet-at, joined-ends, joined-of, pair-alike, pairs-complete, pairs-sound, probes-iff}
-use Rattle.rules.specs.Proofs.ClosingLaws.{alike-kind, fits-word, same-word, word-same}
+use Rattle.rules.specs.Proofs.Closure.{afterDangers-iff, dangers-iff, dangers-inside, exitsMet-at, goesOn-at, pair-alike, pairs-complete, pairs-sound, probes-iff}
+use Rattle.rules.specs.Proofs.ClosingLaws.{alike-kind}
 use Rattle.rules.specs.Proofs.Ends.{ended-crosses, later}
-use Rattle.rules.specs.Proofs.GraphLaws.{edge-is, taken-at}
+use Rattle.rules.specs.Proofs.GraphLaws.{taken-at}
 use Rattle.rules.specs.Proofs.Lockstep.{Abreast, Apart, Joined, Matched, Rules, alongside, done, from-start, more, moved, open-crossing, open-new, open-old}
 
 module _ (old new : Program) (M : List (ℕ × ℕ)) where
@@ -78,40 +77,41 @@ abbrev Strays : Program → Program → ℕ → Option ℕ → Type 0
 Strays old new e x = (has (dangers old new) e ≡ true) × ((f : ℕ) → x ≡ some f → Parting old new f)
 
 module _ (old new : Program) (wo : WellFormed old) (wn : WellFormed new) where
-  -- At a pair that may go on the new node has an edge that fits the edge that the old one takes, or this is dangerous there.
-  fits-or-strays : (n n′ : ℕ) → listed (pairs old new) n n′ ≡ true → goesOn old new (pairs old new) n n′ ≡ true → (w : Bytes) (e : ℕ) → edgeTaken old n w ≡ some e
-      → (fitted old new e n′ ≡ true) ⊎ (fitted old new e n′ ≡ false)
-      → ((e′ : ℕ) × (edgeTaken new n′ w ≡ some e′) × (listed (pairs old new) (targetAt old e) (targetAt new e′) ≡ true)) ⊎ Strays old new e (edgeTaken new n′ w)
-  unfolding fitted dangerousAt
-  fits-or-strays n n′ l g w e h (inl t) =
-      let f = taken-at old n w e h in
-      let r = any-at (λ e′. eqb (sourceAt new e′) n′ and fits old new e e′) (edgeCount new) t in
-      let s : sourceAt new (r .0) ≡ n′ = eqb-true _ _ (and-left _ _ (r .2)) in
-      let x : fits old new e (r .0) ≡ true = and-right _ _ (r .2) in
-      let j = joined-of old new (pairs old new) e (r .0) (rw (f .1, s) l) (rw (f .1, s) g) x in
-      inl (
-        r .0,
-        edge-is new wn (r .0) n′ w (r .1) s (sym (same-word old new e (r .0) (fits-word old new e (r .0) x)) ∙ f .2),
-        pairs-complete old new wo wn (joined-ends old new wo wn e (r .0) (f .0) (r .1) j),
-      )
-  fits-or-strays n n′ l g w e h (inr u) =
-      let f = taken-at old n w e h in
-      let d = danger-true old new wo wn e n′ (f .0) (rw (f .1) l) (and-both (eqb-self (sourceAt old e)) (and-both (rw (f .1) g) (true-isnt u))) in
-      inr (
-        dangers-iff old new wo wn e .1 (d .0),
-        λ e′ q.
-            let f′ = taken-at new n′ w e′ q in
-            record { isNew = f′ .0; cause = e; danger = d .0; there = f′ .1 ∙ sym (d .1); word = word-same old new e e′ (f .2 ∙ sym (f′ .2)) },
-      )
+  -- At a pair that may go on the new node takes an edge with an end alike for the word for which the old one takes one, or there the runs part.
+  takes-or-strays : (n n′ : ℕ) → Pair old new n n′ → MayGoOn old new n n′ → (w : Bytes) (e : ℕ) → edgeTaken old n w ≡ some e → (x : Option ℕ) → edgeTaken new n′ w ≡ x
+      → ((e′ : ℕ) × (x ≡ some e′) × (listed (pairs old new) (targetAt old e) (targetAt new e′) ≡ true)) ⊎ Strays old new e x
+  takes-or-strays n n′ p g w e h none h′ =
+      let s = taken-at old n w e h .1 in
+      let d : Dangerous old new e
+      = record { partner = n′; pair = rw s p; mayGoOn = rw s g; word = w; oldTakes = rw s h; unfit = λ f q a. Option·none-ne-some f (sym h′ ∙ q) } in
+      inr (dangers-iff old new wo wn e .1 d, λ f q. absurd (Option·none-ne-some f q))
+  takes-or-strays n n′ p g w e h (some e′) h′ = go (passes? (alike old new (targetAt old e) (targetAt new e′)))
+    where
+      go : (alike old new (targetAt old e) (targetAt new e′) ≡ true) ⊎ (alike old new (targetAt old e) (targetAt new e′) ≡ false)
+          → ((f : ℕ) × (_≡_ {A = Option ℕ} (some e′) (some f)) × (listed (pairs old new) (targetAt old e) (targetAt new f) ≡ true)) ⊎ Strays old new e (some e′)
+      go (inl a) = inl (e′, refl, pairs-complete old new wo wn (edge-ends p g w h h′ a))
+      go (inr u) =
+          let s = taken-at old n w e h .1 in
+          let d : Dangerous old new e
+          = record {
+            partner = n′;
+            pair = rw s p;
+            mayGoOn = rw s g;
+            word = w;
+            oldTakes = rw s h;
+            unfit = λ f q a. both-ways (subst (λ (y : ℕ). alike old new (targetAt old e) (targetAt new y) ≡ true) (Option·some-injective f e′ (sym q ∙ h′)) a) u;
+          } in
+          inr (dangers-iff old new wo wn e .1 d, λ f q. record { cause = e; danger = d; taken = h′ ∙ q })
 
   closing-rules : Rules old new (pairs old new) (Strays old new)
   closing-rules =
       record {
         first = pairs-complete old new wo wn first-entries;
-        likes = λ n n′ l. pair-alike old new wo wn (pairs-sound old new n n′ l);
+        likes = λ n n′ l. pair-alike old new wo wn (pairs-sound old new wo wn n n′ l);
         opens = λ n n′ l k k′ i h x.
-            pairs-complete old new wo wn (callee-entries (pairs-sound old new n n′ l) k k′ i h (λ j b. pairs-sound old new _ _ (exitsMet-at old new (pairs old new) n n′ i x j b)));
-        goes = λ n n′ l g w e h. fits-or-strays n n′ l g w e h (passes? (fitted old new e n′));
+            pairs-complete old new wo wn (callee-entries (pairs-sound old new wo wn n n′ l) k k′ i h (λ j b. pairs-sound old new wo wn _ _ (exitsMet-at old new (pairs old new) n n′ i x j b)));
+        goes = λ n n′ l g w e h.
+            takes-or-strays n n′ (pairs-sound old new wo wn n n′ l) (λ k j i. pairs-sound old new wo wn _ _ (goesOn-at old new (pairs old new) _ _ g k j i)) w e h (edgeTaken new n′ w) refl;
       }
 
   module _ {ℓ κ} {St : Type ℓ} {Out : Type κ} (m : Meaning St Out) (s : St) where
@@ -140,7 +140,7 @@ module _ (old new : Program) (wo : WellFormed old) (wn : WellFormed new) where
         let g = a .abreast .together in
         crosses-within new wn (Probe old new) (λ e f x l. led-to x l) m (moved (a .here) (a .abreast .node) (a .abreast .calls)) (g .there)
         (open-new old new wo wn (pairs old new) (Strays old new) closing-rules (g .calls))
-        (subst (λ (k : Kind). Crossing new k (a .here .word) (a .abreast .calls)) (sym (alike-kind old new _ _ (pair-alike old new wo wn (pairs-sound old new _ _ (g .pair)))))
+        (subst (λ (k : Kind). Crossing new k (a .here .word) (a .abreast .calls)) (sym (alike-kind old new _ _ (pair-alike old new wo wn (pairs-sound old new wo wn _ _ (g .pair)))))
         (open-crossing old new wo wn (pairs old new) (Strays old new) closing-rules (kindAt old (a .here .node)) (a .here .word) (g .calls) (crossing-ahead old _ _ _ _ (a .edge) (a .crosses))))
         (λ f q. among-first (a .part .1 f q)) i e t
 

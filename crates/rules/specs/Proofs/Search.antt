@@ -10,6 +10,7 @@ use Rattle.laws.specs.TestLaws.{and-left, and-right, and-both, anyOf-at, anyOf-
 use Rattle.rules.specs.Graph.{Program, edgeCount}
 use Rattle.rules.specs.Closing.{Coverage, dangers, firstDanger, holds, meets}
 use Rattle.rules.specs.Promises.{Exact, SearchExact}
+use Rattle.rules.specs.Proofs.ClosingLaws.{danger-old}
 
 module _ (D : List ℕ) (coverage : Coverage) where
   -- The coverage holds the edge e, and the list has it.
@@ -55,10 +56,10 @@ search-exact old new x coverage =
             (x .dangers-are e .0 (a .1), a .2, λ f l d h. a .3 f l (x .dangers-are f .1 d) h),
         λ w.
             search-some (dangers old new) coverage (edgeCount old) e .1
-            (w .0 .isOld, x .dangers-are e .1 (w .0), w .1, λ f l d h. w .2 f l (x .dangers-are f .0 d) h),
+            (danger-old old new (w .0), x .dangers-are e .1 (w .0), w .1, λ f l d h. w .2 f l (x .dangers-are f .0 d) h),
       );
       none-is = (
-        λ q r. search-none (dangers old new) coverage (edgeCount old) .0 q (r .0) (r .1 .isOld) (x .dangers-are (r .0) .1 (r .1)) (r .2),
+        λ q r. search-none (dangers old new) coverage (edgeCount old) .0 q (r .0) (danger-old old new (r .1)) (x .dangers-are (r .0) .1 (r .1)) (r .2),
         λ h. search-none (dangers old new) coverage (edgeCount old) .1 (λ e l d c. h (e, x .dangers-are e .0 d, c)),
       );
     }

@@ -18,6 +18,7 @@ use Rattle.rules.specs.Promises.{Demand2, Exact, LineExact, Repeated, Sh
 use Rattle.rules.specs.Proofs.Closure.{exact}
 use Rattle.rules.specs.Proofs.JobLaws.{known, marks-at, marks-length, record-wrote, sheet-wrote, outcome-wrote, writing-wrote}
 use Rattle.rules.specs.Proofs.ReadBack.{chosen-orderly}
+use Rattle.rules.specs.Proofs.ClosingLaws.{counterpart-new, counterpart-old}
 
 -- ---- the sheet
 
@@ -112,14 +113,14 @@ module _ (old new : Program) (x : Exact old new) (coverage : Coverage) where
     mark-is = refl
 
     joined-of : (e : ℕ) → Counterparts old new e f → joined old new (pairs old new) e f ≡ true
-    joined-of e c = x .counterparts-are e f (c .isOld) inside .1 c
+    joined-of e c = x .counterparts-are e f (counterpart-old old new c) inside .1 c
 
     open-of : LeftOpen old new coverage f → left-open f ≡ true
     unfolding endangered carries
     open-of (r, w) =
         and-both (meets-of r)
         (⊎-elim (λ p. or-left _ (x .probes-are f .1 p))
-        (λ c. or-right _ (any-of _ (edgeCount old) (c .0) (c .1 .isOld) (and-both (and-both (c .2) (joined-of (c .0) (c .1))) (x .after-are (c .0) .1 (c .3))))) w)
+        (λ c. or-right _ (any-of _ (edgeCount old) (c .0) (counterpart-old old new (c .1)) (and-both (and-both (c .2) (joined-of (c .0) (c .1))) (x .after-are (c .0) .1 (c .3))))) w)
 
     open-at : left-open f ≡ true → LeftOpen old new coverage f
     unfolding endangered carries
@@ -139,7 +140,7 @@ module _ (old new : Program) (x : Exact old new) (coverage : Coverage) where
     none-crossed : (some-crossed f ≡ false) ↔ ((e : ℕ) → Counterparts old new e f → holds coverage e ≡ true → ⊥)
     unfolding carries
     none-crossed = (
-      λ t e c h. any-none (carries old new coverage f) (edgeCount old) t e (c .isOld) (and-both h (joined-of e c)),
+      λ t e c h. any-none (carries old new coverage f) (edgeCount old) t e (counterpart-old old new c) (and-both h (joined-of e c)),
       λ h. go h (some-crossed f) refl,
     )
       where
@@ -161,12 +162,12 @@ module _ (old new : Program) (x : Exact old new) (coverage : Coverage) where
             a .0,
             x .counterparts-are (a .0) f (a .1) inside .0 (and-right _ _ c),
             and-left _ _ c,
-            λ k p. eqb-true _ _ (implied _ _ (every-at _ (edgeCount new) (and-right _ _ (a .2)) k (p .isNew)) (x .counterparts-are (a .0) k (a .1) (p .isNew) .1 p)),
+            λ k p. eqb-true _ _ (implied _ _ (every-at _ (edgeCount new) (and-right _ _ (a .2)) k (counterpart-new old new p)) (x .counterparts-are (a .0) k (a .1) (counterpart-new old new p) .1 p)),
           ),
       λ o.
-          any-of (carriesOnly old new coverage f) (edgeCount old) (o .0) (o .1 .isOld)
+          any-of (carriesOnly old new coverage f) (edgeCount old) (o .0) (counterpart-old old new (o .1))
           (and-both (and-both (o .2) (joined-of (o .0) (o .1)))
-          (every-of _ (edgeCount new) (λ k l. implies _ _ (λ j. eq-eqb _ _ (o .3 k (x .counterparts-are (o .0) k (o .1 .isOld) l .0 j)))))),
+          (every-of _ (edgeCount new) (λ k l. implies _ _ (λ j. eq-eqb _ _ (o .3 k (x .counterparts-are (o .0) k (counterpart-old old new (o .1)) l .0 j)))))),
     )
 
     only-some : only-crossed f ≡ true → some-crossed f ≡ true

@@ -2,24 +2,24 @@
 use mathlib.Core.Path.{_≡_, refl, sym, ap, _∙_, subst}
 use mathlib.Core.Logic.{inl, inr, ⊎-elim}
 use mathlib.Core.Bool.{Bool, true, true≢false}
-use mathlib.Core.Option.{some}
+use mathlib.Core.Option.{Option, none, some, Option·none-ne-some, Option·some-injective}
 use mathlib.Core.List.{List, [], _∷_, _++_}
 use Prim.Native.Nat.{ℕ, _≤_, _<_}
 use native.Mathlib.Omega.{arith}
 use lib.ListN.{length, getD}
 use borrow.Author.Tests.{eqb-true, eq-eqb, le-leb}
-use Rattle.laws.specs.Tests.{_and_, every, listed}
-use Rattle.laws.specs.TestLaws.{and-left, and-right, and-both, implied, implies, or-cases, or-left, or-right, every-at, every-of, any-at, any-of, anyOf-of, anyOf-at, allPairs-at, allPairs-of, both-ways, fails, isnt-true, true-isnt}
+use Rattle.laws.specs.Tests.{_and_, every, has, listed}
+use Rattle.laws.specs.TestLaws.{and-left, and-right, and-both, implied, implies, or-cases, or-left, or-right, every-at, every-of, passes?, anyOf-of, anyOf-at, allPairs-at, allPairs-of, both-ways, fails, isnt-true, true-isnt}
 use Rattle.rules.specs.Text.{Bytes, between, isCallees, isName, joinBy, linesOf, nameCount, nameIn, namesIn, squeezed}
-use Rattle.rules.specs.Graph.{Program, WellFormed, X, calleeAt, calleeCount, called, edgeCount, exit, isOf, kindAt, nodeCount, orZero, ownerAt, procCount}
+use Rattle.rules.specs.Graph.{Program, WellFormed, X, calleeAt, calleeCount, called, edgeCount, edgeTaken, edgeWith, exit, isOf, kindAt, nodeCount, orZero, ownerAt, procCount, star}
 use Rattle.rules.specs.ProgramFile.{isNode}
 use Rattle.rules.specs.Run.{Meaning}
 use Rattle.rules.specs.Closing.{Coverage, bothCall, exitsMet, goesOn, holds, meets}
 use Rattle.rules.specs.Sheet.{Sheet, among, leftOff, rLine}
-use Rattle.rules.specs.Check.{entered, enteredAt, keeps, edgeKept, edgesKept, rule1, rule2, rule3, rule4, rule5}
-use Rattle.rules.specs.Promises.{AlikeExact, CalleesExact, LeftOffExact, Lookups, MeaningsFree, RulesExact}
-use Rattle.rules.specs.Proofs.ClosingLaws.{alike-is, same-word, word-same, fits-word, fits-ends, fits-of, sameLabel-true}
-use Rattle.rules.specs.Proofs.GraphLaws.{called-below, called-name, edge-is, entry-is, first-found, isOf-true, its-edge, sameKind-of, sameKind-true, taken-at}
+use Rattle.rules.specs.Check.{entered, enteredAt, edgeKept, edgesKept, rule1, rule2, rule3, rule4, rule5}
+use Rattle.rules.specs.Promises.{AlikeExact, CalleesExact, LeftOffExact, Lookups, MeaningsFree, RulesExact, Takes}
+use Rattle.rules.specs.Proofs.ClosingLaws.{alike-is, kept-at, kept-of, sameLabel-true}
+use Rattle.rules.specs.Proofs.GraphLaws.{called-below, called-name, edge-is, entry-is, first-found, isOf-true, its-edge, sameKind-of, sameKind-true, taken-at, taken-else, taken-with, with-at, with-is}
 use Rattle.rules.specs.Proofs.SheetLaws.{among-here, among-later}
 use Rattle.rules.specs.Proofs.TextLaws.{between-at, join-split, names-free, same-true, split-join}
 use Rattle.rules.specs.Proofs.WriteProgram.{reads-layout}
@@ -33,13 +33,34 @@ exit-found p wf q h =
     let s = isOf-true p q X (r .0) (r .2) in
     rw (r .4) (r .1, s .0, s .1)
 
+module _ (p : Program) (wf : WellFormed p) (n : ℕ) (w : Bytes) (e : ℕ) where
+  takes-at : edgeTaken p n w ≡ some e → Takes p n w e
+  takes-at h = go (edgeWith p n w) refl
+    where
+      go : (o : Option ℕ) → edgeWith p n w ≡ o → Takes p n w e
+      go (some f) q =
+          let r = with-at p n w f q in
+          let t : Takes p n w f = (r .0, r .1, inl (r .2)) in
+          subst (Takes p n w) (Option·some-injective _ _ (sym (taken-with p n w f q) ∙ h)) t
+      go none q =
+          let r = with-at p n star e (sym (taken-else p n w q) ∙ h) in
+          (r .0, r .1, inr (r .2, λ f l a b. Option·none-ne-some f (sym q ∙ with-is p wf f n w l a b)))
+
+  takes-of : Takes p n w e → edgeTaken p n w ≡ some e
+  takes-of (l, a, inl b) = edge-is p wf e n w l a b
+  takes-of (l, a, inr (b, x)) = go (edgeWith p n w) refl
+    where
+      go : (o : Option ℕ) → edgeWith p n w ≡ o → edgeTaken p n w ≡ some e
+      go none q = taken-else p n w q ∙ with-is p wf e n star l a b
+      go (some f) q = let r = with-at p n w f q in absurd (x f (r .0) (r .1) (r .2))
+
 pub lookups : (p : Program) → WellFormed p → Lookups p
 lookups p wf =
     record {
       entry-is = entry-is p wf;
       exit-is = exit-found p wf;
       called-is = λ n h k i l. (called-below p wf n i, called-name p wf n i h k l);
-      taken-is = λ n w e. (taken-at p n w e, λ h. edge-is p wf e n w (h .0) (h .1) (h .2));
+      taken-is = λ n w e. (takes-at p wf n w e, takes-of p wf n w e);
       its-edge-there = λ n h k. let i = its-edge p wf n h k in (i .0, i .1);
       its-edge-is = λ n h k e.
           let i = its-edge p wf n h k in
@@ -90,19 +111,15 @@ meanings-free St Out next out word = (meaningBy next out word, λ l s. (refl, re
 -- ---- alike, and the rules of the check
 
 pub alike-exact : (old new : Program) → AlikeExact old new
-alike-exact old new =
-    record {
-      alike-are = alike-is old new;
-      fits-are = λ e e′. (λ h. (same-word old new e e′ (fits-word old new e e′ h), fits-ends old new e e′ h), λ h. fits-of old new e e′ (word-same old new e e′ (h .0)) (h .1));
-    }
+alike-exact = alike-is
 
 -- The exits of the callees j are listed.
 abbrev exitsAt : Program → Program → Sheet → ℕ → ℕ → ℕ → Bool
 exitsAt old new c n n′ j = listed (c .M) (exit old (called old n j)) (exit new (called new n′ j))
 
-pub rules-exact : (old new : Program) (suite : List Coverage) (c : Sheet) → RulesExact old new suite c
-unfolding rule1 rule2 rule3 rule4 rule5 entered exitsMet bothCall edgesKept edgeKept keeps goesOn meets
-rules-exact old new suite c =
+pub rules-exact : (old new : Program) → WellFormed old → WellFormed new → (suite : List Coverage) (c : Sheet) → RulesExact old new suite c
+unfolding rule1 rule2 rule3 rule4 rule5 entered exitsMet bothCall edgesKept edgeKept goesOn meets
+rules-exact old new wo wn suite c =
     record {
       first-listed = (λ h. h, λ h. h);
       pairs-alike = (λ h. allPairs-at _ (c .M) h, λ h. allPairs-of _ (c .M) h);
@@ -112,19 +129,20 @@ rules-exact old new suite c =
             every-of (enteredAt old new (c .M) n n′) (calleeCount old n) (λ i u. implies _ _ (λ m. h n n′ l (sameKind-true _ _ (and-left _ _ b)) (sameKind-true _ _ (and-right _ _ b)) i u (every-at (exitsAt old new c n n′) i m))))),
       );
       edges-kept = (
-        λ h n n′ l g e b s.
-            let t = every-at (edgeKept old new c n n′) (edgeCount old) (implied _ _ (allPairs-at (edgesKept old new c) (c .M) h n n′ l) (implies _ _ (λ k. every-of (exitsAt old new c n n′) (calleeCount old n) (g (sameKind-true _ _ k))))) e b in
+        λ h n n′ l g w e t.
+            let r = taken-at old n w e t in
+            let k = every-at (edgeKept old new c n n′) (edgeCount old) (implied _ _ (allPairs-at (edgesKept old new c) (c .M) h n n′ l) (implies _ _ (λ k. every-of (exitsAt old new c n n′) (calleeCount old n) (g (sameKind-true _ _ k))))) e (r .0) in
             ⊎-elim (λ d. inl d)
-            (λ a.
-            let r = any-at (keeps old new c n′ e) (edgeCount new) a in
-            let u = and-right _ _ (r .2) in
-            inr (r .0, r .1, eqb-true _ _ (and-left _ _ (r .2)), same-word old new e (r .0) (and-left _ _ u), and-right _ _ u))
-            (or-cases _ _ (implied _ _ t (eq-eqb _ _ s))),
+            (λ a. inr (kept-at old new wo wn (listed (c .M)) e n′ a w (ap (λ (i : ℕ). edgeTaken old i w) (r .1) ∙ t)))
+            (or-cases _ _ (implied _ _ k (eq-eqb _ _ (r .1)))),
         λ h. allPairs-of (edgesKept old new c) (c .M) (λ n n′ l. implies _ _ (λ g.
             every-of (edgeKept old new c n n′) (edgeCount old) (λ e b. implies _ _ (λ s.
             ⊎-elim (λ d. or-left _ d)
-            (λ r. or-right _ (any-of (keeps old new c n′ e) (edgeCount new) (r .0) (r .1) (and-both (eq-eqb _ _ (r .2)) (and-both (word-same old new e (r .0) (r .3)) (r .4)))))
-            (h n n′ l (λ k. every-at (exitsAt old new c n n′) (calleeCount old n) (implied _ _ g (sameKind-of k))) e b (eqb-true _ _ s)))))),
+            (λ d.
+            or-right _ (kept-of old new wo wn (listed (c .M)) e n′ b (λ w t.
+            ⊎-elim (λ x. absurd (both-ways x d)) (λ x. x)
+            (h n n′ l (λ k. every-at (exitsAt old new c n n′) (calleeCount old n) (implied _ _ g (sameKind-of k))) w e (ap (λ (i : ℕ). edgeTaken old i w) (sym (eqb-true _ _ s)) ∙ t)))))
+            (passes? (has (c .D) e)))))),
       );
       tests-listed = (
         λ h i b e d p. implied _ _ (every-at _ _ h i b) (anyOf-of (holds (getD suite i [])) (c .D) e d p),
