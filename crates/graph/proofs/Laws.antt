@@ -2,7 +2,7 @@
 use mathlib.Core.Path.{_≡_, refl, sym, ap, ap₂, _∙_}
 use mathlib.Core.Bool.{Bool, true, false}
 use mathlib.Core.List.{List, _∷_}
-use mathlib.Core.Option.{none}
+use mathlib.Core.Option.{Option, none, some}
 use Prim.Native.Nat.{ℕ, suc, _+_, _-_, _*_, _^_, _≤_, _<_}
 use native.Mathlib.Nat.{add-zero, pow-le-pow-right, pow-suc, zero-add}
 use native.Mathlib.Numerals.{add-one}
@@ -11,20 +11,20 @@ use lib.Dec.{eqb}
 use lib.ListN.{length, getD, take, drop, length-take}
 use lib.Seq.{drop-length}
 use borrow.Author.Tests.{eqb-true, eq-eqb, ne-eqb, le-leb, lt-leb}
-use Rattle.laws.specs.Tests.{_and_, _⇒_, isnt, every, first, count, found}
+use Rattle.laws.specs.Tests.{_and_, _⇒_, isnt, every, first, count, found, orElse}
 use Rattle.laws.specs.Digits.{number}
 use Rattle.laws.specs.TestLaws.{first-least, first-only, first-skip, count-skip, count-more, every-skip, every-at, fails, implied, implies}
 use Rattle.laws.specs.Lists.{choose-yes, choose-no}
 use Rattle.laws.specs.Slices.{below-or, drop-at}
 use Rattle.laws.specs.Chain.{Chained, Blind, Left, left-start, left-step, link-le}
 use Rattle.rules.specs.Text.{Bytes, same, between, allBytes, wordByte, isWord}
-use Rattle.rules.specs.Graph.{Program, nameAt, sourceAt, wordAt, procCount, nodeCount, edgeCount, dash, leaves, edgeTaken, degree}
+use Rattle.rules.specs.Graph.{Program, nameAt, sourceAt, wordAt, procCount, nodeCount, edgeCount, dash, star, leaves, edgeTaken, edgeWith, degree}
 use Rattle.rules.specs.ProgramFile.{Listing}
 use Rattle.rules.specs.Proofs.Places.{part-is}
 use Rattle.rules.specs.Proofs.GraphLaws.{leaves-true, leaves-of}
 use Rattle.graph.specs.Table.{procBase, edgeBase, headBase}
-use Rattle.graph.specs.Keys.{wordKey, key-spells, same-keys}
-use Rattle.graph.specs.Lookups.{in-table, Procs, Edges, ProcNamed, EdgeTaken, Degree, Dashed}
+use Rattle.graph.specs.Keys.{wordKey, key-spells, same-keys, star-key, star-word}
+use Rattle.graph.specs.Lookups.{in-table, Procs, Edges, ProcNamed, EdgeTaken, EdgeWith, Degree, Dashed}
 use Rattle.graph.specs.Reads.{partAt, upTo, past, part-past}
 
 -- ---- `part_at`, `spells`, `name_is`
@@ -157,33 +157,33 @@ pub before-less : (place e r x : ℕ) → 0 < place → e ≡ place - 1 → r �
 unfolding upTo
 before-less place e r x pos d q = below-or e x (λ l. omega (arith, q ∙ choose-no x 0 (lt-leb x e l))) (λ l. omega (arith, q ∙ choose-yes x 0 (le-leb x e l)))
 
--- ---- `edge_taken`
+-- ---- `edge_with`, `edge_taken`
 
--- The edge taken for the word of the key is the one taken among the edges below the place.
-unfoldable pub TakenBelow : List ℕ → ℕ → ℕ → ℕ → Type 0
-TakenBelow links n key place =
-    (word : Bytes) → isWord word ≡ true → key ≡ wordKey word → Rest links n (λ p. edgeTaken p n word) (λ p k. first k (leaves p n word)) place
+-- The edge with the word of the key is the one among the edges below the place.
+unfoldable pub WithBelow : List ℕ → ℕ → ℕ → ℕ → Type 0
+WithBelow links n key place =
+    (word : Bytes) → isWord word ≡ true → key ≡ wordKey word → Rest links n (λ p. edgeWith p n word) (λ p k. first k (leaves p n word)) place
 
-taken-blind : (n : ℕ) (word : Bytes) (p : Program) → Blind (sourceAt p) n (λ k. first k (leaves p n word))
+with-blind : (n : ℕ) (word : Bytes) (p : Program) → Blind (sourceAt p) n (λ k. first k (leaves p n word))
 unfolding Blind
-taken-blind n word p k e = first-skip (leaves p n word) k (fails _ (λ y. e (leaves-true p n word k y .0)))
+with-blind n word p k e = first-skip (leaves p n word) k (fails _ (λ y. e (leaves-true p n word k y .0)))
 
 module _ (links : List ℕ) (n key : ℕ) where
-  pub taken-start : (place : ℕ) → place ≡ getD links (headBase n) 0 → TakenBelow links n key place
-  unfolding TakenBelow edgeTaken
-  taken-start place e word v ek = rest-start links n _ _ (taken-blind n word) place (λ p. refl) e
+  pub with-start : (place : ℕ) → place ≡ getD links (headBase n) 0 → WithBelow links n key place
+  unfolding WithBelow edgeWith
+  with-start place e word v ek = rest-start links n _ _ (with-blind n word) place (λ p. refl) e
 
-  module _ (place : ℕ) (inv : TakenBelow links n key place) where
-    pub taken-none : place ≤ 0 → EdgeTaken links n key 0
-    unfolding TakenBelow Rest EdgeTaken first
-    taken-none z s word h l v ek =
+  module _ (place : ℕ) (inv : WithBelow links n key place) where
+    pub with-none : place ≤ 0 → EdgeWith links n key 0
+    unfolding WithBelow Rest EdgeWith first
+    with-none z s word h l v ek =
         let q : place ≡ 0 = omega arith in
         sym (ap found (inv word v ek s h l .rest ∙ ap (λ (k : ℕ). first k (leaves (s .program) n word)) q))
 
     module _ (e x : ℕ) (pos : 0 < place) (d : e ≡ place - 1) (is : x ≡ getD links (edgeBase e + 2) 0) where
-      pub taken-hit : x ≡ key → EdgeTaken links n key place
-      unfolding TakenBelow Rest EdgeTaken edgeTaken
-      taken-hit y s word h l v ek =
+      pub with-hit : x ≡ key → EdgeWith links n key place
+      unfolding WithBelow Rest EdgeWith edgeWith
+      with-hit y s word h l v ek =
           let i = inv word v ek s h l in
           let k : e < edgeCount (s .program) = omega (arith, i .within) in
           let a : sourceAt (s .program) e ≡ n = ap (sourceAt (s .program)) d ∙ i .owner pos in
@@ -193,14 +193,34 @@ module _ (links : List ℕ) (n key : ℕ) where
           let q : place ≡ suc e = omega arith in
           q ∙ sym (ap found o)
 
-      pub taken-on : (r : ℕ) → (x ≡ key → ⊥) → r ≡ upTo e (getD links (edgeBase e + 4) 0) → TakenBelow links n key r
-      unfolding TakenBelow
-      taken-on r y q word v ek =
-          rest-on links n _ _ (taken-blind n word) r _ place e (inv word v ek) pos d q
+      pub with-on : (r : ℕ) → (x ≡ key → ⊥) → r ≡ upTo e (getD links (edgeBase e + 4) 0) → WithBelow links n key r
+      unfolding WithBelow
+      with-on r y q word v ek =
+          rest-on links n _ _ (with-blind n word) r _ place e (inv word v ek) pos d q
           (λ s h k a. first-skip (leaves (s .program) n word) e
           (fails _ (λ t. y (is ∙ edge-key links s h e k ∙ ap wordKey (leaves-true (s .program) n word e t .1) ∙ sym ek))))
 
-pub ruleset takes = (taken-start, taken-none, taken-hit, taken-on)
+or-first : (o s : Option ℕ) → (found o ≡ 0 → ⊥) → found o ≡ found (orElse o s)
+unfolding orElse
+or-first none s d = absurd (d refl)
+or-first (some e) s d = refl
+
+or-second : (o s : Option ℕ) → found o ≡ 0 → found s ≡ found (orElse o s)
+unfolding orElse
+or-second none s z = refl
+or-second (some e) s z = absurd (let y : ⊥ = omega arith in y)
+
+-- The edge for anything else, where none has the word.
+module _ (links : List ℕ) (n key place : ℕ) (inv : EdgeWith links n key place) where
+  pub taken-named : (place ≡ 0 → ⊥) → EdgeTaken links n key place
+  unfolding EdgeWith EdgeTaken edgeTaken
+  taken-named d s word h l v ek = let q = inv s word h l v ek in q ∙ or-first (edgeWith (s .program) n word) _ (λ z. d (q ∙ z))
+
+  pub taken-else : (r : ℕ) → place ≡ 0 → EdgeWith links n 42 r → EdgeTaken links n key r
+  unfolding EdgeWith EdgeTaken edgeTaken
+  taken-else r z t s word h l v ek = t s star h l star-word (sym star-key) ∙ or-second (edgeWith (s .program) n word) _ (sym (inv s word h l v ek) ∙ z)
+
+pub ruleset takes = (with-start, with-none, with-hit, with-on, taken-named, taken-else)
 
 -- ---- `degree`
 

@@ -1,5 +1,5 @@
 -- The key of a word: words are compared by their keys, each a number of 64 bits.
-use mathlib.Core.Path.{_≡_, refl, ap}
+use mathlib.Core.Path.{_≡_, refl, sym, ap, _∙_}
 use mathlib.Core.Bool.{true}
 use mathlib.Core.List.{[], _∷_}
 use Prim.Native.Nat.{ℕ, _≤_, _<_}
@@ -9,8 +9,10 @@ use lib.ListN.{length, take}
 use lib.Seq.{take-all}
 use borrow.Author.Tests.{eqb-true, eq-eqb, leb-true}
 use Rattle.laws.specs.Digits.{itself, number}
+use Rattle.laws.specs.Tests.{_and_, isnt}
 use Rattle.laws.specs.TestLaws.{and-left, and-right, same-test}
 use Rattle.rules.specs.Text.{Bytes, same, between, allBytes, wordByte, isWord}
+use Rattle.rules.specs.Graph.{star}
 use Rattle.rules.specs.Proofs.TextLaws.{same-true, same-of}
 
 -- Its bytes as digits to the base 256, the first the lowest.
@@ -49,3 +51,15 @@ same-keys a b p q = same-test _ _ (λ t. eq-eqb _ _ (ap wordKey (same-true a b t
 pub word-short : (w : Bytes) → isWord w ≡ true → take 8 w ≡ w
 unfolding isWord between
 word-short w h = take-all 8 w (leb-true (length w) 8 (and-right _ _ (and-left _ _ h)))
+
+-- `*` is a word, and its key is 42; a word with this key is `*`.
+pub star-word : isWord star ≡ true
+unfolding isWord between allBytes wordByte isnt _and_
+star-word = refl
+
+pub star-key : wordKey star ≡ 42
+unfolding number
+star-key = refl
+
+pub key-star : (w : Bytes) → isWord w ≡ true → wordKey w ≡ 42 → w ≡ star
+key-star w v e = key-spells w star v star-word (e ∙ sym star-key)

@@ -7,7 +7,7 @@ use lib.Dec.{eqb}
 use lib.ListN.{getD}
 use Rattle.laws.specs.Tests.{_⇒_, every, first, found}
 use Rattle.rules.specs.Text.{Bytes, same, isWord}
-use Rattle.rules.specs.Graph.{nameAt, sourceAt, wordAt, procCount, nodeCount, edgeCount, dash, edgeTaken, degree}
+use Rattle.rules.specs.Graph.{nameAt, sourceAt, wordAt, procCount, nodeCount, edgeCount, dash, edgeTaken, edgeWith, degree}
 use Rattle.rules.specs.ProgramFile.{Listing}
 use Rattle.rules.specs.Places.{Part}
 use Rattle.graph.specs.Table.{edgeBase, headBase, procBase, edgeRow, headOf, procHead, At}
@@ -34,7 +34,11 @@ pub record Edges (link : ℕ → ℕ) (s : Listing) : Type 0 where
 unfoldable pub ProcNamed : Bytes → List ℕ → ℕ → Bytes → ℕ → Type 0
 ProcNamed text links c name r = (s : Listing) → Procs text (in-table links) s → c ≡ procCount (s .program) → r ≡ found (first (procCount (s .program)) (λ q. same (nameAt (s .program) q) name))
 
--- `edge_taken`: the edge that a node takes for a word, by its key.
+-- `edge_with`: the edge of a node with a word, by its key; `edge_taken`: the edge that it takes for the word.
+unfoldable pub EdgeWith : List ℕ → ℕ → ℕ → ℕ → Type 0
+EdgeWith links n key r =
+    (s : Listing) (word : Bytes) → Edges (in-table links) s → n < nodeCount (s .program) → isWord word ≡ true → key ≡ wordKey word → r ≡ found (edgeWith (s .program) n word)
+
 unfoldable pub EdgeTaken : List ℕ → ℕ → ℕ → ℕ → Type 0
 EdgeTaken links n key r =
     (s : Listing) (word : Bytes) → Edges (in-table links) s → n < nodeCount (s .program) → isWord word ≡ true → key ≡ wordKey word → r ≡ found (edgeTaken (s .program) n word)

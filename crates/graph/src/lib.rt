@@ -7,7 +7,7 @@ ghost use Rattle.rules.specs.Text.{same as sameBytes};
 ghost use Rattle.graph.specs.Table.{edgeBase, headBase, procBase};
 ghost use Rattle.graph.specs.Keys.{wordKey};
 ghost use Rattle.graph.specs.Reads.{partAt, upTo};
-ghost use Rattle.graph.specs.Lookups.{Dashed, Degree, EdgeTaken, ProcNamed};
+ghost use Rattle.graph.specs.Lookups.{Dashed, Degree, EdgeTaken, EdgeWith, ProcNamed};
 
 // The part of the text whose start stands at i in the table, and its length behind that.
 pub fn part_at<'a>(text: &'a [u8], table: &[usize], i: usize) -> &'a [u8]
@@ -87,9 +87,9 @@ pub fn word_key(links: &[usize], e: usize) -> usize
     text::get(links, 448 + 5 * e + 2)
 }
 
-// 1 + the edge that the node n takes for the word of this key, or 0.
-pub fn edge_taken(links: &[usize], n: usize, key: usize) -> usize
-    ensures { λ r. ⌜ EdgeTaken (now (links .entry)) n key r ⌝ }
+// 1 + the edge of the node n with the word of this key, or 0.
+pub fn edge_with(links: &[usize], n: usize, key: usize) -> usize
+    ensures { λ r. ⌜ EdgeWith (now (links .entry)) n key r ⌝ }
 {
     let mut place = head(links, n);
     while 0 < place {
@@ -100,6 +100,17 @@ pub fn edge_taken(links: &[usize], n: usize, key: usize) -> usize
         place = before(links, e);
     }
     0
+}
+
+// 1 + the edge that the node n takes for the word of this key, or 0: the one with that word, or else the one with the word `*`, whose key is 42.
+pub fn edge_taken(links: &[usize], n: usize, key: usize) -> usize
+    ensures { λ r. ⌜ EdgeTaken (now (links .entry)) n key r ⌝ }
+{
+    let place = edge_with(links, n, key);
+    if place == 0 {
+        return edge_with(links, n, 42);
+    }
+    place
 }
 
 // How many edges leave the node n.

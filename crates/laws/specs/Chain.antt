@@ -25,12 +25,12 @@ unfolding latest
 latest-miss key a c e = rw (ne-eqb (key c) a e, latest)
 
 -- it is one, and nothing lies between it and c
-latest-le : (key : ℕ → ℕ) (a c : ℕ) → latest key a c ≤ c
+pub latest-le : (key : ℕ → ℕ) (a c : ℕ) → latest key a c ≤ c
 unfolding latest
 latest-le key a zero = omega arith
 latest-le key a (suc c) = same-or (key c) a (λ e. omega (arith, latest-hit key a c e)) (λ e. omega (arith, latest-miss key a c e, latest-le key a c))
 
-latest-key : (key : ℕ → ℕ) (a c i : ℕ) → latest key a c ≡ suc i → key i ≡ a
+pub latest-key : (key : ℕ → ℕ) (a c i : ℕ) → latest key a c ≡ suc i → key i ≡ a
 unfolding latest
 latest-key key a zero i h = absurd (omega arith)
 latest-key key a (suc c) i h =
@@ -60,6 +60,14 @@ pub latest-none : (key : ℕ → ℕ) (a c : ℕ) → ((i : ℕ) → i < c → k
 unfolding latest
 latest-none key a zero h = refl
 latest-none key a (suc c) h = latest-miss key a c (h c (omega arith)) ∙ latest-none key a c (λ i l. h i (omega arith))
+
+-- a key that just one item has
+pub latest-only : (key : ℕ → ℕ) (a c i : ℕ) → i < c → key i ≡ a → ((j : ℕ) → j < c → key j ≡ a → j ≡ i) → latest key a c ≡ suc i
+latest-only key a zero i l e h = absurd (not-suc-le-zero l)
+latest-only key a (suc c) i l e h =
+    same-or c i
+    (λ q. latest-hit key a c (ap key q ∙ e) ∙ ap suc q)
+    (λ q. latest-miss key a c (λ w. q (h c (omega arith) w)) ∙ latest-only key a c i (omega arith) e (λ j b w. h j (omega arith) w))
 
 -- ---- the chains of c items, for keys below n: tops a is what heads[a] holds, links i what prev[i] holds, wherever the code keeps them
 pub record Chained (key : ℕ → ℕ) (n c : ℕ) (tops links : ℕ → ℕ) : Type 0 where
@@ -137,7 +145,8 @@ pub record Left {X : Type 0} (key : ℕ → ℕ) (a c : ℕ) (all : X) (F : ℕ 
   pub owner : 0 < j → key (j - 1) ≡ a
   pub rest : all ≡ F j
 
-left-at : {X : Type 0} {key : ℕ → ℕ} {c : ℕ} {all : X} {F : ℕ → X} (a m j : ℕ) → Blind key a F → m ≤ c → j ≡ latest key a m → all ≡ F m → Left key a c all F j
+-- From the latest item below m.
+pub left-at : {X : Type 0} {key : ℕ → ℕ} {c : ℕ} {all : X} {F : ℕ → X} (a m j : ℕ) → Blind key a F → m ≤ c → j ≡ latest key a m → all ≡ F m → Left key a c all F j
 left-at {key = key} {F = F} a m j b mc e h =
     record {
       within = omega (arith, latest-le key a m);

@@ -13,12 +13,12 @@ use Rattle.laws.specs.Tests.{_and_, _or_, isnt, any, first, found}
 use Rattle.laws.specs.TestLaws.{and-left, and-right, and-both, or-left, or-right, fails, both-ways, true-isnt, false-isnt, same-test, any-of, any-at, first-at, first-none, found-some}
 use Rattle.laws.specs.Lists.{choose-yes, choose-no}
 use Rattle.rules.specs.Text.{Bytes, same, isWord, value, maxProcs, maxEdges, Reading, refused}
-use Rattle.rules.specs.Graph.{nameAt, ownerAt, procCount, nodeCount, edgeCount, leaves, edgeTaken}
+use Rattle.rules.specs.Graph.{nameAt, ownerAt, procCount, nodeCount, edgeCount, leaves, edgeWith}
 use Rattle.rules.specs.ProgramFile.{proc-line, Listing, current, begun, named, hasEdge, hasWord, isNodeOf, withProc, withNode, withEdge, takeLine}
 use Rattle.rules.specs.Proofs.TextLaws.{unless-passes, unless-refuses}
 use Rattle.graph.specs.Table.{firstNode, firstEdge}
 use Rattle.graph.specs.Keys.{wordKey, word-short}
-use Rattle.graph.specs.Lookups.{in-table, Procs, Edges, ProcNamed, EdgeTaken}
+use Rattle.graph.specs.Lookups.{in-table, Procs, Edges, ProcNamed, EdgeWith}
 use Rattle.lines.specs.Known.{Known}
 use Rattle.reader.specs.declared.Count.{Count}
 use Rattle.reader.specs.Result.{linksOf, Small}
@@ -216,20 +216,20 @@ pub in-rest : (first nodes n : ℕ) → first ≤ n → ltb n nodes ≡ inProced
 unfolding inProcedure _and_
 in-rest first nodes n h = let z : leb first n ≡ true = le-leb first n h in rw z
 
-module _ (w : List ℕ) (n f start : ℕ) (word : Bytes) (t : ℕ) (c : Count) (i : ℕ) (ei : i ≡ wordKey (take 8 word)) (l : List ℕ) (el : l ≡ linksOf w) (y : ℕ) (q : EdgeTaken l f i y) where
+module _ (w : List ℕ) (n f start : ℕ) (word : Bytes) (t : ℕ) (c : Count) (i : ℕ) (ei : i ≡ wordKey (take 8 word)) (l : List ℕ) (el : l ≡ linksOf w) (y : ℕ) (q : EdgeWith l f i y) where
   key-is : isWord word ≡ true → i ≡ wordKey word
   key-is v = ei ∙ ap wordKey (word-short word v)
 
-  taken-is : (text : Bytes) (s : Listing) → Known text s → Holds w c s → isWord word ≡ true → f < nodeCount (s .program) → y ≡ found (edgeTaken (s .program) f word)
-  unfolding EdgeTaken
-  taken-is text s k h v m = q s word (subst (λ (x : List ℕ). Edges (in-table x) s) (sym el) (edges-of w c s (k .sound) h)) m v (key-is v)
+  with-is : (text : Bytes) (s : Listing) → Known text s → Holds w c s → isWord word ≡ true → f < nodeCount (s .program) → y ≡ found (edgeWith (s .program) f word)
+  unfolding EdgeWith
+  with-is text s k h v m = q s word (subst (λ (x : List ℕ). Edges (in-table x) s) (sym el) (edges-of w c s (k .sound) h)) m v (key-is v)
 
   pub edge-twice : (r : Count) (w′ : List ℕ) → 0 < y → Refusal 7 n r → LinkedEdge n f start word t c w r w′
-  unfolding hasWord edgeTaken
+  unfolding hasWord edgeWith
   edge-twice r w′ z a =
       record {
         linked = λ text s at from to k h ef et es v m o.
-            let g = found-some _ (subst (λ (m : ℕ). 0 < m) (taken-is text s k h v m) z) in
+            let g = found-some _ (subst (λ (m : ℕ). 0 < m) (with-is text s k h v m) z) in
             let u = first-at (leaves (s .program) f word) (edgeCount (s .program)) (g .0) (g .1) in
             after-refused _ 7 n r w′ (unless-refuses _ _ _ _ (ap (λ (i : ℕ). any (edgeCount (s .program)) (leaves (s .program) i word)) (sym ef) ∙ any-of (leaves (s .program) f word) (edgeCount (s .program)) (g .0) (u .0) (u .1))) (omega arith) a;
         small = a .small;
@@ -237,11 +237,11 @@ module _ (w : List ℕ) (n f start : ℕ) (word : Bytes) (t : ℕ) (c : Count) (
 
   pub edge-new : (r : Count) (w′ : List ℕ) → Small c → y ≤ 0 → c .edges < 1024 → 8128 ≤ length w → w′ ≡ storedEdge w (c .edges) f start i t
       → r ≡ counts (c .procs) (c .nodes) (c .edges + 1) → LinkedEdge n f start word t c w r w′
-  unfolding hasWord edgeTaken
+  unfolding hasWord edgeWith
   edge-new r w′ sm z few room ew er =
       rw er (record {
         linked = λ text s at from to k h ef et es v m o.
-            let g = found-none _ (subst (λ (m : ℕ). m ≤ 0) (taken-is text s k h v m) z) in
+            let g = found-none _ (subst (λ (m : ℕ). m ≤ 0) (with-is text s k h v m) z) in
             let fresh : any (edgeCount (s .program)) (leaves (s .program) (value from) word) ≡ false
             = ap (λ (i : ℕ). any (edgeCount (s .program)) (leaves (s .program) i word)) (sym ef)
             ∙ none-any (leaves (s .program) f word) (edgeCount (s .program)) g in

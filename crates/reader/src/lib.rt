@@ -434,7 +434,7 @@ fn new_edge(
     let nodes = had.nodes;
     let edges = had.edges;
     let key = graph::key(word);
-    let twice = graph::edge_taken(links(work), from, key);
+    let twice = graph::edge_with(links(work), from, key);
     if 0 < twice {
         return refused(7, line);
     }

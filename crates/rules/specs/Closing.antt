@@ -24,7 +24,7 @@ module _ (old new : Program) where
   unfoldable pub alike : ℕ → ℕ → Bool
   alike n n′ = sameKind (kindAt old n) (kindAt new n′) and sameLabel (labelAt old n) (labelAt new n′) and sameCallee (calleeAt old n) (calleeAt new n′)
 
-  -- An old edge and a new one are taken for one word, each at its node. If they are, it is so for the word of one of them: `*` stands for every word that neither node names
+  -- An old edge and a new one are taken for one word, each at its node. If they are, then for the word of one of them: `*` stands for every word that neither node names
   -- (`one-word`, `word-one` in Proofs/ClosingLaws).
   unfoldable pub sameWord : ℕ → ℕ → Bool
   sameWord e e′ = takes new (wordAt old e) e′ or takes old (wordAt new e′) e

@@ -15,22 +15,20 @@ use Rattle.laws.specs.Slices.{below-or, same-or}
 use Rattle.laws.specs.Chain.{Walk, walk-start}
 use Rattle.rules.specs.Text.{Bytes, same, sameLabel}
 use Rattle.rules.specs.Graph.{C, Kind, E, S, X, calleeAt, calleeCount, edgeCount, filled, kindAt, kindNumber, labelAt, nodeCount, sameKind, sourceAt, wordAt}
-use Rattle.rules.specs.Closing.{alike, bothCall, exitsMet, goesOn, sameCallee, sameWord}
+use Rattle.rules.specs.Closing.{alike, bothCall, exitsMet, goesOn, sameCallee}
 use Rattle.rules.specs.Check.{enteredAt}
 use Rattle.rules.specs.ProgramFile.{Listing}
-use Rattle.rules.specs.Proofs.ClosingLaws.{alike-back, alike-parts, alike-self, alike-then, bare-callees, same-word, sameCallee-is, taken-same}
+use Rattle.rules.specs.Proofs.ClosingLaws.{alike-back, alike-parts, alike-self, alike-then, bare-callees, sameCallee-is}
 use Rattle.rules.specs.Proofs.GraphLaws.{sameKind-true}
 use Rattle.rules.specs.Proofs.TextLaws.{empty-true}
 use Rattle.graph.specs.Table.{edgeBase, nodeBase, procBase}
-use Rattle.graph.specs.Lookups.{EdgeTaken}
 use Rattle.graph.specs.Reads.{partAt, past, part-past}
 use Rattle.pairset.specs.Store.{Has, lastPair, newAt, oldAt, pairsIn}
 use Rattle.pairset.specs.StoreLaws.{listed-of, walked}
 use Rattle.versions.specs.Memory.{InMemory, memory}
 use Rattle.versions.specs.MemoryLaws.{kind-is, label-is, callees-are, key-is, edges-in, sound, well-formed}
 use Rattle.versions.specs.Called.{CalleesAt}
-use Rattle.versions.specs.Found.{found-at}
-use Rattle.versions.specs.Claims.{Alike, BothCall, CalleesEntered, Entered, ExitsMet, GoesOn, SameCallees, Taken}
+use Rattle.versions.specs.Claims.{Alike, BothCall, CalleesEntered, Entered, ExitsMet, GoesOn, SameCallees}
 use Rattle.versions.specs.Groups.{Grouped, Groups, Known, OfGroup, Regrouped, Twin}
 
 -- ---- what the tables hold, past their ends
@@ -132,33 +130,6 @@ module _ (ot on ol nt nn nl : List ℕ) (n m k l : ℕ) (ek : k ≡ getD on (nod
         ∙ ap₂ (λ (s t : Bool). s and (t and sameCallee (calleeAt (o .program) n) (calleeAt (p .program) m))) (eq-eqb _ _ (ks .0 ∙ sym (ks .1))) (labels-are o p h g i j z))
 
 pub ruleset alikes = (alike-kinds, alike-labels, alike-bare, alike-calls)
-
--- ---- `taken`
-
-pub taken-is : (ol nl : List ℕ) (k e m r : ℕ) → k ≡ getD ol (edgeBase e + 2) 0 → EdgeTaken nl m k r → Taken ol nl e m r
-unfolding Taken EdgeTaken
-taken-is ol nl k e m r ek t ot on nt nn o p h g i j =
-    t p (wordAt (o .program) e) (edges-in _ p g) j (sound _ o h .wordForms e i) (ek ∙ key-is _ o h e i) ∙ ap found (taken-same (o .program) (p .program) e m)
-
-module _ (ot on ol nt nn nl : List ℕ) (e m t : ℕ) (et : Taken ol nl e m t) (d : t ≡ 0 → ⊥) where
-  -- The edge taken is one of the new node with the word of the old edge, and there is no other.
-  pub one-taken : (o p : Listing) → InMemory (memory ot on ol) o → InMemory (memory nt nn nl) p → e < edgeCount (o .program) → m < nodeCount (p .program)
-      → (t - 1 < edgeCount (p .program)) × (sourceAt (p .program) (t - 1) ≡ m) × (sameWord (o .program) (p .program) e (t - 1) ≡ true)
-      × ((f : ℕ) → f < edgeCount (p .program) → sourceAt (p .program) f ≡ m → sameWord (o .program) (p .program) e f ≡ true → f ≡ t - 1)
-  unfolding Taken
-  one-taken o p h g i j =
-      let q = et ot on nt nn o p h g i j in
-      let r = found-at (λ f. eqb (sourceAt (p .program) f) m and sameWord (o .program) (p .program) e f) (edgeCount (p .program)) (omega arith) in
-      let l : t - 1 < edgeCount (p .program) = omega (arith, r .0) in
-      let y : (eqb (sourceAt (p .program) (t - 1)) m and sameWord (o .program) (p .program) e (t - 1)) ≡ true
-      = ap (λ (x : ℕ). eqb (sourceAt (p .program) (x - 1)) m and sameWord (o .program) (p .program) e (x - 1)) q ∙ r .1 in
-      let s : sourceAt (p .program) (t - 1) ≡ m = eqb-true _ _ (and-left _ _ y) in (
-        l,
-        s,
-        and-right _ _ y,
-        λ f k a b. well-formed _ p g .words (t - 1) f l k (a ∙ sym s)
-            (sym (same-word (o .program) (p .program) e f b) ∙ same-word (o .program) (p .program) e (t - 1) (and-right _ _ y)),
-      )
 
 -- ---- `both_call`
 
@@ -314,4 +285,4 @@ module _ (w g : List ℕ) (a b : ℕ) where
 
 pub ruleset knowns = (known-not, known-same)
 
-pub ruleset all = (reads, sames, alikes, taken-is, calls, goes, groups, keys, knowns)
+pub ruleset all = (reads, sames, alikes, calls, goes, groups, keys, knowns)

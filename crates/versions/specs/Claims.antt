@@ -3,11 +3,10 @@ use mathlib.Core.Path.{_≡_}
 use mathlib.Core.Bool.{Bool, true}
 use mathlib.Core.List.{List}
 use Prim.Native.Nat.{ℕ, _≤_, _<_}
-use lib.Dec.{eqb}
-use Rattle.laws.specs.Tests.{_and_, _⇒_, every, first, found}
+use Rattle.laws.specs.Tests.{_⇒_, every}
 use Rattle.rules.specs.Text.{Bytes, same}
-use Rattle.rules.specs.Graph.{C, calleeAt, calleeCount, calleeName, edgeCount, kindAt, nodeCount, sourceAt}
-use Rattle.rules.specs.Closing.{alike, bothCall, exitsMet, goesOn, sameCallee, sameWord}
+use Rattle.rules.specs.Graph.{C, calleeAt, calleeCount, calleeName, edgeCount, kindAt, nodeCount}
+use Rattle.rules.specs.Closing.{alike, bothCall, exitsMet, goesOn, sameCallee}
 use Rattle.rules.specs.Check.{enteredAt}
 use Rattle.rules.specs.ProgramFile.{Listing}
 use Rattle.pairset.specs.Store.{Store, pairsIn}
@@ -18,12 +17,6 @@ use Rattle.versions.specs.Called.{CalleesAt}
 unfoldable pub Alike : Memory → Memory → ℕ → ℕ → Bool → Type 0
 Alike v v′ n m r =
     (o p : Listing) → InMemory v o → InMemory v′ p → n < nodeCount (o .program) → m < nodeCount (p .program) → r ≡ alike (o .program) (p .program) n m
-
--- `taken`: 1 + the edge that the new node m takes for the word of the old edge e, or 0.
-unfoldable pub Taken : List ℕ → List ℕ → ℕ → ℕ → ℕ → Type 0
-Taken ol nl e m r =
-    (ot on nt nn : List ℕ) (o p : Listing) → InMemory (memory ot on ol) o → InMemory (memory nt nn nl) p → e < edgeCount (o .program) → m < nodeCount (p .program)
-    → r ≡ found (first (edgeCount (p .program)) (λ f. eqb (sourceAt (p .program) f) m and sameWord (o .program) (p .program) e f))
 
 -- `both_call`: both nodes are calls.
 unfoldable pub BothCall : List ℕ → List ℕ → ℕ → ℕ → Bool → Type 0

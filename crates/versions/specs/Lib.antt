@@ -4,5 +4,6 @@ pub mod MemoryLaws
 pub mod Called
 pub mod Found
 pub mod Claims
+pub mod Opposite
 pub mod PairsHeld
 pub mod Groups

@@ -11,7 +11,8 @@ ghost use Rattle.rules.specs.Text.{sameLabel};
 ghost use Rattle.rules.specs.Closing.{sameCallee};
 ghost use Rattle.pairset.specs.Store.{Has};
 ghost use Rattle.versions.specs.Memory.{memory};
-ghost use Rattle.versions.specs.Claims.{Alike, BothCall, CalleesEntered, Entered, ExitsMet, GoesOn, SameCallees, Taken};
+ghost use Rattle.versions.specs.Claims.{Alike, BothCall, CalleesEntered, Entered, ExitsMet, GoesOn, SameCallees};
+ghost use Rattle.versions.specs.Opposite.{LastOpposite, OppositeBefore, OppositeFrom, Takes, WordLost};
 ghost use Rattle.versions.specs.Groups.{Known, Regrouped, Twin};
 
 // ---- what the tables hold
@@ -121,7 +122,7 @@ pub fn edge_before(links: &[usize], e: usize) -> usize
     graph::before(links, e)
 }
 
-// ---- two nodes, and an old edge at a new node
+// ---- two nodes
 
 // Whether the labels of the old node n and the new node m match.
 fn same_label(ot: &[u8], on: &[usize], nt: &[u8], nn: &[usize], n: usize, m: usize) -> bool
@@ -190,12 +191,68 @@ pub fn alike(
     false
 }
 
-// 1 + the edge that the new node m takes for the word of the old edge e, or 0.
-pub fn taken(ol: &[usize], nl: &[usize], e: usize, m: usize) -> usize
-    ensures { λ r. ⌜ Taken (now (ol .entry)) (now (nl .entry)) e m r ⌝ }
+// ---- an old edge and the edges of a new node that are opposite to it: taken with it for one word
+
+// Whether the old node n takes the edge e for the word of the new edge f.
+fn takes(ol: &[usize], nl: &[usize], e: usize, n: usize, f: usize) -> bool
+    ensures { λ r. ⌜ Takes (now (ol .entry)) (now (nl .entry)) e n f r ⌝ }
+{
+    let key = graph::word_key(nl, f);
+    let taken = graph::edge_taken(ol, n, key);
+    if taken == 0 {
+        return false;
+    }
+    taken - 1 == e
+}
+
+// 1 + the first edge from the place down, in the chain of a new node, for whose word the old node n takes the edge e, or 0.
+fn opposite_from(ol: &[usize], nl: &[usize], e: usize, n: usize, from: usize) -> usize
+    ensures { λ r. ⌜ OppositeFrom (now (ol .entry)) (now (nl .entry)) e n from r ⌝ }
+{
+    let mut place = from;
+    while 0 < place {
+        let f = place - 1;
+        if takes(ol, nl, e, n, f) {
+            return place;
+        }
+        place = graph::before(nl, f);
+    }
+    0
+}
+
+// 1 + the last edge of the new node m that is opposite to the old edge e, or 0. To an edge with another word than `*`, whose key is 42, this is the
+// one that m takes for that word.
+pub fn last_opposite(ol: &[usize], nl: &[usize], e: usize, m: usize) -> usize
+    ensures { λ r. ⌜ LastOpposite (now (ol .entry)) (now (nl .entry)) e m r ⌝ }
 {
     let key = graph::word_key(ol, e);
+    if key == 42 {
+        return opposite_from(ol, nl, e, source(ol, e), graph::head(nl, m));
+    }
     graph::edge_taken(nl, m, key)
+}
+
+// 1 + the one before f, which is opposite to e, or 0. Only `*` has several.
+pub fn opposite_before(ol: &[usize], nl: &[usize], e: usize, f: usize) -> usize
+    ensures { λ r. ⌜ OppositeBefore (now (ol .entry)) (now (nl .entry)) e f r ⌝ }
+{
+    let key = graph::word_key(ol, e);
+    if key == 42 {
+        return opposite_from(ol, nl, e, source(ol, e), graph::before(nl, f));
+    }
+    0
+}
+
+// Whether the new node m takes no edge for the word of the old edge e, where `last` is what `last_opposite` found.
+pub fn word_lost(ol: &[usize], nl: &[usize], e: usize, m: usize, last: usize) -> bool
+    ensures { λ r. ⌜ WordLost (now (ol .entry)) (now (nl .entry)) e m last r ⌝ }
+{
+    let key = graph::word_key(ol, e);
+    if key == 42 {
+        let star = graph::edge_with(nl, m, 42);
+        return star == 0;
+    }
+    last == 0
 }
 
 // Whether the old node n and the new node m are calls.

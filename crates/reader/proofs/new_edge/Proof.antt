@@ -9,8 +9,8 @@ key-requires c κs = search needs
 links-requires : tie.Need-links-requires
 links-requires c κs = search needs
 
-edge-taken-requires : tie.Need-edge-taken-requires
-edge-taken-requires c κs = search needs
+edge-with-requires : tie.Need-edge-with-requires
+edge-with-requires c κs = search needs
 
 refused-requires : tie.Need-refused-requires
 refused-requires c κs = search needs
@@ -42,7 +42,7 @@ new-edge-spec =
     (tie.spec
     key-requires
     links-requires
-    edge-taken-requires
+    edge-with-requires
     refused-requires
     same-length
     returns

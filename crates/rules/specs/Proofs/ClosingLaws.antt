@@ -95,7 +95,7 @@ alike-then p q r a b c h k =
 -- ---- the edges taken for a word
 
 module _ (p : Program) (w : Bytes) (e : ℕ) where
-  takes-at : takes p w e ≡ true → edgeTaken p (sourceAt p e) w ≡ some e
+  pub takes-at : takes p w e ≡ true → edgeTaken p (sourceAt p e) w ≡ some e
   unfolding takes
   takes-at h = go (edgeTaken p (sourceAt p e) w) h
     where
@@ -103,7 +103,7 @@ module _ (p : Program) (w : Bytes) (e : ℕ) where
       go none h = absurd (false≢true h)
       go (some f) h = ap {B = Option ℕ} some (eqb-true f e h)
 
-  takes-of : edgeTaken p (sourceAt p e) w ≡ some e → takes p w e ≡ true
+  pub takes-of : edgeTaken p (sourceAt p e) w ≡ some e → takes p w e ≡ true
   unfolding takes
   takes-of h = rw h (eqb-self e)
 
@@ -127,24 +127,30 @@ module _ (old new : Program) (wo : WellFormed old) (wn : WellFormed new) where
       go (h, a, inr b) (h′, a′, inl b′) = or-right _ (takes-of old (wordAt new e′) e (rw (a, b′) t))
       go (h, a, inr b) (h′, a′, inr b′) = or-left _ (takes-of new (wordAt old e) e′ (edge-is new wn e′ _ _ h′ refl (b′ ∙ sym b)))
 
-  -- By edges: the new node takes the new edge for the word of the old one, or the old edge is `*` and the old node has no edge with the word of the new one.
-  pub same-word-cases : (e e′ : ℕ) → e < edgeCount old → e′ < edgeCount new → sameWord old new e e′ ≡ true
-      → (edgeTaken new (sourceAt new e′) (wordAt old e) ≡ some e′) ⊎ ((wordAt old e ≡ star) × (edgeWith old (sourceAt old e) (wordAt new e′) ≡ none))
-  unfolding sameWord edgeTaken orElse
-  same-word-cases e e′ h h′ t =
-      ⊎-elim (λ u. inl (takes-at new (wordAt old e) e′ u)) (λ u. go (edgeWith old (sourceAt old e) (wordAt new e′)) refl (takes-at old (wordAt new e′) e u)) (or-cases _ _ t)
-    where
-      go : (o : Option ℕ) → edgeWith old (sourceAt old e) (wordAt new e′) ≡ o → orElse o (edgeWith old (sourceAt old e) star) ≡ some e
-          → (edgeTaken new (sourceAt new e′) (wordAt old e) ≡ some e′) ⊎ ((wordAt old e ≡ star) × (edgeWith old (sourceAt old e) (wordAt new e′) ≡ none))
-      go none q k = inr (with-at old (sourceAt old e) star e k .2, q)
-      go (some f) q k = inl (edge-is new wn e′ _ _ h′ refl (sym (with-at old (sourceAt old e) (wordAt new e′) e (q ∙ k) .2)))
+  -- By edges. An edge with another word than `*` is opposite to the edge that the new node takes for that word; `*` to each new edge for whose word the old node takes it.
+  pub named-opposite : (e e′ : ℕ) → (wordAt old e ≡ star → ⊥) → e < edgeCount old → e′ < edgeCount new → sameWord old new e e′ ≡ true
+      → edgeTaken new (sourceAt new e′) (wordAt old e) ≡ some e′
+  unfolding sameWord
+  named-opposite e e′ x h h′ t =
+      ⊎-elim (λ u. takes-at new (wordAt old e) e′ u)
+      (λ u. ⊎-elim (λ q. edge-is new wn e′ _ _ h′ refl (sym q)) (λ q. absurd (x q)) (taken-at old _ (wordAt new e′) e (takes-at old (wordAt new e′) e u) .2))
+      (or-cases _ _ t)
 
-  pub same-word-of : (e e′ : ℕ) → e < edgeCount old
-      → (edgeTaken new (sourceAt new e′) (wordAt old e) ≡ some e′) ⊎ ((wordAt old e ≡ star) × (edgeWith old (sourceAt old e) (wordAt new e′) ≡ none))
-      → sameWord old new e e′ ≡ true
-  unfolding sameWord edgeTaken orElse
-  same-word-of e e′ h (inl t) = or-left _ (takes-of new (wordAt old e) e′ t)
-  same-word-of e e′ h (inr t) = or-right _ (takes-of old (wordAt new e′) e (rw (t .1) (with-is old wo e _ _ h refl (t .0))))
+  pub taken-opposite : (e e′ : ℕ) → edgeTaken new (sourceAt new e′) (wordAt old e) ≡ some e′ → sameWord old new e e′ ≡ true
+  unfolding sameWord
+  taken-opposite e e′ t = or-left _ (takes-of new (wordAt old e) e′ t)
+
+  pub star-opposite : (e e′ : ℕ) → wordAt old e ≡ star → e < edgeCount old → sameWord old new e e′ ≡ takes old (wordAt new e′) e
+  unfolding sameWord
+  star-opposite e e′ s h =
+      same-test _ _
+      (λ t.
+      ⊎-elim
+      (λ u.
+      let r = taken-at new _ (wordAt old e) e′ (takes-at new (wordAt old e) e′ u) .2 in
+      takes-of old (wordAt new e′) e (edge-is old wo e _ _ h refl (⊎-elim sym (λ q. s ∙ sym q) r)))
+      (λ u. u) (or-cases _ _ t))
+      (λ t. or-right _ t)
 
   module _ (f : ℕ → ℕ → Bool) (e n′ : ℕ) where
     -- What `keptBy` says of every word; where it fails, a word that shows it; and that it passes where there is none.
@@ -194,62 +200,6 @@ module _ (old new : Program) (wo : WellFormed old) (wn : WellFormed new) where
     pub kept-of : e < edgeCount old → ((w : Bytes) → edgeTaken old (sourceAt old e) w ≡ some e → (e′ : ℕ) × (edgeTaken new n′ w ≡ some e′) × (f (targetAt old e) (targetAt new e′) ≡ true))
         → keptBy old new f e n′ ≡ true
     kept-of h k = ⊎-elim (λ t. t) (λ u. let r = unkept-at h u in let t = k (r .0) (r .1) in absurd (r .2 (t .0) (t .1) (t .2))) (passes? (keptBy old new f e n′))
-
-    -- By edges. An edge with another word than `*` is taken for its word alone; `*` for every word that the old node does not name, so that it is set against `*` and against each edge of
-    -- the new node whose word the old node does not have.
-    pub kept-named : e < edgeCount old → (wordAt old e ≡ star → ⊥)
-        → keptBy old new f e n′ ≡ after (edgeTaken new n′ (wordAt old e)) false (λ e′. f (targetAt old e) (targetAt new e′))
-    kept-named h x = same-test _ _ there (λ t. back (edgeTaken new n′ (wordAt old e)) refl t)
-      where
-        there : keptBy old new f e n′ ≡ true → after (edgeTaken new n′ (wordAt old e)) false (λ e′. f (targetAt old e) (targetAt new e′)) ≡ true
-        there t = let r = kept-at t (wordAt old e) (edge-is old wo e _ _ h refl refl) in rw (r .1) (r .2)
-
-        back : (o : Option ℕ) → edgeTaken new n′ (wordAt old e) ≡ o → after o false (λ e′. f (targetAt old e) (targetAt new e′)) ≡ true → keptBy old new f e n′ ≡ true
-        back none q t = absurd (false≢true t)
-        back (some e′) q t = kept-of h (λ w u. (e′, ap (edgeTaken new n′) (⊎-elim sym (λ s. absurd (x s)) (taken-at old _ w e u .2)) ∙ q, t))
-
-    pub kept-star : e < edgeCount old → wordAt old e ≡ star
-        → keptBy old new f e n′
-        ≡ (after (edgeWith new n′ star) false (λ e′. f (targetAt old e) (targetAt new e′))
-        and every (edgeCount new) (λ e′. eqb (sourceAt new e′) n′ and isnt (some? (edgeWith old (sourceAt old e) (wordAt new e′))) ⇒ f (targetAt old e) (targetAt new e′)))
-    kept-star h s = same-test _ _ (λ t. and-both (own t) (others t)) (λ t. back (edgeWith new n′ star) refl (and-left _ _ t) (and-right _ _ t))
-      where
-        own : keptBy old new f e n′ ≡ true → after (edgeWith new n′ star) false (λ e′. f (targetAt old e) (targetAt new e′)) ≡ true
-        own t = let r = kept-at t star (edge-is old wo e _ _ h refl s) in rw (sym (taken-star new n′) ∙ r .1) (r .2)
-
-        others : keptBy old new f e n′ ≡ true
-            → every (edgeCount new) (λ e′. eqb (sourceAt new e′) n′ and isnt (some? (edgeWith old (sourceAt old e) (wordAt new e′))) ⇒ f (targetAt old e) (targetAt new e′)) ≡ true
-        others t =
-            every-of _ (edgeCount new) (λ e′ l. implies _ _ (λ c.
-            let x : edgeWith old (sourceAt old e) (wordAt new e′) ≡ none = some-none _ (isnt-true _ (and-right _ _ c)) in
-            let r = kept-at t (wordAt new e′) (taken-else old _ (wordAt new e′) x ∙ with-is old wo e _ _ h refl s) in
-            let q : r .0 ≡ e′ = Option·some-injective _ _ (sym (r .1) ∙ edge-is new wn e′ n′ _ l (eqb-true _ _ (and-left _ _ c)) refl) in
-            sym (ap (λ (i : ℕ). f (targetAt old e) (targetAt new i)) q) ∙ r .2))
-
-        back : (o : Option ℕ) → edgeWith new n′ star ≡ o → after o false (λ e′. f (targetAt old e) (targetAt new e′)) ≡ true
-            → every (edgeCount new) (λ e′. eqb (sourceAt new e′) n′ and isnt (some? (edgeWith old (sourceAt old e) (wordAt new e′))) ⇒ f (targetAt old e) (targetAt new e′)) ≡ true
-            → keptBy old new f e n′ ≡ true
-        back none q a b = absurd (false≢true a)
-        back (some g) q a b =
-            kept-of h (λ w u.
-            let r = star-takes new n′ w g (taken-star new n′ ∙ q) in
-            let v = taken-at new n′ w (r .0) (r .1) in (
-              r .0,
-              r .1,
-              ⊎-elim (λ x. named w u (r .0) (r .1) (v .0) (v .1) x (edgeWith old (sourceAt old e) w) refl) (λ x. is-star (r .0) (with-is new wn (r .0) n′ star (v .0) (v .1) x)) (v .2),
-            ))
-          where
-            is-star : (e′ : ℕ) → edgeWith new n′ star ≡ some e′ → f (targetAt old e) (targetAt new e′) ≡ true
-            is-star e′ x = ap (λ (i : ℕ). f (targetAt old e) (targetAt new i)) (Option·some-injective _ _ (sym x ∙ q)) ∙ a
-
-            named : (w : Bytes) → edgeTaken old (sourceAt old e) w ≡ some e → (e′ : ℕ) → edgeTaken new n′ w ≡ some e′ → e′ < edgeCount new → sourceAt new e′ ≡ n′ → wordAt new e′ ≡ w
-                → (o : Option ℕ) → edgeWith old (sourceAt old e) w ≡ o → f (targetAt old e) (targetAt new e′) ≡ true
-            named w u e′ t l c x none k =
-                implied _ _ (every-at _ (edgeCount new) b e′ l) (and-both (eq-eqb _ _ c) (true-isnt (fails _ (λ y. let z = some-at _ y in absurd (Option·none-ne-some (z .0) (sym k ∙ ap (edgeWith old (sourceAt old e)) (sym x) ∙ z .1))))))
-            named w u e′ t l c x (some i) k =
-                let same-one : i ≡ e = Option·some-injective _ _ (sym (taken-with old _ w i k) ∙ u) in
-                let y : w ≡ star = sym (with-at old _ w i k .2) ∙ ap (wordAt old) same-one ∙ s in
-                is-star e′ (sym (taken-star new n′) ∙ ap (edgeTaken new n′) (sym y) ∙ t)
 
 module _ (old new : Program) (e e′ : ℕ) where
   pub fits-word : fits old new e e′ ≡ true → sameWord old new e e′ ≡ true
