@@ -1,21 +1,32 @@
 // The new edges that need a probe, and the old edges after a dangerous one, as sets of bits, lowest edge first.
-ghost use mathlib.Core.Path.{_≡_};
-ghost use Rattle.probes.specs.Starts.{AllStart, Parts, Starts, added};
+ghost use Rattle.probes.specs.Starts.{AllStart, Parts, PartsAt, Starts};
 ghost use Rattle.probes.specs.Sets.{AfterFound, OpenFound, ProbesFound};
 
 // ---- where the runs may part
 
-// Adds the edge f - 1 to the set; nothing where f is 0.
-fn add(set: &mut [u64], f: usize)
-    ensures { λ _. ⌜ now (set .exit) ≡ added (now (set .entry)) f ⌝ }
+// Adds the new edges that part from the old edge e at the pair of n and m.
+fn part_at(
+    on: &[usize],
+    ol: &[usize],
+    nn: &[usize],
+    nl: &[usize],
+    w: &[usize],
+    e: usize,
+    n: usize,
+    m: usize,
+    set: &mut [u64],
+)
+    ensures { λ _. ⌜ PartsAt (now (on .entry)) (now (ol .entry)) (now (nn .entry)) (now (nl .entry)) (now (w .entry)) e n m (now (set .entry)) (now (set .exit)) ⌝ }
 {
-    if f == 0 {
-        return;
+    let mut f = selection::joins(on, ol, nn, nl, w, e, n, m, false);
+    while 0 < f {
+        let x = f - 1;
+        coverage::set_bit(set, x);
+        f = selection::joins_before(ol, nl, w, e, x, false);
     }
-    coverage::set_bit(set, f - 1);
 }
 
-// Adds the new edges that part from the old edge e at some pair that may go on.
+// The same at every pair that may go on.
 fn part(
     on: &[usize],
     ol: &[usize],
@@ -32,8 +43,7 @@ fn part(
     while 0 < place {
         let k = place - 1;
         let m = pairset::new_of(w, k);
-        let f = selection::joins(on, ol, nn, nl, w, e, n, m, false);
-        add(set, f);
+        part_at(on, ol, nn, nl, w, e, n, m, set);
         place = pairset::pair_before(w, k);
     }
 }

@@ -1,187 +1,304 @@
 -- The turns and the returns of the functions that find the counterparts of an old edge.
-use mathlib.Core.Path.{_≡_, sym, ap, _∙_}
+use mathlib.Core.Path.{_≡_, refl, sym, ap, ap₂, _∙_, subst}
 use mathlib.Core.Bool.{Bool, true, false}
+use mathlib.Core.Logic.{_⊎_, inl, inr, ⊎-elim}
 use mathlib.Core.List.{List}
 use Prim.Native.Nat.{ℕ, suc, _-_, _≤_, _<_}
 use native.Mathlib.Omega.{arith}
 use lib.Dec.{eqb}
 use lib.ListN.{getD}
-use borrow.Author.Tests.{eqb-true, eqb-false, eq-eqb, ne-eqb, lt-ltb, ltb-true}
-use Rattle.laws.specs.Tests.{choose, first, found}
-use Rattle.laws.specs.TestLaws.{and-both, and-left, and-right, every-at, every-of, first-only, implied, implies, isnt-true, true-isnt, fails, both-ways}
+use borrow.Author.Tests.{eqb-true, eq-eqb, ne-eqb, lt-ltb, ltb-true}
+use Rattle.laws.specs.Tests.{_and_, any, choose, first, found, listed}
+use Rattle.laws.specs.TestLaws.{and-both, and-left, and-right, any-at, any-of, both-ways, every-at, every-of, first-only, implied, implies, passes?}
 use Rattle.laws.specs.Lists.{choose-yes, choose-no}
-use Rattle.laws.specs.Slices.{same-or}
-use Rattle.laws.specs.Chain.{Chained, Walk, walk-start, walk-step, walk-end}
-use Rattle.rules.specs.Graph.{edgeCount, sourceAt}
+use Rattle.laws.specs.Slices.{below-or, same-or}
+use Rattle.laws.specs.Chain.{latest, latest-none}
+use Rattle.laws.specs.Fold.{Folded, fold, fold-end, fold-keeps, fold-start, fold-step, passing, passing-at, passing-chain, passing-of}
+use Rattle.rules.specs.Graph.{Program, edgeCount, sourceAt}
 use Rattle.rules.specs.Closing.{goesOn, joined, pairs}
 use Rattle.rules.specs.ProgramFile.{Listing}
 use Rattle.graph.specs.Table.{edgeBase}
 use Rattle.pairset.specs.Store.{lastPair, newAt, oldAt, pairBefore, pairsIn}
 use Rattle.pairset.specs.StoreLaws.{walked}
 use Rattle.versions.specs.Found.{none-found}
+use Rattle.versions.specs.MemoryLaws.{sound}
 use Rattle.versions.specs.Claims.{GoesOn}
-use Rattle.selection.specs.Compared.{Compared, Fitting, Joins, Leads, counterpart, joins-lead, pair-there}
-use Rattle.selection.specs.Marks.{Only, differs, eitherOf, sole}
-use Rattle.selection.proofs.Dangers.{goes-is, source-of}
+use Rattle.versions.specs.Opposite.{FindsBefore, LastOpposite, OppositeBefore}
+use Rattle.selection.specs.Compared.{Compared, Fits, Fitting, Joins, JoinsBefore, JoinsDown, hitAt, hitBelow, hits-any, met-joined, pair-there, partner-below}
+use Rattle.selection.specs.Marks.{Only, Sees, seenAt, several, sole, united}
+use Rattle.selection.proofs.Dangers.{goes-is, hit-at, source-of}
 
--- ---- `joins`
+-- ---- `joins`, `joins_before`
 
 module _ (on ol nn nl w : List ℕ) (e n m : ℕ) (g met : Bool) (go : GoesOn on ol nn nl w n m g) where
+  goes-on : (o p : Listing) (c : ℕ) → Compared on ol nn nl w c o p → e < edgeCount (o .program) → n ≡ sourceAt (o .program) e → listed (pairsIn w c) n m ≡ true
+      → goesOn (o .program) (p .program) (pairsIn w c) (sourceAt (o .program) e) m ≡ g
+  goes-on o p c h i en j = ap (λ (x : ℕ). goesOn (o .program) (p .program) (pairsIn w c) x m) (sym en) ∙ sym (goes-is on ol nn nl w e n m g go o p c h i en j)
+
   pub joins-stays : g ≡ false → Joins on ol nn nl w e n m met 0
-  unfolding Joins counterpart
-  joins-stays z o p c h i en j = sym (choose-no _ 0 (rw (← en) (sym (goes-is on ol nn nl w e n m g go o p c h i en j) ∙ z)))
+  unfolding Joins
+  joins-stays z o p c h i en j =
+      sym (latest-none _ 0 (edgeCount (p .program)) (λ f l q.
+      both-ways (hit-at (o .program) (p .program) (pairsIn w c) met e m f (passing-at _ f q) .1) (goes-on o p c h i en j ∙ z)))
 
-  pub joins-goes : (t : ℕ) → g ≡ true → Fitting ol nl w e m met t → Joins on ol nn nl w e n m met t
-  unfolding Joins Fitting counterpart
-  joins-goes t z f o p c h i en j =
-      let x : goesOn (o .program) (p .program) (pairsIn w c) (sourceAt (o .program) e) m ≡ true = rw (← en) (sym (goes-is on ol nn nl w e n m g go o p c h i en j) ∙ z) in
-      f on nn o p c h i (rw (← en) j) x ∙ sym (choose-yes _ 0 x)
+  pub joins-goes : (last r : ℕ) → g ≡ true → LastOpposite ol nl e m last → Fitting ol nl w e last met r → Joins on ol nn nl w e n m met r
+  unfolding Joins Fits LastOpposite
+  joins-goes last r z t f o p c h i en j =
+      f .fits on nn o p c h i m (edgeCount (p .program)) (rw (← en) j) (goes-on o p c h i en j ∙ z) (omega arith)
+      (t (h .old-text) on (h .new-text) nn o p (h .old-in) (h .new-in) i (partner-below h n m j))
 
--- ---- `differ`, `either`
+pub joins-down : (ol nl w : List ℕ) (e f : ℕ) (met : Bool) (before r : ℕ) → OppositeBefore ol nl e f before → Fitting ol nl w e before met r → JoinsBefore ol nl w e f met r
+unfolding JoinsDown Fits FindsBefore
+joins-down ol nl w e f met before r q t =
+    record {
+      joins = λ on nn o p c h i m l x.
+          let u = hit-at (o .program) (p .program) (pairsIn w c) met e m f x in
+          t .fits on nn o p c h i m f l (u .1) (omega (arith, u .0)) (q .finds (h .old-text) on (h .new-text) nn o p (h .old-in) (h .new-in) i (u .0) m (u .2));
+      below = omega (arith, t .below, q .below);
+    }
 
-module _ (a b : ℕ) where
-  pub differ-first : a ≡ 0 → false ≡ differs a b
-  unfolding differs
-  differ-first e = sym (fails _ (λ t. let z : ⊥ = omega (arith, ltb-true 0 a (and-left _ _ t)) in z))
+-- A walk along such edges, at f: the next one.
+pub hit-next : {on ol nn nl w : List ℕ} {c : ℕ} {o p : Listing} → Compared on ol nn nl w c o p → (e m f x next : ℕ) (met : Bool) → e < edgeCount (o .program)
+    → listed (pairsIn w c) (sourceAt (o .program) e) m ≡ true → x ≡ f - 1 → passing (hitAt (o .program) (p .program) (pairsIn w c) met e m) (f - 1) ≡ 0 → JoinsBefore ol nl w e x met next
+    → next ≡ latest (passing (hitAt (o .program) (p .program) (pairsIn w c) met e m)) (passing (hitAt (o .program) (p .program) (pairsIn w c) met e m) (f - 1)) (f - 1)
+unfolding JoinsDown
+hit-next {on = on} {nn = nn} {w = w} {c = c} {o = o} {p = p} h e m f x next met i l ex q j =
+    let T : ℕ → Bool = hitAt (o .program) (p .program) (pairsIn w c) met e m in
+    j .joins on nn o p c h i m l (ap T ex ∙ passing-at T (f - 1) q) ∙ ap₂ (λ (a : ℕ) (b : ℕ). latest (passing T) a b) (sym q) ex
 
-  pub differ-second : b ≡ 0 → false ≡ differs a b
-  unfolding differs
-  differ-second e = sym (fails _ (λ t. let z : ⊥ = omega (arith, ltb-true 0 b (and-left _ _ (and-right _ _ t))) in z))
+pub hit-less : (ol nl w : List ℕ) (e f x next : ℕ) (met : Bool) → 0 < f → x ≡ f - 1 → JoinsBefore ol nl w e x met next → next < f
+hit-less ol nl w e f x next met pos ex j = omega (arith, j .below)
 
-  pub differ-same : a ≡ b → false ≡ differs a b
-  unfolding differs
-  differ-same e = sym (fails _ (λ t. eqb-false a b (isnt-true _ (and-right _ _ (and-right _ _ t))) e))
+-- A pair of the table, by what the code holds of it.
+pub pair-at : {on ol nn nl w : List ℕ} {c : ℕ} {o p : Listing} → Compared on ol nn nl w c o p → (n m k : ℕ) → k < c → n ≡ oldAt w k → m ≡ newAt w k → listed (pairsIn w c) n m ≡ true
+pair-at {w = w} {c = c} h n m k l a b = ap₂ (listed (pairsIn w c)) a b ∙ pair-there w c k l
 
-  pub differ-both : (a ≡ 0 → ⊥) → (b ≡ 0 → ⊥) → (a ≡ b → ⊥) → true ≡ differs a b
-  unfolding differs
-  differ-both d e n = sym (and-both (lt-ltb 0 a (omega arith)) (and-both (lt-ltb 0 b (omega arith)) (true-isnt (ne-eqb a b n))))
+-- ---- `unite`
 
-  pub either-second : a ≡ 0 → b ≡ eitherOf a b
-  unfolding eitherOf
-  either-second e = sym (choose-yes b a (eq-eqb a 0 e))
+module _ (seen f : ℕ) where
+  pub unite-none : seen ≡ 0 → f ≡ united seen f
+  unfolding united
+  unite-none e = sym (choose-yes f _ (eq-eqb seen 0 e))
 
-  pub either-first : (a ≡ 0 → ⊥) → a ≡ eitherOf a b
-  unfolding eitherOf
-  either-first d = sym (choose-no b a (ne-eqb a 0 d))
+  pub unite-same : (seen ≡ 0 → ⊥) → seen ≡ f → seen ≡ united seen f
+  unfolding united
+  unite-same d e = sym (choose-no f _ (ne-eqb seen 0 d) ∙ choose-yes seen several (eq-eqb seen f e))
+
+  pub unite-several : (seen ≡ 0 → ⊥) → (seen ≡ f → ⊥) → 2048 ≡ united seen f
+  unfolding united
+  unite-several d e = sym (choose-no f _ (ne-eqb seen 0 d) ∙ choose-no seen several (ne-eqb seen f e))
+
+-- ---- `see`
+
+-- With what is seen, the edges below the place lead to what is seen at the end.
+unfoldable pub SeesFrom : List ℕ → List ℕ → List ℕ → List ℕ → List ℕ → ℕ → ℕ → ℕ → ℕ → ℕ → ℕ → Type 0
+SeesFrom on ol nn nl w e n m before seen place =
+    (o p : Listing) (c : ℕ) → Compared on ol nn nl w c o p → e < edgeCount (o .program) → n ≡ sourceAt (o .program) e → listed (pairsIn w c) n m ≡ true
+    → Folded (passing (hitAt (o .program) (p .program) (pairsIn w c) true e m)) 0 (edgeCount (p .program)) (seenAt (o .program) (p .program) (pairsIn w c) e m) before seen place
+
+module _ (old new : Program) (M : List (ℕ × ℕ)) (e m : ℕ) where
+  see-others : (f seen : ℕ) → (passing (hitAt old new M true e m) f ≡ 0 → ⊥) → seenAt old new M e m f seen ≡ seen
+  unfolding seenAt
+  see-others f seen d = ⊎-elim (λ t. absurd (d (passing-of _ f t))) (λ t. choose-no _ seen t) (passes? (hitAt old new M true e m f))
+
+module _ (on ol nn nl w : List ℕ) (e n m before : ℕ) where
+  pub see-start : (place : ℕ) → Joins on ol nn nl w e n m true place → SeesFrom on ol nn nl w e n m before before place
+  unfolding SeesFrom Joins
+  see-start place j o p c h i en l = fold-start _ (see-others (o .program) (p .program) (pairsIn w c) e m) (passing-chain _ _) (omega arith) before place (j o p c h i en l)
+
+  module _ (seen place : ℕ) (inv : SeesFrom on ol nn nl w e n m before seen place) where
+    pub see-end : place ≤ 0 → Sees on ol nn nl w e n m before seen
+    unfolding SeesFrom Sees
+    see-end z o p c h i en l = fold-end _ (see-others (o .program) (p .program) (pairsIn w c) e m) (edgeCount (p .program)) before seen place (inv o p c h i en l) z
+
+    pub see-on : (x seen′ next : ℕ) → 0 < place → x ≡ place - 1 → seen′ ≡ united seen place → JoinsBefore ol nl w e x true next → SeesFrom on ol nn nl w e n m before seen′ next
+    unfolding SeesFrom seenAt
+    see-on x seen′ next pos ex es j o p c h i en l =
+        let r = inv o p c h i en l in
+        let s : place ≡ suc (place - 1) = omega arith in
+        fold-step _ (see-others (o .program) (p .program) (pairsIn w c) e m) (passing-chain _ _) (omega arith) before seen seen′ place next r pos
+        (es ∙ ap (united seen) s ∙ sym (choose-yes _ seen (passing-at _ (place - 1) (r .owner pos))))
+        (hit-next h e m place x next true i (rw (← en) l) ex (r .owner pos) j)
+
+-- ---- what is seen of all
+
+-- The numbers of P, each below 1024, as what is seen of them.
+pub record Sums (P : ℕ → Type 0) (seen : ℕ) : Type 0 where
+  pub few : (x : ℕ) → P x → x < 1024
+  pub none : seen ≡ 0 → (x : ℕ) → P x → ⊥
+  pub one : 0 < seen → seen ≤ 1024 → P (seen - 1) × ((x : ℕ) → P x → x ≡ seen - 1)
+  pub two : 1024 < seen → (x y : ℕ) × P x × P y × (x ≡ y → ⊥)
+
+sums-agree : (P P′ : ℕ → Type 0) (seen : ℕ) → ((x : ℕ) → P x → P′ x) → ((x : ℕ) → P′ x → P x) → Sums P seen → Sums P′ seen
+sums-agree P P′ seen there back s =
+    record {
+      few = λ x q. s .few x (back x q);
+      none = λ z x q. s .none z x (back x q);
+      one = λ a b. let r = s .one a b in (there _ (r .0), λ x q. r .1 x (back x q));
+      two = λ a. let r = s .two a in (r .0, r .1, there _ (r .2), there _ (r .3), r .4);
+    }
+
+sums-none : Sums (λ x. ⊥) 0
+sums-none = record { few = λ x q. absurd q; none = λ z x q. q; one = λ a b. absurd (let y : ⊥ = omega arith in y); two = λ a. absurd (let y : ⊥ = omega arith in y) }
+
+sums-more : (P : ℕ → Type 0) (seen f : ℕ) → f < 1024 → Sums P seen → Sums (λ x. P x ⊎ (x ≡ f)) (united seen (suc f))
+sums-more P seen f l s =
+    same-or seen 0
+    (λ z.
+    subst (Sums (λ x. P x ⊎ (x ≡ f))) (unite-none seen (suc f) z)
+    (record {
+      few = below;
+      none = λ y. absurd (let v : ⊥ = omega arith in v);
+      one = λ a b. (inr (omega arith), λ x q. ⊎-elim (λ u. absurd (s .none z x u)) (λ u. omega arith) q);
+      two = λ a. absurd (let v : ⊥ = omega arith in v);
+    }))
+    (λ d.
+    same-or seen (suc f)
+    (λ z.
+    subst (Sums (λ x. P x ⊎ (x ≡ f))) (unite-same seen (suc f) d z)
+    (record {
+      few = below;
+      none = λ y. absurd (d y);
+      one = λ a b. let r = s .one a b in (inl (r .0), λ x q. ⊎-elim (r .1 x) (λ u. omega arith) q);
+      two = λ a. absurd (let v : ⊥ = omega arith in v);
+    }))
+    (λ z.
+    subst (Sums (λ x. P x ⊎ (x ≡ f))) (unite-several seen (suc f) d z)
+    (record {
+      few = below;
+      none = λ y. absurd (let v : ⊥ = omega arith in v);
+      one = λ a b. absurd (let v : ⊥ = omega arith in v);
+      two = λ a.
+          below-or 1024 seen
+          (λ b. let r = s .two b in (r .0, r .1, inl (r .2), inl (r .3), r .4))
+          (λ b. let r = s .one (omega arith) b in (seen - 1, f, inl (r .0), inr refl, λ (q : seen - 1 ≡ f). z (omega arith)));
+    })))
+  where
+    below : (x : ℕ) → P x ⊎ (x ≡ f) → x < 1024
+    below x (inl q) = s .few x q
+    below x (inr q) = omega arith
+
+-- What is left when all are seen: the only one, if it is not above all.
+module _ (n : ℕ) (J : ℕ → Bool) (seen : ℕ) (s : Sums (λ x. (x < n) × (J x ≡ true)) seen) where
+  sums-several : 1024 < seen → 0 ≡ found (first n (sole n J))
+  unfolding sole
+  sums-several a =
+      let r = s .two a in
+      sym (none-found (sole n J) n (λ m l u.
+      let only : (x : ℕ) → (x < n) × (J x ≡ true) → x ≡ m = λ x q. eqb-true _ _ (implied _ _ (every-at _ n (and-right _ _ u) x (q .0)) (q .1)) in
+      r .4 (only (r .0) (r .2) ∙ sym (only (r .1) (r .3)))))
+
+  sums-one : seen ≤ 1024 → seen ≡ found (first n (sole n J))
+  unfolding sole
+  sums-one a =
+      same-or seen 0
+      (λ z. z ∙ sym (none-found (sole n J) n (λ f l t. s .none z f (l, and-left _ _ t))))
+      (λ d.
+      let r = s .one (omega arith) a in
+      let o = first-only (sole n J) n (seen - 1) (r .0 .0) (and-both (r .0 .1) (every-of _ n (λ f l. implies _ _ (λ t. eq-eqb _ _ (r .1 f (l, t))))))
+      (λ f l t. r .1 f (l, and-left _ _ t)) in
+      let q : seen ≡ suc (seen - 1) = omega arith in
+      q ∙ sym (ap found o))
 
 -- ---- `only_counterpart`
 
--- What the walk has seen: each item that it passed leads to the number `seen`, or to none.
-pub record Seen (J : ℕ → Bool) (n : ℕ) (key to : ℕ → ℕ) (a c seen place : ℕ) : Type 0 where
-  pub walk : Walk (λ k. 0 < to k → to k ≡ seen) key a c place
-  pub good : 0 < seen → (seen - 1 < n) × (J (seen - 1) ≡ true)
+-- What is seen with the counterparts at the pair k.
+abbrev pairSeen : Program → Program → List ℕ → ℕ → ℕ → ℕ → ℕ → ℕ
+pairSeen old new w c e k seen = choose (eqb (oldAt w k) (sourceAt old e)) (fold (seenAt old new (pairsIn w c) e (newAt w k)) (edgeCount new) seen) seen
 
-module _ {J : ℕ → Bool} {n : ℕ} {key to : ℕ → ℕ} {a c : ℕ} (h : Leads J n key to a c) (tops links : ℕ → ℕ) (ch : Chained key (suc a) c tops links) where
-  seen-none : Seen J n key to a c 0 (tops a)
-  seen-none = record { walk = walk-start ch a (omega arith); good = λ l. absurd (let z : ⊥ = omega arith in z) }
-
-  module _ (seen place : ℕ) (s : Seen J n key to a c seen place) where
-    -- At the end the number seen is the only one.
-    seen-last : place ≤ 0 → seen ≡ found (first n (sole n J))
-    unfolding sole
-    seen-last z =
-        same-or seen 0
-        (λ e. e ∙ sym (none-found (sole n J) n (λ f l t.
-        let r = h .onto f l (and-left _ _ t) in
-        let q = walk-end (s .walk) z (r .0) (r .1) (r .2) (omega (arith, r .3)) in
-        let y : ⊥ = omega (arith, r .3) in y)))
-        (λ d.
-        let g = s .good (omega arith) in
-        let all : (f : ℕ) → f < n → J f ≡ true → f ≡ seen - 1 = λ f l t.
-        let r = h .onto f l t in
-        let q = walk-end (s .walk) z (r .0) (r .1) (r .2) (omega (arith, r .3)) in
-        omega (arith, r .3) in
-        let o = first-only (sole n J) n (seen - 1) (g .0)
-        (and-both (g .1) (every-of _ n (λ f l. implies _ _ (λ t. eq-eqb _ _ (all f l t)))))
-        (λ f l t. all f l (and-left _ _ t)) in
-        let q : seen ≡ suc (seen - 1) = omega arith in
-        q ∙ sym (ap found o))
-
-    module _ (pos : 0 < place) (f : ℕ) (e : f ≡ to (place - 1)) where
-      -- Two different numbers: neither is the only one.
-      seen-two : differs seen f ≡ true → 0 ≡ found (first n (sole n J))
-      unfolding sole differs
-      seen-two t =
-          let a₁ = ltb-true 0 seen (and-left _ _ t) in
-          let b₁ = ltb-true 0 f (and-left _ _ (and-right _ _ t)) in
-          let d = eqb-false seen f (isnt-true _ (and-right _ _ (and-right _ _ t))) in
-          let w = s .walk .within in
-          let g = s .good a₁ in
-          let i = h .into (place - 1) (omega arith) (s .walk .owner pos) (omega arith) in
-          let x : f - 1 ≡ to (place - 1) - 1 = ap (λ (k : ℕ). k - 1) e in
-          sym (none-found (sole n J) n (λ m l u.
-          let p : seen - 1 ≡ m = eqb-true _ _ (implied _ _ (every-at _ n (and-right _ _ u) (seen - 1) (g .0)) (g .1)) in
-          let q : to (place - 1) - 1 ≡ m = eqb-true _ _ (implied _ _ (every-at _ n (and-right _ _ u) (to (place - 1) - 1) (i .0)) (i .1)) in
-          d (omega arith)))
-
-      seen-on : differs seen f ≡ false → Seen J n key to a c (eitherOf seen f) (links (place - 1))
-      unfolding differs eitherOf
-      seen-on t =
-          same-or seen 0
-          (λ z.
-          let y : choose (eqb seen 0) f seen ≡ f = choose-yes f seen (eq-eqb _ _ z) in
-          let w = s .walk .within in
-          rw y (record {
-            walk = walk-step ch (s .walk) pos (λ k i l. absurd (let o : ⊥ = omega (arith, i l) in o)) (λ l. sym e);
-            good = λ l.
-                let i = h .into (place - 1) (omega arith) (s .walk .owner pos) (omega arith) in
-                rw e i;
-          }))
-          (λ z.
-          let y : choose (eqb seen 0) f seen ≡ seen = choose-no f seen (ne-eqb _ _ z) in
-          rw y (record {
-            walk = walk-step ch (s .walk) pos (λ k i. i)
-                (λ l. same-or seen f (λ q. sym e ∙ sym q)
-                (λ q. absurd (both-ways (and-both (lt-ltb 0 seen (omega arith)) (and-both (lt-ltb 0 f (omega arith)) (true-isnt (ne-eqb _ _ q)))) t)));
-            good = s .good;
-          }))
-
--- What was seen of the counterparts, at the place.
+-- With what is seen, the pairs below the place lead to what is seen at the end.
 unfoldable pub SeenTo : List ℕ → List ℕ → List ℕ → List ℕ → List ℕ → ℕ → ℕ → ℕ → ℕ → Type 0
 SeenTo on ol nn nl w e n seen place =
     (o p : Listing) (c : ℕ) → Compared on ol nn nl w c o p → e < edgeCount (o .program)
-    → (n ≡ sourceAt (o .program) e)
-    × Seen (joined (o .program) (p .program) (pairs (o .program) (p .program)) e) (edgeCount (p .program)) (oldAt w) (λ k. counterpart (o .program) (p .program) (pairsIn w c) true e (newAt w k))
-    (sourceAt (o .program) e) c seen place
+    → (n ≡ sourceAt (o .program) e) × Folded (oldAt w) (sourceAt (o .program) e) c (pairSeen (o .program) (p .program) w c e) 0 seen place
 
--- What `joins` found for the pair k, in a walk along the pairs of the node that the old edge leaves.
-pub joins-here : {on ol nn nl w : List ℕ} {c : ℕ} {o p : Listing} → Compared on ol nn nl w c o p → (e n k m f : ℕ) (met : Bool) → e < edgeCount (o .program) → n ≡ sourceAt (o .program) e → k < c → oldAt w k ≡ n → m ≡ newAt w k
-    → Joins on ol nn nl w e n m met f → f ≡ counterpart (o .program) (p .program) (pairsIn w c) met e (newAt w k)
-unfolding Joins
-joins-here {w = w} {c = c} {o = o} {p = p} h e n k m f met i en l a em j =
-    j o p c h i en (rw (← a, em) (pair-there w c k l)) ∙ ap (counterpart (o .program) (p .program) (pairsIn w c) met e) em
+pair-others : (old new : Program) (w : List ℕ) (c e k seen : ℕ) → (oldAt w k ≡ sourceAt old e → ⊥) → pairSeen old new w c e k seen ≡ seen
+pair-others old new w c e k seen d = choose-no _ seen (ne-eqb _ _ d)
+
+module _ {on ol nn nl w : List ℕ} {c : ℕ} {o p : Listing} (h : Compared on ol nn nl w c o p) (e : ℕ) where
+  abbrev old : Program
+  old = o .program
+
+  abbrev new : Program
+  new = p .program
+
+  abbrev hit : ℕ → ℕ → Bool
+  hit m x = hitAt old new (pairsIn w c) true e m x
+
+  -- One edge, those of a partner, and those of all partners.
+  edge-kept : (m f : ℕ) (P : ℕ → Type 0) (seen : ℕ) → Sums P seen → Sums (λ x. P x ⊎ ((hit m f ≡ true) × (x ≡ f))) (seenAt old new (pairsIn w c) e m f seen)
+  unfolding seenAt
+  edge-kept m f P seen s =
+      ⊎-elim
+      (λ t.
+      let l = hit-at old new (pairsIn w c) true e m f t .0 in
+      rw (choose-yes (united seen (suc f)) seen t)
+      (sums-agree _ _ _ (λ x q. ⊎-elim inl (λ u. inr (t, u)) q) (λ x q. ⊎-elim inl (λ u. inr (u .1)) q)
+      (sums-more P seen f (omega (arith, l, sound _ p (h .new-in) .fewEdges)) s)))
+      (λ t. rw (choose-no (united seen (suc f)) seen t) (sums-agree _ _ _ (λ x q. inl q) (λ x q. ⊎-elim (λ u. u) (λ u. absurd (both-ways (u .0) t)) q) s))
+      (passes? (hit m f))
+
+  partner-kept : (m : ℕ) (P : ℕ → Type 0) (seen : ℕ) → Sums P seen → Sums (λ x. P x ⊎ (hit m x ≡ true)) (fold (seenAt old new (pairsIn w c) e m) (edgeCount new) seen)
+  partner-kept m P seen s =
+      sums-agree _ _ _ (λ x q. ⊎-elim inl (λ u. inr (ap (hit m) (u .2 .1) ∙ u .2 .0)) q) (λ x q. ⊎-elim inl (λ u. inr (x, hit-at old new (pairsIn w c) true e m x u .0, (u, refl))) q)
+      (fold-keeps (seenAt old new (pairsIn w c) e m) Sums (λ f x. (hit m f ≡ true) × (x ≡ f)) (edge-kept m) sums-agree (edgeCount new) P seen s)
+
+  pair-kept : (k : ℕ) (P : ℕ → Type 0) (seen : ℕ) → Sums P seen → Sums (λ x. P x ⊎ ((oldAt w k ≡ sourceAt old e) × (hit (newAt w k) x ≡ true))) (pairSeen old new w c e k seen)
+  pair-kept k P seen s =
+      same-or (oldAt w k) (sourceAt old e)
+      (λ a.
+      rw (choose-yes (fold (seenAt old new (pairsIn w c) e (newAt w k)) (edgeCount new) seen) seen (eq-eqb _ _ a))
+      (sums-agree _ _ _ (λ x q. ⊎-elim inl (λ u. inr (a, u)) q) (λ x q. ⊎-elim inl (λ u. inr (u .1)) q) (partner-kept (newAt w k) P seen s)))
+      (λ d. rw (pair-others old new w c e k seen d) (sums-agree _ _ _ (λ x q. inl q) (λ x q. ⊎-elim (λ u. u) (λ u. absurd (d (u .0))) q) s))
+
+  all-seen : Sums (λ x. (x < edgeCount new) × (joined old new (pairs old new) e x ≡ true)) (fold (pairSeen old new w c e) c 0)
+  all-seen =
+      sums-agree _ _ _
+      (λ x q. ⊎-elim (λ u. absurd u)
+      (λ u.
+      let t = sym (hits-any h e true x) ∙ any-of (λ k. eqb (oldAt w k) (sourceAt old e) and hit (newAt w k) x) c (u .0) (u .1) (and-both (eq-eqb _ _ (u .2 .0)) (u .2 .1)) in
+      (ltb-true _ _ (and-left _ _ t), sym (met-joined old new (pairs old new) e x) ∙ and-right _ _ t)) q)
+      (λ x q.
+      let t = hits-any h e true x ∙ and-both (lt-ltb _ _ (q .0)) (met-joined old new (pairs old new) e x ∙ q .1) in
+      let r = any-at (λ k. eqb (oldAt w k) (sourceAt old e) and hit (newAt w k) x) c t in
+      inr (r .0, r .1, (eqb-true _ _ (and-left _ _ (r .2)), and-right _ _ (r .2))))
+      (fold-keeps (pairSeen old new w c e) Sums (λ k x. (oldAt w k ≡ sourceAt old e) × (hit (newAt w k) x ≡ true)) pair-kept sums-agree c (λ x. ⊥) 0 sums-none)
 
 pub only-start : (on ol nn nl w : List ℕ) (e n place : ℕ) → n ≡ getD ol (edgeBase e) 0 → place ≡ lastPair w n → SeenTo on ol nn nl w e n 0 place
 unfolding SeenTo
 only-start on ol nn nl w e n place en ep o p c h i =
     let s : n ≡ sourceAt (o .program) e = source-of e n h i en in
-    (s, rw (ep, s) (seen-none (joins-lead h e) (lastPair w) (pairBefore w) (walked (h .held .store) (suc (sourceAt (o .program) e)))))
+    let a : ℕ = sourceAt (o .program) e in
+    (s, fold-start _ (pair-others (o .program) (p .program) w c e) (walked (h .held .store) (suc a)) (omega arith) 0 place (ep ∙ ap (lastPair w) s))
 
 module _ (on ol nn nl w : List ℕ) (e n seen place : ℕ) (inv : SeenTo on ol nn nl w e n seen place) where
-  pub only-end : place ≤ 0 → Only on ol nn nl w e seen
-  unfolding SeenTo Only
-  only-end z o p c h i =
-      seen-last (joins-lead h e) (lastPair w) (pairBefore w) (walked (h .held .store) (suc (sourceAt (o .program) e))) seen place (inv o p c h i .1) z
+  seen-all : place ≤ 0 → (o p : Listing) (c : ℕ) → Compared on ol nn nl w c o p → e < edgeCount (o .program)
+      → Sums (λ x. (x < edgeCount (p .program)) × (joined (o .program) (p .program) (pairs (o .program) (p .program)) e x ≡ true)) seen
+  unfolding SeenTo
+  seen-all z o p c h i =
+      subst (Sums (λ x. (x < edgeCount (p .program)) × (joined (o .program) (p .program) (pairs (o .program) (p .program)) e x ≡ true)))
+      (sym (fold-end _ (pair-others (o .program) (p .program) w c e) c 0 seen place (inv o p c h i .1) z)) (all-seen h e)
 
-  module _ (k m f : ℕ) (pos : 0 < place) (d : k ≡ place - 1) (em : m ≡ newAt w k) (j : Joins on ol nn nl w e n m true f) (t : Bool) (et : t ≡ differs seen f) where
-    found-here : (o p : Listing) (c : ℕ) (h : Compared on ol nn nl w c o p) (i : e < edgeCount (o .program)) → f ≡ counterpart (o .program) (p .program) (pairsIn w c) true e (newAt w (place - 1))
-    unfolding SeenTo
-    found-here o p c h i =
-        let s = inv o p c h i in
-        let l : k < c = omega (arith, s .1 .walk .within) in
-        joins-here h e n k m f true i (s .0) l (ap (oldAt w) d ∙ s .1 .walk .owner pos ∙ sym (s .0)) em j ∙ ap (λ (x : ℕ). counterpart (o .program) (p .program) (pairsIn w c) true e (newAt w x)) d
+  pub only-several : place ≤ 0 → 1024 < seen → Only on ol nn nl w e 0
+  unfolding Only
+  only-several z a o p c h i = sums-several (edgeCount (p .program)) _ seen (seen-all z o p c h i) a
 
-    pub only-two : t ≡ true → Only on ol nn nl w e 0
-    unfolding SeenTo Only
-    only-two y o p c h i =
-        seen-two (joins-lead h e) (lastPair w) (pairBefore w) (walked (h .held .store) (suc (sourceAt (o .program) e))) seen place (inv o p c h i .1) pos f (found-here o p c h i) (sym et ∙ y)
+  pub only-end : place ≤ 0 → seen ≤ 1024 → Only on ol nn nl w e seen
+  unfolding Only
+  only-end z a o p c h i = sums-one (edgeCount (p .program)) _ seen (seen-all z o p c h i) a
 
-    pub only-on : (seen′ next : ℕ) → t ≡ false → seen′ ≡ eitherOf seen f → next ≡ pairBefore w k → SeenTo on ol nn nl w e n seen′ next
-    unfolding SeenTo
-    only-on seen′ next y es en o p c h i = (
-      inv o p c h i .0,
-      rw (es, en, d)
-          (seen-on (joins-lead h e) (lastPair w) (pairBefore w) (walked (h .held .store) (suc (sourceAt (o .program) e))) seen place (inv o p c h i .1) pos f (found-here o p c h i) (sym et ∙ y)),
-    )
+  pub only-on : (k m seen′ next : ℕ) → 0 < place → k ≡ place - 1 → m ≡ newAt w k → Sees on ol nn nl w e n m seen seen′ → next ≡ pairBefore w k → SeenTo on ol nn nl w e n seen′ next
+  unfolding SeenTo Sees
+  only-on k m seen′ next pos d em j en o p c h i =
+      let r = inv o p c h i in
+      let a : ℕ = sourceAt (o .program) e in
+      let own : oldAt w (place - 1) ≡ a = r .1 .owner pos in
+      let q : m ≡ newAt w (place - 1) = em ∙ ap (newAt w) d in
+      let there = pair-at h n m (place - 1) (omega (arith, r .1 .within)) (r .0 ∙ sym own) q in (
+        r .0,
+        fold-step _ (pair-others (o .program) (p .program) w c e) (walked (h .held .store) (suc a)) (omega arith) 0 seen seen′ place next (r .1) pos
+            (j o p c h i (r .0) there ∙ ap (λ (v : ℕ). fold (seenAt (o .program) (p .program) (pairsIn w c) e v) (edgeCount (p .program)) seen) q ∙ sym (choose-yes _ seen (eq-eqb _ _ own)))
+            (en ∙ ap (pairBefore w) d),
+      )
 
-pub ruleset counterparts = (joins-stays, joins-goes, differ-first, differ-second, differ-same, differ-both, either-second, either-first, only-start, only-end, only-two, only-on)
+pub ruleset counterparts = (joins-stays, joins-goes, joins-down, hit-less, unite-none, unite-same, unite-several, see-start, see-end, see-on, only-start, only-several, only-end, only-on)

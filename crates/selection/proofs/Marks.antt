@@ -8,14 +8,14 @@ use native.Mathlib.Omega.{arith}
 use lib.Dec.{eqb, leb, ltb}
 use lib.ListN.{getD, length, set, replicate, length-set, length-replicate, getD-replicate, List·getD-eq-default}
 use lib.Seq.{sets, set-out, length-sets, getD-set-same, getD-set-other}
-use borrow.Author.Tests.{eqb-true, eq-eqb, ne-eqb, le-leb, leb-true, lt-ltb, le-ltb, ltb-true}
-use Rattle.laws.specs.Tests.{_and_, _⇒_, any, choose, every, first, found, has}
+use borrow.Author.Tests.{eqb-true, eq-eqb, ne-eqb, le-leb, lt-leb, lt-ltb, le-ltb, ltb-true}
+use Rattle.laws.specs.Tests.{_and_, _⇒_, any, choose, every, first, found, has, listed}
 use Rattle.laws.specs.Bits.{bitIn}
-use Rattle.laws.specs.TestLaws.{and-both, and-ends, and-left, and-right, any-at, both-ways, every-at, fails, implied, yes-and}
+use Rattle.laws.specs.TestLaws.{and-both, and-ends, and-left, and-right, any-at, any-of, both-ways, eqb-self, same-test, every-at, fails, implied, yes-and}
 use Rattle.laws.specs.Lists.{choose-yes, choose-no}
 use Rattle.laws.specs.Counting.{any-agree}
 use Rattle.laws.specs.Slices.{below-or, same-or, sets-more, sets-out, getD-sets-after, getD-sets-in}
-use Rattle.laws.specs.Chain.{Blind, Left, left-start, left-step}
+use Rattle.laws.specs.Fold.{Folded, fold-adds, fold-end, fold-start, fold-step, passing, passing-at, passing-chain, passing-of}
 use Rattle.rules.specs.Graph.{Program, edgeCount, sourceAt}
 use Rattle.rules.specs.Closing.{Coverage, afterDangers, carries as carriesOf, carriesOnly, dangers, endangered, holds, joined, mark, meets, pairs, probes}
 use Rattle.rules.specs.Sheet.{markByte}
@@ -26,11 +26,11 @@ use Rattle.pairset.specs.StoreLaws.{walked}
 use Rattle.coverage.specs.Rows.{Row, edgeBit}
 use Rattle.versions.specs.Found.{found-at, found-none}
 use Rattle.laws.specs.Those.{any-more, any-skip}
-use Rattle.selection.specs.Compared.{Compared, Joins, counterpart, joins-lead, leads-any}
-use Rattle.selection.specs.Marks.{AllCarried, AllOpened, AllRaised, Carried, Carries, CarriesTo, Finds, MarksFound, Only, Opened, Opens, OpensTo, Raises, SetOpened, carried, carriesOnlyTo, carriesTo, lifted, markedOne, opensTo, raised, sole}
+use Rattle.selection.specs.Compared.{Compared, Joins, JoinsBefore, hitAt, hits-any, met-joined}
+use Rattle.selection.specs.Marks.{AllCarried, AllOpened, AllRaised, Carried, Carries, CarriesTo, Finds, MarksFound, Only, Opened, Opens, OpensTo, RaisedAt, Raises, RaisesAt, SetOpened, carried, carriesOnlyTo, carriesTo, lifted, markedOne, opensTo, raised, sole}
 use Rattle.selection.specs.MarkLaws.{carried-lifted, carried-more, carried-none, carried-only, lifted-before, lifted-more, lifted-none, mark-left, mark-open, marks-by}
-use Rattle.selection.proofs.Dangers.{source-of}
-use Rattle.selection.proofs.Counterparts.{joins-here}
+use Rattle.selection.proofs.Dangers.{hit-at, source-of}
+use Rattle.selection.proofs.Counterparts.{hit-next, pair-at}
 
 -- ---- `raise`, `mark_one`
 
@@ -39,31 +39,7 @@ module _ (marks : List ℕ) (f : ℕ) where
   unfolding markedOne
   one-none e = sym (choose-no _ _ (le-ltb 0 f (omega arith)))
 
-  module _ (most : ℕ) where
-    pub raise-none : f ≡ 0 → marks ≡ raised marks f most
-    unfolding raised
-    raise-none e = sym (choose-no _ _ (fails _ (λ t. let z : ⊥ = omega (arith, ltb-true 0 f (and-left _ _ t)) in z)))
-
-    pub raise-other : most < getD marks (f - 1) 0 → marks ≡ raised marks f most
-    unfolding raised
-    raise-other n =
-        sym (choose-no _ _ (fails _ (λ t. let z : ⊥ = omega (arith, leb-true (getD marks (f - 1) 0) most (and-right (ltb 0 f) (leb (getD marks (f - 1) 0) most) t)) in z)))
-
   module _ (x : ℕ) (d : f ≡ 0 → ⊥) (ex : x ≡ f - 1) where
-    pub raise-past : (most : ℕ) → length marks ≤ x → marks ≡ raised marks f most
-    unfolding raised choose
-    raise-past most l = go (ltb 0 f and leb (getD marks (f - 1) 0) most)
-      where
-        go : (b : Bool) → marks ≡ choose b (set marks (f - 1) 63) marks
-        go true = sym (set-out marks (f - 1) 63 (omega arith))
-        go false = refl
-
-    pub raise-this : (most : ℕ) → getD marks x 0 ≤ most → set marks x 63 ≡ raised marks f most
-    unfolding raised
-    raise-this most e =
-        ap (λ (i : ℕ). set marks i 63) ex
-        ∙ sym (choose-yes _ _ (and-both (lt-ltb 0 f (omega arith)) (le-leb _ _ (subst (λ (i : ℕ). getD marks i 0 ≤ most) ex e))))
-
     pub one-this : set marks x 49 ≡ markedOne marks f
     unfolding markedOne
     one-this = ap (λ (i : ℕ). set marks i 49) ex ∙ sym (choose-yes _ _ (lt-ltb 0 f (omega arith)))
@@ -71,115 +47,180 @@ module _ (marks : List ℕ) (f : ℕ) where
     pub one-past : length marks ≤ x → marks ≡ markedOne marks f
     one-past l = sym (set-out marks x 49 l) ∙ one-this
 
--- The marks by index.
-raised-at : (marks : List ℕ) (f most x : ℕ) → x < length marks → getD (raised marks f most) x 0 ≡ lifted most (getD marks x 0) (eqb f (suc x))
-unfolding raised lifted choose _and_
-raised-at marks f most x l =
-    same-or f (suc x)
-    (λ e.
-    let q : f - 1 ≡ x = omega arith in
-    ap (λ (i : ℕ). getD (choose (ltb 0 f and leb (getD marks i 0) most) (set marks i 63) marks) x 0) q
-    ∙ ap (λ (s : Bool). getD (choose (s and leb (getD marks x 0) most) (set marks x 63) marks) x 0) (lt-ltb 0 f (omega arith))
-    ∙ here (leb (getD marks x 0) most)
-    ∙ sym (ap (λ (s : Bool). choose (s and leb (getD marks x 0) most) 63 (getD marks x 0)) (eq-eqb _ _ e)))
-    (λ d.
-    let stays : getD (choose (ltb 0 f and leb (getD marks (f - 1) 0) most) (set marks (f - 1) 63) marks) x 0 ≡ getD marks x 0
-    = other (ltb 0 f and leb (getD marks (f - 1) 0) most) (λ t. ltb-true 0 f (and-left (ltb 0 f) (leb (getD marks (f - 1) 0) most) t)) d in
-    stays ∙ sym (ap (λ (s : Bool). choose (s and leb (getD marks x 0) most) 63 (getD marks x 0)) (ne-eqb _ _ d)))
-  where
-    here : (b : Bool) → getD (choose b (set marks x 63) marks) x 0 ≡ choose b 63 (getD marks x 0)
-    here true = getD-set-same marks x 63 0 l
-    here false = refl
+module _ (marks : List ℕ) (x most : ℕ) where
+  pub raise-past : length marks ≤ x → marks ≡ raised marks x most
+  unfolding raised choose
+  raise-past l = go (leb (getD marks x 0) most)
+    where
+      go : (b : Bool) → marks ≡ choose b (set marks x 63) marks
+      go true = sym (set-out marks x 63 l)
+      go false = refl
 
-    other : (b : Bool) → (b ≡ true → 0 < f) → (f ≡ suc x → ⊥) → getD (choose b (set marks (f - 1) 63) marks) x 0 ≡ getD marks x 0
-    other true p d = getD-set-other marks (f - 1) x 63 0 (λ e. d (omega (arith, p refl)))
-    other false p d = refl
+  pub raise-other : most < getD marks x 0 → marks ≡ raised marks x most
+  unfolding raised
+  raise-other n = sym (choose-no _ _ (lt-leb _ _ n))
 
-raised-size : (marks : List ℕ) (f most : ℕ) → length (raised marks f most) ≡ length marks
-unfolding raised choose
-raised-size marks f most = go (ltb 0 f and leb (getD marks (f - 1) 0) most)
-  where
-    go : (b : Bool) → length (choose b (set marks (f - 1) 63) marks) ≡ length marks
-    go true = length-set marks (f - 1) 63
-    go false = refl
+  pub raise-this : getD marks x 0 ≤ most → set marks x 63 ≡ raised marks x most
+  unfolding raised
+  raise-this l = sym (choose-yes _ _ (le-leb _ _ l))
+
+  -- The marks by index.
+  raised-at : (y : ℕ) → y < length marks → getD (raised marks x most) y 0 ≡ lifted most (getD marks y 0) (eqb x y)
+  unfolding raised lifted choose _and_
+  raised-at y l =
+      same-or x y
+      (λ e.
+      ap (λ (i : ℕ). getD (choose (leb (getD marks i 0) most) (set marks i 63) marks) y 0) e ∙ here (leb (getD marks y 0) most)
+      ∙ sym (ap (λ (s : Bool). choose (s and leb (getD marks y 0) most) 63 (getD marks y 0)) (eq-eqb _ _ e)))
+      (λ d. other d (leb (getD marks x 0) most) ∙ sym (ap (λ (s : Bool). choose (s and leb (getD marks y 0) most) 63 (getD marks y 0)) (ne-eqb _ _ d)))
+    where
+      here : (b : Bool) → getD (choose b (set marks y 63) marks) y 0 ≡ choose b 63 (getD marks y 0)
+      here true = getD-set-same marks y 63 0 l
+      here false = refl
+
+      other : (x ≡ y → ⊥) → (b : Bool) → getD (choose b (set marks x 63) marks) y 0 ≡ getD marks y 0
+      other d true = getD-set-other marks x y 63 0 (λ e. d (sym e))
+      other d false = refl
+
+  raised-size : length (raised marks x most) ≡ length marks
+  unfolding raised choose
+  raised-size = go (leb (getD marks x 0) most)
+    where
+      go : (b : Bool) → length (choose b (set marks x 63) marks) ≡ length marks
+      go true = length-set marks x 63
+      go false = refl
+
+-- ---- `raise_at`
+
+-- An item that lifts a mark only where it passes.
+lifts-others : (most : ℕ) (T : ℕ → Bool) (key : ℕ → ℕ) (a : ℕ) → ((k : ℕ) → T k ≡ true → key k ≡ a) → (k y : ℕ) → (key k ≡ a → ⊥) → lifted most y (T k) ≡ y
+lifts-others most T key a h k y d = ap (lifted most y) (fails _ (λ t. d (h k t))) ∙ lifted-none most y
+
+-- The new edge f is such an edge, and is x.
+abbrev hitIs : Program → Program → List (ℕ × ℕ) → ℕ → ℕ → ℕ → ℕ → Bool
+hitIs old new M e m x f = hitAt old new M true e m f and eqb f x
+
+-- With the marks, the edges below the place lead to those at the end.
+unfoldable pub RaisesFrom : List ℕ → List ℕ → List ℕ → List ℕ → List ℕ → ℕ → ℕ → ℕ → ℕ → List ℕ → List ℕ → ℕ → Type 0
+RaisesFrom on ol nn nl w e n m most marks marks′ place =
+    (o p : Listing) (c : ℕ) → Compared on ol nn nl w c o p → e < edgeCount (o .program) → n ≡ sourceAt (o .program) e → listed (pairsIn w c) n m ≡ true → (x : ℕ) → x < length marks
+    → Folded (passing (hitAt (o .program) (p .program) (pairsIn w c) true e m)) 0 (edgeCount (p .program))
+    (λ f y. lifted most y (hitIs (o .program) (p .program) (pairsIn w c) e m x f)) (getD marks x 0) (getD marks′ x 0) place
+
+pub record RaisedFrom (on ol nn nl w : List ℕ) (e n m most : ℕ) (marks marks′ : List ℕ) (place : ℕ) : Type 0 where
+  pub from : RaisesFrom on ol nn nl w e n m most marks marks′ place
+  pub size : length marks′ ≡ length marks
+
+module _ (old new : Program) (M : List (ℕ × ℕ)) (e m most x : ℕ) where
+  hit-others : (f y : ℕ) → (passing (hitAt old new M true e m) f ≡ 0 → ⊥) → lifted most y (hitIs old new M e m x f) ≡ y
+  hit-others = lifts-others most (hitIs old new M e m x) _ 0 (λ f t. passing-of _ f (and-left _ _ t))
+
+  hit-any : any (edgeCount new) (hitIs old new M e m x) ≡ hitAt old new M true e m x
+  hit-any =
+      same-test _ _
+      (λ t. let r = any-at (hitIs old new M e m x) (edgeCount new) t in ap (hitAt old new M true e m) (sym (eqb-true _ _ (and-right _ _ (r .2)))) ∙ and-left _ _ (r .2))
+      (λ t. any-of (hitIs old new M e m x) (edgeCount new) x (hit-at old new M true e m x t .0) (and-both t (eqb-self x)))
+
+module _ (on ol nn nl w : List ℕ) (e n m most : ℕ) (marks : List ℕ) where
+  pub at-start : (place : ℕ) → Joins on ol nn nl w e n m true place → RaisedFrom on ol nn nl w e n m most marks marks place
+  unfolding RaisesFrom Joins
+  at-start place j =
+      record {
+        from = λ o p c h i en l x b. fold-start _ (hit-others (o .program) (p .program) (pairsIn w c) e m most x) (passing-chain _ _) (omega arith) _ place (j o p c h i en l);
+        size = refl;
+      }
+
+  module _ (marks₁ : List ℕ) (place : ℕ) (inv : RaisedFrom on ol nn nl w e n m most marks marks₁ place) where
+    pub at-end : place ≤ 0 → RaisedAt on ol nn nl w e n m most marks marks₁
+    unfolding RaisesFrom RaisesAt
+    at-end z =
+        record {
+          raises = λ o p c h i en l x b.
+              fold-end _ (hit-others (o .program) (p .program) (pairsIn w c) e m most x) (edgeCount (p .program)) _ _ place (inv .from o p c h i en l x b) z
+              ∙ fold-adds (lifted most) (lifted-more most) (hitIs (o .program) (p .program) (pairsIn w c) e m x) (lifted-none most) (edgeCount (p .program)) (getD marks x 0)
+              ∙ ap (lifted most (getD marks x 0)) (hit-any (o .program) (p .program) (pairsIn w c) e m most x);
+          size = inv .size;
+        }
+
+    pub at-on : (f next : ℕ) (marks₂ : List ℕ) → 0 < place → f ≡ place - 1 → marks₂ ≡ raised marks₁ f most → JoinsBefore ol nl w e f true next → RaisedFrom on ol nn nl w e n m most marks marks₂ next
+    unfolding RaisesFrom
+    at-on f next marks₂ pos d er j =
+        record {
+          from = λ o p c h i en l x b.
+              let r = inv .from o p c h i en l x b in
+              let T : ℕ → Bool = hitAt (o .program) (p .program) (pairsIn w c) true e m in
+              fold-step _ (hit-others (o .program) (p .program) (pairsIn w c) e m most x) (passing-chain _ _) (omega arith) _ _ _ place next r pos
+              (ap (λ (v : List ℕ). getD v x 0) er ∙ raised-at marks₁ f most x (omega (arith, inv .size))
+              ∙ ap (lifted most (getD marks₁ x 0)) (ap (λ (g : ℕ). eqb g x) d ∙ sym (yes-and _ (passing-at T (place - 1) (r .owner pos)))))
+              (hit-next h e m place f next true i (rw (← en) l) d (r .owner pos) j);
+          size = ap length er ∙ raised-size marks₁ f most ∙ inv .size;
+        }
 
 -- ---- `raise_all`
 
--- The marks come to what those of the pairs below the place still raise.
-unfoldable pub RaisesFrom : List ℕ → List ℕ → List ℕ → List ℕ → List ℕ → ℕ → ℕ → ℕ → List ℕ → List ℕ → ℕ → Type 0
-RaisesFrom on ol nn nl w e most n marks marks′ place =
+-- At the pair k the new edge x is such an edge.
+abbrev hitBy : Program → Program → List ℕ → ℕ → ℕ → ℕ → ℕ → Bool
+hitBy old new w c e x k = eqb (oldAt w k) (sourceAt old e) and hitAt old new (pairsIn w c) true e (newAt w k) x
+
+-- With the marks, the pairs below the place lead to those at the end.
+unfoldable pub RaisesTo : List ℕ → List ℕ → List ℕ → List ℕ → List ℕ → ℕ → ℕ → ℕ → List ℕ → List ℕ → ℕ → Type 0
+RaisesTo on ol nn nl w e most n marks marks′ place =
     (o p : Listing) (c : ℕ) → Compared on ol nn nl w c o p → e < edgeCount (o .program)
     → (n ≡ sourceAt (o .program) e)
-    × ((x : ℕ) → x < length marks → Left (oldAt w) (sourceAt (o .program) e) c
-    (lifted most (getD marks x 0) (any c (λ k. eqb (oldAt w k) (sourceAt (o .program) e) and eqb (counterpart (o .program) (p .program) (pairsIn w c) true e (newAt w k)) (suc x))))
-    (λ j. lifted most (getD marks′ x 0) (any j (λ k. eqb (oldAt w k) (sourceAt (o .program) e) and eqb (counterpart (o .program) (p .program) (pairsIn w c) true e (newAt w k)) (suc x)))) place)
+    × ((x : ℕ) → x < length marks
+    → Folded (oldAt w) (sourceAt (o .program) e) c (λ k y. lifted most y (hitBy (o .program) (p .program) w c e x k)) (getD marks x 0) (getD marks′ x 0) place)
 
-pub record RaisedFrom (on ol nn nl w : List ℕ) (e most n : ℕ) (marks marks′ : List ℕ) (place : ℕ) : Type 0 where
-  pub from : RaisesFrom on ol nn nl w e most n marks marks′ place
+pub record RaisedTo (on ol nn nl w : List ℕ) (e most n : ℕ) (marks marks′ : List ℕ) (place : ℕ) : Type 0 where
+  pub to : RaisesTo on ol nn nl w e most n marks marks′ place
   pub size : length marks′ ≡ length marks
 
-module _ (w : List ℕ) (a : ℕ) (to : ℕ → ℕ) (x most m : ℕ) where
-  raises-blind : Blind (oldAt w) a (λ j. lifted most m (any j (λ k. eqb (oldAt w k) a and eqb (to k) (suc x))))
-  unfolding Blind
-  raises-blind k d = ap (λ (t : Bool). lifted most m t) (any-skip (λ k. eqb (oldAt w k) a and eqb (to k) (suc x)) k (fails _ (λ t. d (eqb-true _ _ (and-left _ _ t)))))
+by-others : (old new : Program) (w : List ℕ) (c e most x k y : ℕ) → (oldAt w k ≡ sourceAt old e → ⊥) → lifted most y (hitBy old new w c e x k) ≡ y
+by-others old new w c e most x = lifts-others most (hitBy old new w c e x) (oldAt w) (sourceAt old e) (λ k t. eqb-true _ _ (and-left _ _ t))
 
-pub all-start : (on ol nn nl w : List ℕ) (e most n place : ℕ) (marks : List ℕ) → n ≡ getD ol (edgeBase e) 0 → place ≡ lastPair w n → RaisedFrom on ol nn nl w e most n marks marks place
-unfolding RaisesFrom
+pub all-start : (on ol nn nl w : List ℕ) (e most n place : ℕ) (marks : List ℕ) → n ≡ getD ol (edgeBase e) 0 → place ≡ lastPair w n → RaisedTo on ol nn nl w e most n marks marks place
+unfolding RaisesTo
 all-start on ol nn nl w e most n place marks en ep =
     record {
-      from = λ o p c h i.
-          let s : n ≡ sourceAt (o .program) e = source-of e n h i en in (
-            s,
-            λ x l. rw (ep, s) (left-start (walked (h .held .store) (suc (sourceAt (o .program) e))) (sourceAt (o .program) e) (omega arith)
-                (raises-blind w (sourceAt (o .program) e) (λ k. counterpart (o .program) (p .program) (pairsIn w c) true e (newAt w k)) x most (getD marks x 0))),
-          );
+      to = λ o p c h i.
+          let s : n ≡ sourceAt (o .program) e = source-of e n h i en in
+          (s, λ x l. fold-start _ (by-others (o .program) (p .program) w c e most x) (walked (h .held .store) (suc (sourceAt (o .program) e))) (omega arith) _ place (ep ∙ ap (lastPair w) s));
       size = refl;
     }
 
-module _ (on ol nn nl w : List ℕ) (e most n : ℕ) (marks marks₁ : List ℕ) (place : ℕ) (inv : RaisedFrom on ol nn nl w e most n marks marks₁ place) where
+module _ (on ol nn nl w : List ℕ) (e most n : ℕ) (marks marks₁ : List ℕ) (place : ℕ) (inv : RaisedTo on ol nn nl w e most n marks marks₁ place) where
   pub all-end : place ≤ 0 → AllRaised on ol nn nl w e most marks marks₁
-  unfolding RaisesFrom Raises any
+  unfolding RaisesTo Raises
   all-end z =
       record {
         raises = λ o p c h i x l.
-            let r = inv .from o p c h i .1 x l in
-            let y : place ≡ 0 = omega arith in
-            let to : ℕ → ℕ = λ k. counterpart (o .program) (p .program) (pairsIn w c) true e (newAt w k) in
-            sym (lifted-none most (getD marks₁ x 0))
-            ∙ ap (λ (j : ℕ). lifted most (getD marks₁ x 0) (any j (λ k. eqb (oldAt w k) (sourceAt (o .program) e) and eqb (to k) (suc x)))) (sym y)
-            ∙ sym (r .rest) ∙ ap (λ (t : Bool). lifted most (getD marks x 0) t) (leads-any (joins-lead h e) x);
+            fold-end _ (by-others (o .program) (p .program) w c e most x) c _ _ place (inv .to o p c h i .1 x l) z
+            ∙ fold-adds (lifted most) (lifted-more most) (hitBy (o .program) (p .program) w c e x) (lifted-none most) c (getD marks x 0)
+            ∙ ap (lifted most (getD marks x 0)) (hits-any h e true x ∙ ap (λ (t : Bool). ltb x (edgeCount (p .program)) and t) (met-joined (o .program) (p .program) _ e x));
         size = inv .size;
       }
 
-  pub all-on : (k m f next : ℕ) (marks₂ : List ℕ) → 0 < place → k ≡ place - 1 → m ≡ newAt w k → Joins on ol nn nl w e n m true f → marks₂ ≡ raised marks₁ f most → next ≡ pairBefore w k
-      → RaisedFrom on ol nn nl w e most n marks marks₂ next
-  unfolding RaisesFrom
-  all-on k m f next marks₂ pos d em j er en =
+  pub all-on : (k m next : ℕ) (marks₂ : List ℕ) → 0 < place → k ≡ place - 1 → m ≡ newAt w k → RaisedAt on ol nn nl w e n m most marks₁ marks₂ → next ≡ pairBefore w k
+      → RaisedTo on ol nn nl w e most n marks marks₂ next
+  unfolding RaisesTo RaisesAt
+  all-on k m next marks₂ pos d em a en =
       record {
-        from = λ o p c h i.
-            let r = inv .from o p c h i in
-            let a : ℕ = sourceAt (o .program) e in
-            let to : ℕ → ℕ = λ k. counterpart (o .program) (p .program) (pairsIn w c) true e (newAt w k) in (
+        to = λ o p c h i.
+            let r = inv .to o p c h i in (
               r .0,
               λ x l.
                   let y = r .1 x l in
-                  let b : k < c = omega (arith, y .within) in
-                  let own : oldAt w k ≡ a = ap (oldAt w) d ∙ y .owner pos in
-                  let q : f ≡ to k = joins-here h e n k m f true i (r .0) b (own ∙ sym (r .0)) em j in
-                  let T : ℕ → Bool = λ k. eqb (oldAt w k) a and eqb (to k) (suc x) in
-                  let here : T k ≡ eqb f (suc x) = yes-and _ (eq-eqb _ _ own) ∙ ap (λ (u : ℕ). eqb u (suc x)) (sym q) in
-                  let g : getD marks₂ x 0 ≡ lifted most (getD marks₁ x 0) (T k)
-                  = ap (λ (l : List ℕ). getD l x 0) er ∙ raised-at marks₁ f most x (omega (arith, inv .size)) ∙ ap (λ (t : Bool). lifted most (getD marks₁ x 0) t) (sym here) in
-                  let u : place ≡ suc k = omega arith in
-                  let step : lifted most (getD marks₁ x 0) (any place T) ≡ lifted most (getD marks₂ x 0) (any (place - 1) T)
-                  = ap (λ (t : Bool). lifted most (getD marks₁ x 0) t) (ap (λ (n : ℕ). any n T) u ∙ any-more T k) ∙ sym (lifted-before most (getD marks₁ x 0) (any k T) (T k))
-                  ∙ ap₂ (λ (v : ℕ) (n : ℕ). lifted most v (any n T)) (sym g) d in
-                  rw (en, d) (left-step (walked (h .held .store) (suc a)) y pos (raises-blind w a to x most (getD marks₂ x 0)) step),
+                  let q : m ≡ newAt w (place - 1) = em ∙ ap (newAt w) d in
+                  let own : oldAt w (place - 1) ≡ sourceAt (o .program) e = y .owner pos in
+                  let there = pair-at h n m (place - 1) (omega (arith, y .within)) (r .0 ∙ sym own) q in
+                  fold-step _ (by-others (o .program) (p .program) w c e most x) (walked (h .held .store) (suc (sourceAt (o .program) e))) (omega arith) _ _ _ place next y pos
+                  (a .raises o p c h i (r .0) there x (omega (arith, inv .size))
+                  ∙ ap (lifted most (getD marks₁ x 0)) (ap (λ (v : ℕ). hitAt (o .program) (p .program) (pairsIn w c) true e v x) q ∙ sym (yes-and _ (eq-eqb _ _ own))))
+                  (en ∙ ap (pairBefore w) d),
             );
-        size = ap length er ∙ raised-size marks₁ f most ∙ inv .size;
+        size = a .size ∙ inv .size;
       }
 
-pub ruleset raises = (raise-none, raise-past, raise-other, raise-this, one-none, one-this, one-past, all-start, all-end, all-on)
+pub ruleset raises = (raise-past, raise-other, raise-this, one-none, one-this, one-past, at-start, at-end, at-on, all-start, all-end, all-on)
 
 -- ---- `carry`
 

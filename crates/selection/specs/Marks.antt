@@ -4,26 +4,38 @@
 use mathlib.Core.Path.{_≡_}
 use mathlib.Core.Bool.{Bool, true}
 use mathlib.Core.List.{List}
-use Prim.Native.Nat.{ℕ, _-_, _≤_, _<_}
+use Prim.Native.Nat.{ℕ, suc, _-_, _≤_, _<_}
 use lib.Dec.{eqb, leb, ltb}
 use lib.ListN.{getD, length, set}
 use lib.Seq.{sets}
-use Rattle.laws.specs.Tests.{_and_, _⇒_, any, choose, every, first, found, has, isnt}
+use Rattle.laws.specs.Tests.{_and_, _⇒_, any, choose, every, first, found, has, listed}
+use Rattle.laws.specs.Fold.{fold}
 use Rattle.laws.specs.Bits.{bitIn}
-use Rattle.rules.specs.Graph.{Program, edgeCount}
+use Rattle.rules.specs.Graph.{Program, edgeCount, sourceAt}
 use Rattle.rules.specs.Closing.{Coverage, afterDangers, carries, carriesOnly, dangers, joined, meets, pairs, probes}
 use Rattle.rules.specs.Sheet.{marksOf}
 use Rattle.rules.specs.ProgramFile.{Listing}
+use Rattle.pairset.specs.Store.{pairsIn}
 use Rattle.coverage.specs.Rows.{Row}
-use Rattle.selection.specs.Compared.{Compared}
+use Rattle.selection.specs.Compared.{Compared, hitAt}
 use Rattle.selection.specs.Dangers.{SetOf}
 
--- `differ`: both are numbers found, and not the same one. `either`: the first, or the second where the first is none.
-unfoldable pub differs : ℕ → ℕ → Bool
-differs a b = ltb 0 a and ltb 0 b and isnt (eqb a b)
+-- What is seen of the counterparts of an old edge: 0 for none, 1 + the only one, or a number above all edges for several.
+abbrev pub several : ℕ
+several = 2048
 
-unfoldable pub eitherOf : ℕ → ℕ → ℕ
-eitherOf a b = choose (eqb a 0) b a
+-- `unite`: with the edge f - 1.
+unfoldable pub united : ℕ → ℕ → ℕ
+united seen f = choose (eqb seen 0) f (choose (eqb seen f) seen several)
+
+-- `see`: with the counterparts of the old edge e at its pair with the new node m, the last of them first.
+unfoldable pub seenAt : Program → Program → List (ℕ × ℕ) → ℕ → ℕ → ℕ → ℕ → ℕ
+seenAt old new M e m f seen = choose (hitAt old new M true e m f) (united seen (suc f)) seen
+
+unfoldable pub Sees : List ℕ → List ℕ → List ℕ → List ℕ → List ℕ → ℕ → ℕ → ℕ → ℕ → ℕ → Type 0
+Sees on ol nn nl w e n m before r =
+    (o p : Listing) (c : ℕ) → Compared on ol nn nl w c o p → e < edgeCount (o .program) → n ≡ sourceAt (o .program) e → listed (pairsIn w c) n m ≡ true
+    → r ≡ fold (seenAt (o .program) (p .program) (pairsIn w c) e m) (edgeCount (p .program)) before
 
 -- f passes J, and no other number below n does.
 unfoldable pub sole : ℕ → (ℕ → Bool) → ℕ → Bool
@@ -43,13 +55,23 @@ lifted most m is = choose (is and leb m most) 63 m
 unfoldable pub carried : ℕ → Bool → Bool → ℕ
 carried m is only = choose only 49 (lifted 48 m is)
 
--- `raise`: the mark of the edge f - 1 is raised.
+-- `raise`: the mark of the edge x is raised.
 unfoldable pub raised : List ℕ → ℕ → ℕ → List ℕ
-raised marks f most = choose (ltb 0 f and leb (getD marks (f - 1) 0) most) (set marks (f - 1) 63) marks
+raised marks x most = choose (leb (getD marks x 0) most) (set marks x 63) marks
 
 -- `mark_one`: the mark of the edge f - 1 becomes `1`.
 unfoldable pub markedOne : List ℕ → ℕ → List ℕ
 markedOne marks f = choose (ltb 0 f) (set marks (f - 1) 49) marks
+
+-- `raise_at`: each mark of a counterpart of the old edge e at its pair with the new node m is raised.
+unfoldable pub RaisesAt : List ℕ → List ℕ → List ℕ → List ℕ → List ℕ → ℕ → ℕ → ℕ → ℕ → List ℕ → List ℕ → Type 0
+RaisesAt on ol nn nl w e n m most marks marks′ =
+    (o p : Listing) (c : ℕ) → Compared on ol nn nl w c o p → e < edgeCount (o .program) → n ≡ sourceAt (o .program) e → listed (pairsIn w c) n m ≡ true → (x : ℕ) → x < length marks
+    → getD marks′ x 0 ≡ lifted most (getD marks x 0) (hitAt (o .program) (p .program) (pairsIn w c) true e m x)
+
+pub record RaisedAt (on ol nn nl w : List ℕ) (e n m most : ℕ) (marks marks′ : List ℕ) : Type 0 where
+  pub raises : RaisesAt on ol nn nl w e n m most marks marks′
+  pub size : length marks′ ≡ length marks
 
 -- `raise_all`: each mark of a counterpart of the old edge e is raised.
 unfoldable pub Raises : List ℕ → List ℕ → List ℕ → List ℕ → List ℕ → ℕ → ℕ → List ℕ → List ℕ → Type 0

@@ -3,9 +3,9 @@ ghost use mathlib.Core.Path.{_≡_};
 ghost use Prim.Native.Nat.{_≤_};
 ghost use lib.ListN.{replicate};
 ghost use lib.Seq.{sets};
-ghost use Rattle.selection.specs.Compared.{Fitting, Joins, sameBool};
+ghost use Rattle.selection.specs.Compared.{EndsMeet, Fitting, Joins, JoinsBefore, sameBool};
 ghost use Rattle.selection.specs.Dangers.{DangersCopied};
-ghost use Rattle.selection.specs.Marks.{AllCarried, AllOpened, AllRaised, Carried, MarksFound, Only, Opened, SetOpened, differs, eitherOf, markedOne, raised};
+ghost use Rattle.selection.specs.Marks.{AllCarried, AllOpened, AllRaised, Carried, MarksFound, Only, Opened, RaisedAt, Sees, SetOpened, markedOne, raised, united};
 
 // ---- an old edge at a pair
 
@@ -22,26 +22,34 @@ fn same_bool(a: bool, b: bool) -> bool
     true
 }
 
-// 1 + the edge of the new node m that has the word of the old edge e, if the ends are alike, or, if `met` is false, are not; or 0; where the node that
-// e leaves and m are a pair that may go on: then the ends are alike just where they are a pair.
-fn fitting(ol: &[usize], nl: &[usize], w: &[usize], e: usize, m: usize, met: bool) -> usize
-    ensures { λ r. ⌜ Fitting (now (ol .entry)) (now (nl .entry)) (now (w .entry)) e m met r ⌝ }
+// Whether the ends of the old edge e and the new edge f are a pair, or, if `met` is false, are not.
+fn ends_meet(ol: &[usize], nl: &[usize], w: &[usize], e: usize, f: usize, met: bool) -> bool
+    ensures { λ r. ⌜ EndsMeet (now (ol .entry)) (now (nl .entry)) (now (w .entry)) e f met r ⌝ }
 {
-    let t = versions::taken(ol, nl, e, m);
-    if t == 0 {
-        return 0;
-    }
     let a = versions::target(ol, e);
-    let b = versions::target(nl, t - 1);
+    let b = versions::target(nl, f);
     let paired = pairset::has(w, a, b);
-    if same_bool(paired, met) {
-        return t;
+    same_bool(paired, met)
+}
+
+// 1 + the first edge from the place down, among the edges opposite to the old edge e, with ends that are alike, or, if `met` is false, are not; or 0;
+// where the nodes that they leave are a pair that may go on: then the ends are alike just where they are a pair.
+fn fitting(ol: &[usize], nl: &[usize], w: &[usize], e: usize, from: usize, met: bool) -> usize
+    ensures { λ r. ⌜ Fitting (now (ol .entry)) (now (nl .entry)) (now (w .entry)) e from met r ⌝ }
+{
+    let mut place = from;
+    while 0 < place {
+        let f = place - 1;
+        if ends_meet(ol, nl, w, e, f, met) {
+            return place;
+        }
+        place = versions::opposite_before(ol, nl, e, f);
     }
     0
 }
 
-// For the pair of n, which the old edge e leaves, and m: 1 + the edge of m that is joined with e, or, if `met` is false, that parts from it: it has the
-// word of e, and the ends are not alike; or 0. For tables that do not hold two programs and their pairs it is left open.
+// For the pair of n, which the old edge e leaves, and m: 1 + the last edge of m that is joined with e, or, if `met` is false, that parts from it: it is
+// opposite to e, and the ends are not alike; or 0. For tables that do not hold two programs and their pairs it is left open.
 pub fn joins(
     on: &[usize],
     ol: &[usize],
@@ -56,9 +64,18 @@ pub fn joins(
     ensures { λ r. ⌜ Joins (now (on .entry)) (now (ol .entry)) (now (nn .entry)) (now (nl .entry)) (now (w .entry)) e n m met r ⌝ }
 {
     if versions::goes_on(on, ol, nn, nl, w, n, m) {
-        return fitting(ol, nl, w, e, m, met);
+        let last = versions::last_opposite(ol, nl, e, m);
+        return fitting(ol, nl, w, e, last, met);
     }
     0
+}
+
+// 1 + the one before f, which is such an edge, or 0.
+pub fn joins_before(ol: &[usize], nl: &[usize], w: &[usize], e: usize, f: usize, met: bool) -> usize
+    ensures { λ r. ⌜ JoinsBefore (now (ol .entry)) (now (nl .entry)) (now (w .entry)) e f met r ⌝ }
+{
+    let before = versions::opposite_before(ol, nl, e, f);
+    fitting(ol, nl, w, e, before, met)
 }
 
 // ---- dangerous edges
@@ -79,30 +96,41 @@ pub fn copy_dangers(w: &[usize], set: &mut [u64])
 
 // ---- counterparts
 
-// Whether both are edges found, and not the same one.
-fn differ(a: usize, b: usize) -> bool
-    ensures { λ r. ⌜ r ≡ differs a b ⌝ }
+// What is seen with the edge f - 1: this one alone, or 2048 for several.
+fn unite(seen: usize, f: usize) -> usize
+    ensures { λ r. ⌜ r ≡ united seen f ⌝ }
 {
-    if a == 0 {
-        return false;
+    if seen == 0 {
+        return f;
     }
-    if b == 0 {
-        return false;
+    if seen == f {
+        return seen;
     }
-    if a == b {
-        return false;
-    }
-    true
+    2048
 }
 
-// The edge found first, or the second where there is none.
-fn either(a: usize, b: usize) -> usize
-    ensures { λ r. ⌜ r ≡ eitherOf a b ⌝ }
+// What is seen with the counterparts of the old edge e at the pair of n and m.
+fn see(
+    on: &[usize],
+    ol: &[usize],
+    nn: &[usize],
+    nl: &[usize],
+    w: &[usize],
+    e: usize,
+    n: usize,
+    m: usize,
+    before: usize,
+) -> usize
+    ensures { λ r. ⌜ Sees (now (on .entry)) (now (ol .entry)) (now (nn .entry)) (now (nl .entry)) (now (w .entry)) e n m before r ⌝ }
 {
-    if a == 0 {
-        return b;
+    let mut seen = before;
+    let mut f = joins(on, ol, nn, nl, w, e, n, m, true);
+    while 0 < f {
+        let x = f - 1;
+        seen = unite(seen, f);
+        f = joins_before(ol, nl, w, e, x, true);
     }
-    a
+    seen
 }
 
 // 1 + the only counterpart of the old edge e, or 0 where it has none or several.
@@ -122,26 +150,21 @@ fn only_counterpart(
     while 0 < place {
         let k = place - 1;
         let m = pairset::new_of(w, k);
-        let f = joins(on, ol, nn, nl, w, e, n, m, true);
-        if differ(seen, f) {
-            return 0;
-        }
-        seen = either(seen, f);
+        seen = see(on, ol, nn, nl, w, e, n, m, seen);
         place = pairset::pair_before(w, k);
+    }
+    if 1024 < seen {
+        return 0;
     }
     seen
 }
 
 // ---- marks
 
-// Makes the mark of the edge f - 1 a `?` where it is not above `most`: 48 for `0` alone, 49 for `0` and `1`.
-fn raise(marks: &mut [u8], f: usize, most: u8)
-    ensures { λ _. ⌜ now (marks .exit) ≡ raised (now (marks .entry)) f most ⌝ }
+// Makes the mark of the edge x a `?` where it is not above `most`: 48 for `0` alone, 49 for `0` and `1`; past the end, nothing.
+fn raise(marks: &mut [u8], x: usize, most: u8)
+    ensures { λ _. ⌜ now (marks .exit) ≡ raised (now (marks .entry)) x most ⌝ }
 {
-    if f == 0 {
-        return;
-    }
-    let x = f - 1;
     if marks.len() <= x {
         return;
     }
@@ -150,7 +173,30 @@ fn raise(marks: &mut [u8], f: usize, most: u8)
     }
 }
 
-// Makes each mark, not above `most`, of a counterpart of the old edge e a `?`.
+// Makes each mark, not above `most`, of a counterpart of the old edge e at the pair of n and m a `?`.
+fn raise_at(
+    on: &[usize],
+    ol: &[usize],
+    nn: &[usize],
+    nl: &[usize],
+    w: &[usize],
+    e: usize,
+    n: usize,
+    m: usize,
+    most: u8,
+    marks: &mut [u8],
+)
+    ensures { λ _. ⌜ RaisedAt (now (on .entry)) (now (ol .entry)) (now (nn .entry)) (now (nl .entry)) (now (w .entry)) e n m most (now (marks .entry)) (now (marks .exit)) ⌝ }
+{
+    let mut f = joins(on, ol, nn, nl, w, e, n, m, true);
+    while 0 < f {
+        let x = f - 1;
+        raise(marks, x, most);
+        f = joins_before(ol, nl, w, e, x, true);
+    }
+}
+
+// The same at every pair.
 fn raise_all(
     on: &[usize],
     ol: &[usize],
@@ -168,8 +214,7 @@ fn raise_all(
     while 0 < place {
         let k = place - 1;
         let m = pairset::new_of(w, k);
-        let f = joins(on, ol, nn, nl, w, e, n, m, true);
-        raise(marks, f, most);
+        raise_at(on, ol, nn, nl, w, e, n, m, most, marks);
         place = pairset::pair_before(w, k);
     }
 }

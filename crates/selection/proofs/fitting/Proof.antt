@@ -1,45 +1,51 @@
 use borrow.Author.Needs.{needs}
 use Rattle.selection.proofs.All.{all}
+use Rattle.selection.proofs.Dangers.{FitsFrom}
+use Prim.Native.Nat.{_≤_}
 use Rattle.selection.proofs.fitting.Statement.{statement}
 use Rattle.selection.proofs.fitting.Tie as tie
 
-taken-requires : tie.Need-taken-requires
-taken-requires c κs = search needs
+abbrev Inv-loop : tie.InvT-loop
+Inv-loop ol nl w e from met place₀ place = (place ≤ from) × FitsFrom ol nl w e from met place
 
-returns : tie.Need-returns
+abbrev μ-loop : tie.MeasureT-loop
+μ-loop ol nl w e from met place₀ place = place
+
+loop-holds : tie.Need-loop-holds Inv-loop μ-loop
+loop-holds c = search (all, needs)
+
+sub-f : tie.Need-sub-f Inv-loop μ-loop
+sub-f c = search (all, needs)
+
+ends-meet-requires : tie.Need-ends-meet-requires Inv-loop μ-loop
+ends-meet-requires c κs = search (all, needs)
+
+returns : tie.Need-returns Inv-loop μ-loop
 returns c = search (all, needs)
 
-target-requires : tie.Need-target-requires
-target-requires c κs = search needs
+opposite-before-requires : tie.Need-opposite-before-requires Inv-loop μ-loop
+opposite-before-requires c κs = search (all, needs)
 
-sub-target : tie.Need-sub-target
-sub-target c = search needs
+loop-less : tie.Need-loop-less Inv-loop μ-loop
+loop-less c = search (all, needs)
 
-target-requires-2 : tie.Need-target-requires-2
-target-requires-2 c κs = search needs
+loop-again : tie.Need-loop-again Inv-loop μ-loop
+loop-again c = search (all, needs)
 
-has-requires : tie.Need-has-requires
-has-requires c κs = search needs
-
-same-bool-requires : tie.Need-same-bool-requires
-same-bool-requires c κs = search needs
-
-returns-2 : tie.Need-returns-2
+returns-2 : tie.Need-returns-2 Inv-loop μ-loop
 returns-2 c = search (all, needs)
-
-returns-3 : tie.Need-returns-3
-returns-3 c = search (all, needs)
 
 pub fitting-spec : {M : Type 1} → statement M
 fitting-spec =
     tie.close
     (tie.spec
-    taken-requires
+    Inv-loop
+    μ-loop
+    loop-holds
+    sub-f
+    ends-meet-requires
     returns
-    target-requires
-    sub-target
-    target-requires-2
-    has-requires
-    same-bool-requires
-    returns-2
-    returns-3)
+    opposite-before-requires
+    loop-less
+    loop-again
+    returns-2)

@@ -25,17 +25,8 @@ sub-k c = search (all, needs)
 new-of-requires : tie.Need-new-of-requires Inv-loop μ-loop
 new-of-requires c κs = search (all, needs)
 
-joins-requires : tie.Need-joins-requires Inv-loop μ-loop
-joins-requires c κs = search (all, needs)
-
-differ-requires : tie.Need-differ-requires Inv-loop μ-loop
-differ-requires c κs = search (all, needs)
-
-returns : tie.Need-returns Inv-loop μ-loop
-returns c = search (all, needs)
-
-either-requires : tie.Need-either-requires Inv-loop μ-loop
-either-requires c κs = search (all, needs)
+see-requires : tie.Need-see-requires Inv-loop μ-loop
+see-requires c κs = search (all, needs)
 
 pair-before-requires : tie.Need-pair-before-requires Inv-loop μ-loop
 pair-before-requires c κs = search (all, needs)
@@ -45,6 +36,9 @@ loop-less c = search (all, needs)
 
 loop-again : tie.Need-loop-again Inv-loop μ-loop
 loop-again c = search (all, needs)
+
+returns : tie.Need-returns Inv-loop μ-loop
+returns c = search (all, needs)
 
 returns-2 : tie.Need-returns-2 Inv-loop μ-loop
 returns-2 c = search (all, needs)
@@ -60,11 +54,9 @@ only-counterpart-spec =
     loop-holds
     sub-k
     new-of-requires
-    joins-requires
-    differ-requires
-    returns
-    either-requires
+    see-requires
     pair-before-requires
     loop-less
     loop-again
+    returns
     returns-2)

@@ -6,14 +6,8 @@ use Rattle.selection.proofs.raise.Tie as tie
 returns : tie.Need-returns
 returns c = search (all, needs)
 
-sub-x : tie.Need-sub-x
-sub-x c = search needs
-
-returns-2 : tie.Need-returns-2
-returns-2 c = search (all, needs)
-
-slice-read-if3 : tie.Need-slice-read-if3
-slice-read-if3 c = search needs
+slice-read-if2 : tie.Need-slice-read-if2
+slice-read-if2 c = search needs
 
 slice-write-marks : tie.Need-slice-write-marks
 slice-write-marks c = search needs
@@ -21,21 +15,12 @@ slice-write-marks c = search needs
 same-length : tie.Need-same-length
 same-length c = search needs
 
+returns-2 : tie.Need-returns-2
+returns-2 c = search (all, needs)
+
 returns-3 : tie.Need-returns-3
 returns-3 c = search (all, needs)
 
-returns-4 : tie.Need-returns-4
-returns-4 c = search (all, needs)
-
 pub raise-spec : {M : Type 1} → statement M
 raise-spec =
-    tie.close
-    (tie.spec
-    returns
-    sub-x
-    returns-2
-    slice-read-if3
-    slice-write-marks
-    same-length
-    returns-3
-    returns-4)
+    tie.close (tie.spec returns slice-read-if2 slice-write-marks same-length returns-2 returns-3)

@@ -2,12 +2,12 @@ use borrow.Author.Needs.{needs}
 use Rattle.selection.proofs.All.{all}
 use mathlib.Core.Path.{_≡_}
 use lib.ListN.{length}
-use Rattle.selection.proofs.Marks.{RaisedFrom}
+use Rattle.selection.proofs.Marks.{RaisedTo}
 use Rattle.selection.proofs.raise_all.Statement.{statement}
 use Rattle.selection.proofs.raise_all.Tie as tie
 
 abbrev Inv-loop : tie.InvT-loop
-Inv-loop on ol nn nl w e most marks₀ n place₀ marks place = (length marks ≡ length marks₀) × RaisedFrom on ol nn nl w e most n marks₀ marks place
+Inv-loop on ol nn nl w e most marks₀ n place₀ marks place = (length marks ≡ length marks₀) × RaisedTo on ol nn nl w e most n marks₀ marks place
 
 abbrev μ-loop : tie.MeasureT-loop
 μ-loop on ol nn nl w e most marks₀ n place₀ marks place = place
@@ -27,11 +27,8 @@ sub-k c = search (all, needs)
 new-of-requires : tie.Need-new-of-requires Inv-loop μ-loop
 new-of-requires c κs = search (all, needs)
 
-joins-requires : tie.Need-joins-requires Inv-loop μ-loop
-joins-requires c κs = search (all, needs)
-
-raise-requires : tie.Need-raise-requires Inv-loop μ-loop
-raise-requires c κs = search (all, needs)
+raise-at-requires : tie.Need-raise-at-requires Inv-loop μ-loop
+raise-at-requires c κs = search (all, needs)
 
 pair-before-requires : tie.Need-pair-before-requires Inv-loop μ-loop
 pair-before-requires c κs = search (all, needs)
@@ -59,8 +56,7 @@ raise-all-spec =
     loop-holds
     sub-k
     new-of-requires
-    joins-requires
-    raise-requires
+    raise-at-requires
     pair-before-requires
     loop-less
     loop-again

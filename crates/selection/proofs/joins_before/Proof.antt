@@ -1,0 +1,16 @@
+use borrow.Author.Needs.{needs}
+use Rattle.selection.proofs.All.{all}
+use Rattle.selection.proofs.joins_before.Statement.{statement}
+use Rattle.selection.proofs.joins_before.Tie as tie
+
+opposite-before-requires : tie.Need-opposite-before-requires
+opposite-before-requires c κs = search needs
+
+fitting-requires : tie.Need-fitting-requires
+fitting-requires c κs = search needs
+
+returns : tie.Need-returns
+returns c = search (all, needs)
+
+pub joins-before-spec : {M : Type 1} → statement M
+joins-before-spec = tie.close (tie.spec opposite-before-requires fitting-requires returns)
