@@ -1,29 +1,30 @@
 -- The returns of the functions that add a pair, as `search` finds them: the premises are what the code holds there.
-use mathlib.Core.Path.{_≡_, refl, sym, ap₂, _∙_, subst}
+use mathlib.Core.Path.{_≡_, refl, sym, ap₂, _∙_}
+use mathlib.Core.Logic.{⊎-elim}
 use mathlib.Core.Bool.{Bool, true, false}
 use mathlib.Core.List.{List}
-use Prim.Native.Nat.{ℕ, _+_, _-_, _≤_, _<_}
+use Prim.Native.Nat.{ℕ, _+_, _≤_, _<_}
 use native.Mathlib.Omega.{arith}
 use borrow.Author.Tests.{eqb-true, eq-eqb}
 use lib.Dec.{eqb}
 use lib.ListN.{getD}
-use Rattle.laws.specs.Tests.{_and_, listed}
-use Rattle.laws.specs.TestLaws.{and-left, and-right, and-both, both-ways}
-use Rattle.rules.specs.Graph.{Program, WellFormed, edgeCount, entry, nodeCount, sourceAt, targetAt}
-use Rattle.rules.specs.Closing.{MayGoOn, Pair, alike, edge-ends, fits, sameWord}
+use Rattle.laws.specs.Tests.{_and_, _⇒_, listed, some?}
+use Rattle.laws.specs.TestLaws.{and-both, and-fails, and-left, and-right, both-ways, every-at, every-not, fails, implied, isnt-false, isnt-true, unimplied}
+use Rattle.rules.specs.Graph.{Program, edgeCount, edgeTaken, entry, nodeCount, sourceAt, targetAt, wordAt}
+use Rattle.rules.specs.Closing.{Pair, alike, edge-ends, fitted, keptBy, sameWord}
 use Rattle.rules.specs.ProgramFile.{Listing}
-use Rattle.rules.specs.Proofs.Closure.{pair-alike}
-use Rattle.rules.specs.Proofs.ClosingLaws.{fits-ends, fits-of, fits-word, same-word}
+use Rattle.rules.specs.Proofs.Closure.{danger-of, pair-alike}
+use Rattle.rules.specs.Proofs.ClosingLaws.{fits-ends, fits-word, one-word}
 use Rattle.graph.specs.Table.{edgeBase, procBase}
 use Rattle.pairset.specs.Store.{Appended, DangerMarked, Has, pairsIn}
 use Rattle.versions.specs.Memory.{InMemory, Memory, memory}
 use Rattle.versions.specs.MemoryLaws.{entry-is, exit-is, sound, target-is, well-formed}
-use Rattle.versions.specs.Found.{found-at, found-none}
-use Rattle.versions.specs.Claims.{Alike, Taken}
+use Rattle.versions.specs.Claims.{Alike}
+use Rattle.versions.specs.Opposite.{WordLost}
 use Rattle.versions.specs.Groups.{InGroups, Known}
-use Rattle.closure.specs.State.{CalleeDone, EdgeDone, EntriesDone, Formed, State, Step, Unfit}
+use Rattle.closure.specs.State.{CalleeDone, EdgeDone, EndsDone, EntriesDone, Formed, LostDone, State, Step}
 use Rattle.closure.specs.Step.{pair-inside, step-map, step-mark, step-more, step-none, step-over, step-shows}
-use Rattle.closure.specs.Claims.{AddsEntries, EntersCallee, Grows, Sized, TriesEdge}
+use Rattle.closure.specs.Claims.{AddsEntries, EntersCallee, Grows, MarksLost, Sized, TriesEnds}
 
 -- Programs in memory are well-formed, and their nodes and edges have heads and bits.
 pub formed-in : (a b : Memory) (o p : Listing) → InMemory a o → InMemory b p → Formed (o .program) (p .program)
@@ -77,143 +78,139 @@ callee-done ol nl limit w c q k v r z x is =
 
 pub ruleset callees = (entries-there, entries-new, callee-done)
 
--- ---- `try_edge`
+-- ---- an old edge e and a new node m
 
--- The new edge f of the node m is taken for the word of the old edge e.
-pub record Takes (old new : Program) (e m f : ℕ) : Type 0 where
-  pub below : f < edgeCount new
-  pub source : sourceAt new f ≡ m
-  pub word : sameWord old new e f ≡ true
-
-module _ {old new : Program} {e m : ℕ} where
-  -- A node takes one edge for a word.
-  takes-once : WellFormed new → {f g : ℕ} → Takes old new e m f → Takes old new e m g → g ≡ f
-  takes-once wf {f} {g} x y =
-      wf .words f g (x .below) (y .below) (y .source ∙ sym (x .source)) (sym (same-word old new e g (y .word)) ∙ same-word old new e f (x .word))
-
-  -- What fits is taken, so that it is enough to look at the edge that is.
-  edge-done : WellFormed new → {f : ℕ} (M : List (ℕ × ℕ)) (S : ℕ → Bool) → Takes old new e m f → fits old new e f ≡ true → listed M (targetAt old e) (targetAt new f) ≡ true
-      → EdgeDone old new e m M S
-  edge-done wf {f} M S x fit t =
+module _ (old new : Program) (e m : ℕ) where
+  -- It is done if it is for the word of e and for each opposite edge.
+  pub edge-done : (M : List (ℕ × ℕ)) (S : ℕ → Bool) → LostDone old new e m M S
+      → ((f : ℕ) → f < edgeCount new → sourceAt new f ≡ m → sameWord old new e f ≡ true → EndsDone old new e f M S) → EdgeDone old new e m M S
+  unfolding LostDone fitted keptBy
+  edge-done M S lost each =
       record {
-        ends = λ g l s u.
-            let q : g ≡ f = takes-once wf x (record { below = l; source = s; word = fits-word old new e g u }) in
-            rw q t;
-        danger = λ none. absurd (none f (x .below) (x .source) fit);
+        ends = λ f l s t. each f l s (fits-word old new e f t) .ends (fits-ends old new e f t);
+        danger = λ u.
+            ⊎-elim lost
+            (λ t.
+            let r = every-not (λ f. eqb (sourceAt new f) m and sameWord old new e f ⇒ alike old new (targetAt old e) (targetAt new f)) (edgeCount new) t in
+            let x = unimplied _ _ (r .2) in
+            each (r .0) (r .1) (eqb-true _ _ (and-left _ _ (x .0))) (and-right _ _ (x .0)) .danger (x .1))
+            (and-fails _ _ u);
       }
 
-  -- Where no edge fits, the old edge is dangerous, and marked.
-  edge-danger : {limit : ℕ} {w v : List ℕ} {c : ℕ} → Formed old new → State old new limit w c → e < edgeCount old → Pair old new (sourceAt old e) m → MayGoOn old new (sourceAt old e) m
-      → Unfit old new e m → DangerMarked w e v → Step old new limit w c (EdgeDone old new e m) v c
-  edge-danger f s i y x none k =
-      step-mark f s (record { isOld = i; partner = m; pair = y; mayGoOn = x; unfit = none }) k
-      (λ _ t. record { ends = λ g l a b. absurd (none g l a b); danger = λ _. t })
+  -- What makes it dangerous: no edge is taken for its word, or an opposite edge has an end that is not alike.
+  lost-unfitted : some? (edgeTaken new m (wordAt old e)) ≡ false → fitted old new e m ≡ false
+  unfolding fitted keptBy
+  lost-unfitted u = fails _ (λ t. both-ways (and-left _ _ t) u)
 
-module _ (ot on ol nt nn nl groups : List ℕ) (limit : ℕ) (w : List ℕ) (c e m place : ℕ) (is : Taken ol nl e m place) where
-  -- The edge that is found.
-  takes : (o p : Listing) → InMemory (memory ot on ol) o → InMemory (memory nt nn nl) p → e < edgeCount (o .program) → m < nodeCount (p .program) → 0 < place
-      → Takes (o .program) (p .program) e m (place - 1)
-  unfolding Taken
-  takes o p h g i j pos =
-      let q = is ot on nt nn o p h g i j in
-      let r = found-at (λ f. eqb (sourceAt (p .program) f) m and sameWord (o .program) (p .program) e f) (edgeCount (p .program)) (omega arith) in
-      let s = rw (← q) at r in
-      record { below = s .0; source = eqb-true _ _ (and-left _ _ (s .1)); word = and-right _ _ (s .1) }
+  ends-unfitted : (f : ℕ) → f < edgeCount new → sourceAt new f ≡ m → sameWord old new e f ≡ true → alike old new (targetAt old e) (targetAt new f) ≡ false → fitted old new e m ≡ false
+  unfolding fitted keptBy
+  ends-unfitted f l s x u =
+      fails _ (λ t.
+      both-ways
+      (implied _ _ (every-at (λ f. eqb (sourceAt new f) m and sameWord old new e f ⇒ alike old new (targetAt old e) (targetAt new f)) (edgeCount new) (and-right _ _ t) f l)
+      (and-both (eq-eqb _ _ s) x)) u)
 
-  pub edge-none : (v : List ℕ) → place ≡ 0 → DangerMarked w e v → Sized w v (TriesEdge (memory ot on ol) (memory nt nn nl) groups limit w c e m v c)
-  unfolding TriesEdge Taken
-  edge-none v z k =
+-- ---- `mark_lost`
+
+module _ (ol nl w : List ℕ) (e m last : ℕ) (t : Bool) (is : WordLost ol nl e m last t) where
+  pub lost-marked : (v : List ℕ) → t ≡ true → DangerMarked w e v → Sized w v (MarksLost ol nl w e m last v)
+  unfolding MarksLost WordLost LostDone
+  lost-marked v y k =
       record {
         size = k .size;
-        claim = λ o p h gs s i y x.
-            let g = gs .memory in
-            let fm = formed-in _ _ o p h g in
-            edge-danger fm s i y x
-            (λ f l t u. found-none (λ f. eqb (sourceAt (p .program) f) m and sameWord (o .program) (p .program) e f) (edgeCount (p .program))
-            (sym (is ot on nt nn o p h g i (pair-inside fm y .1)) ∙ z) f l (and-both (eq-eqb _ _ t) (fits-word (o .program) (p .program) e f u)))
-            k;
+        claim = λ ot on nt nn o p h g limit c s i z x q.
+            let f = formed-in _ _ o p h g in
+            let u = isnt-true _ (sym (is ot on nt nn o p h g i (pair-inside f z .1) q) ∙ y) in
+            step-mark f s (danger-of (o .program) (p .program) (f .old-formed) (f .new-formed) e m i z x (lost-unfitted (o .program) (p .program) e m u)) k (λ _ d _. d);
       }
 
-  module _ (a b : ℕ) (t : Bool) (pos : place ≡ 0 → ⊥) (d : a ≡ getD ol (edgeBase e + 3) 0) (d′ : b ≡ getD nl (edgeBase (place - 1) + 3) 0) (has : Has w a b t) where
-    old-end : (o : Listing) → InMemory (memory ot on ol) o → e < edgeCount (o .program) → a ≡ targetAt (o .program) e
-    old-end o h i = d ∙ target-is (memory ot on ol) o h e i
+  pub lost-none : t ≡ false → Sized w w (MarksLost ol nl w e m last w)
+  unfolding MarksLost WordLost LostDone
+  lost-none y =
+      record {
+        size = refl;
+        claim = λ ot on nt nn o p h g limit c s i z x q.
+            let f = formed-in _ _ o p h g in
+            step-none s (λ _ u. absurd (both-ways (isnt-false _ (sym (is ot on nt nn o p h g i (pair-inside f z .1) q) ∙ y)) u));
+      }
 
-    new-end : (p : Listing) → InMemory (memory nt nn nl) p → place - 1 < edgeCount (p .program) → b ≡ targetAt (p .program) (place - 1)
-    new-end p g i = d′ ∙ target-is (memory nt nn nl) p g (place - 1) i
+-- ---- `try_ends`
 
-    pub edge-there : t ≡ true → Sized w w (TriesEdge (memory ot on ol) (memory nt nn nl) groups limit w c e m w c)
-    unfolding TriesEdge Has
-    edge-there y =
-        record {
-          size = refl;
-          claim = λ o p h gs s i z x.
-              let g = gs .memory in
-              let f = formed-in _ _ o p h g in
-              let k = takes o p h g i (pair-inside f z .1) (omega arith) in
-              let m = old-end o h i in
-              let n = new-end p g (k .below) in
-              step-none s (λ l.
-              let there : listed (pairsIn w c) (targetAt (o .program) e) (targetAt (p .program) (place - 1)) ≡ true = rw (← m, ← n) (sym (has c (s .kept l .store)) ∙ y) in
-              let like = pair-alike (o .program) (p .program) (f .old-formed) (f .new-formed) (s .kept l .sound _ _ there) in
-              edge-done (f .new-formed) _ _ k (fits-of (o .program) (p .program) e (place - 1) (k .word) like) there);
-        }
+module _ (ot on ol nt nn nl groups : List ℕ) (limit : ℕ) (w : List ℕ) (c e f a b : ℕ) (t : Bool) (d : a ≡ getD ol (edgeBase e + 3) 0) (d′ : b ≡ getD nl (edgeBase f + 3) 0)
+    (has : Has w a b t) where
+  old-end : (o : Listing) → InMemory (memory ot on ol) o → e < edgeCount (o .program) → a ≡ targetAt (o .program) e
+  old-end o h i = d ∙ target-is (memory ot on ol) o h e i
 
-    -- The ends, which are no pair yet and alike, become one.
-    edge-grown : (v : List ℕ) (r : ℕ) → t ≡ false
-        → ((o p : Listing) → InMemory (memory ot on ol) o → InGroups (memory nt nn nl) groups p → State (o .program) (p .program) limit w c → a < nodeCount (o .program) → b < nodeCount (p .program)
-        → c ≤ limit → alike (o .program) (p .program) a b ≡ true)
-        → Sized w v (Grows limit w c a b v r) → Sized w v (TriesEdge (memory ot on ol) (memory nt nn nl) groups limit w c e m v r)
-    unfolding TriesEdge Grows Has
-    edge-grown v r y like q =
+  new-end : (p : Listing) → InMemory (memory nt nn nl) p → f < edgeCount (p .program) → b ≡ targetAt (p .program) f
+  new-end p g j = d′ ∙ target-is (memory nt nn nl) p g f j
+
+  pub ends-there : t ≡ true → Sized w w (TriesEnds (memory ot on ol) (memory nt nn nl) groups limit w c e f w c)
+  unfolding TriesEnds Has
+  ends-there y =
+      record {
+        size = refl;
+        claim = λ o p h g s i j k z x.
+            let fm = formed-in _ _ o p h (g .memory) in
+            let m = old-end o h i in
+            let n = new-end p (g .memory) j in
+            step-none s (λ l.
+            let there : listed (pairsIn w c) (targetAt (o .program) e) (targetAt (p .program) f) ≡ true = rw (← m, ← n) (sym (has c (s .kept l .store)) ∙ y) in
+            record {
+              ends = λ _. there;
+              danger = λ u. absurd (both-ways (pair-alike (o .program) (p .program) (fm .old-formed) (fm .new-formed) (s .kept l .sound _ _ there)) u);
+            });
+      }
+
+  -- The ends, which are no pair yet and alike, become one.
+  ends-grown : (v : List ℕ) (r : ℕ) → t ≡ false
+      → ((o p : Listing) → InMemory (memory ot on ol) o → InGroups (memory nt nn nl) groups p → State (o .program) (p .program) limit w c → a < nodeCount (o .program) → b < nodeCount (p .program)
+      → c ≤ limit → alike (o .program) (p .program) a b ≡ true)
+      → Sized w v (Grows limit w c a b v r) → Sized w v (TriesEnds (memory ot on ol) (memory nt nn nl) groups limit w c e f v r)
+  unfolding TriesEnds Grows Has
+  ends-grown v r y like q =
+      record {
+        size = q .size;
+        claim = λ o p h g s i j k z x.
+            let fm = formed-in _ _ o p h (g .memory) in
+            let m = old-end o h i in
+            let n = new-end p (g .memory) j in
+            let word = one-word (o .program) (p .program) (fm .old-formed) (fm .new-formed) e f i j k in
+            let alike-ends : c ≤ limit → alike (o .program) (p .program) (targetAt (o .program) e) (targetAt (p .program) f) ≡ true
+            = λ l. rw (← m, ← n) (like o p h g s (rw m (fm .old-formed .targets e i)) (rw n (fm .new-formed .targets f j)) l) in
+            let grown = q .claim (o .program) (p .program) fm s (λ l. rw (m, n) (edge-ends {e = e} {e′ = f} z x (word .0) (word .1) (word .2) (alike-ends l)))
+            (λ l. sym (has c (s .kept l .store)) ∙ y) in
+            step-shows grown (λ l. record { ends = λ _. rw (← m, ← n) (grown .done l); danger = λ u. absurd (both-ways (alike-ends (omega (arith, grown .more))) u) });
+      }
+
+  module _ (u : Bool) (like : Alike (memory ot on ol) (memory nt nn nl) a b u) where
+    pub ends-unlike : (v : List ℕ) → u ≡ false → DangerMarked w e v → Sized w v (TriesEnds (memory ot on ol) (memory nt nn nl) groups limit w c e f v c)
+    unfolding TriesEnds Alike
+    ends-unlike v y q =
         record {
           size = q .size;
-          claim = λ o p h gs s i z x.
-              let g = gs .memory in
-              let f = formed-in _ _ o p h g in
-              let k = takes o p h g i (pair-inside f z .1) (omega arith) in
+          claim = λ o p h g s i j k z x.
+              let fm = formed-in _ _ o p h (g .memory) in
               let m = old-end o h i in
-              let n = new-end p g (k .below) in
-              let fit : c ≤ limit → fits (o .program) (p .program) e (place - 1) ≡ true
-              = λ l. fits-of (o .program) (p .program) e (place - 1) (k .word)
-              (rw (← m, ← n) (like o p h gs s (rw m (f .old-formed .targets e i)) (rw n (f .new-formed .targets (place - 1) (k .below))) l)) in
-              let ends : c ≤ limit → Pair (o .program) (p .program) (targetAt (o .program) e) (targetAt (p .program) (place - 1))
-              = λ l. edge-ends {e = e} {e′ = place - 1} (rw (k .source) z) (rw (k .source) x) i (k .below) (fit l) in
-              let grown = q .claim (o .program) (p .program) f s (λ l. rw (m, n) (ends l)) (λ l. sym (has c (s .kept l .store)) ∙ y) in
-              step-shows grown (λ l. edge-done (f .new-formed) _ _ k (fit (omega (arith, grown .more))) (rw (← m, ← n) (grown .done l)));
+              let n = new-end p (g .memory) j in
+              let unlike : alike (o .program) (p .program) (targetAt (o .program) e) (targetAt (p .program) f) ≡ false
+              = rw (← m, ← n) (sym (like o p h (g .memory) (rw m (fm .old-formed .targets e i)) (rw n (fm .new-formed .targets f j))) ∙ y) in
+              step-mark fm s
+              (danger-of (o .program) (p .program) (fm .old-formed) (fm .new-formed) e _ i z x (ends-unfitted (o .program) (p .program) e _ f j refl k unlike)) q
+              (λ _ t. record { ends = λ v. absurd (both-ways v unlike); danger = λ _. t });
         }
 
-    module _ (u : Bool) (like : Alike (memory ot on ol) (memory nt nn nl) a b u) where
-      pub edge-unlike : (v : List ℕ) → u ≡ false → DangerMarked w e v → Sized w v (TriesEdge (memory ot on ol) (memory nt nn nl) groups limit w c e m v c)
-      unfolding TriesEdge Alike
-      edge-unlike v y q =
-          record {
-            size = q .size;
-            claim = λ o p h gs s i z x.
-                let g = gs .memory in
-                let f = formed-in _ _ o p h g in
-                let k = takes o p h g i (pair-inside f z .1) (omega arith) in
-                let m = old-end o h i in
-                let n = new-end p g (k .below) in
-                let l = like o p h g (rw m (f .old-formed .targets e i)) (rw n (f .new-formed .targets (place - 1) (k .below))) in
-                edge-danger f s i z x
-                (λ d b r t.
-                let e′ : d ≡ place - 1 = takes-once (f .new-formed) k (record { below = b; source = r; word = fits-word (o .program) (p .program) e d t }) in
-                both-ways (l ∙ rw (m, n) (fits-ends (o .program) (p .program) e (place - 1) (subst (λ (j : ℕ). fits (o .program) (p .program) e j ≡ true) e′ t))) y)
-                q;
-          }
+    pub ends-new : (v : List ℕ) (r : ℕ) → t ≡ false → u ≡ true → Sized w v (Grows limit w c a b v r) → Sized w v (TriesEnds (memory ot on ol) (memory nt nn nl) groups limit w c e f v r)
+    unfolding Alike
+    ends-new v r y y′ q = ends-grown v r y (λ o p h g s i j l. sym (like o p h (g .memory) i j) ∙ y′) q
 
-      pub edge-new : (v : List ℕ) (r : ℕ) → t ≡ false → u ≡ true → Sized w v (Grows limit w c a b v r) → Sized w v (TriesEdge (memory ot on ol) (memory nt nn nl) groups limit w c e m v r)
-      unfolding Alike
-      edge-new v r y y′ q = edge-grown v r y (λ o p h g s i j l. sym (like o p h (g .memory) i j) ∙ y′) q
+  pub ends-known : (u : Bool) (v : List ℕ) (r : ℕ) → t ≡ false → Known w groups a b u → u ≡ true → Sized w v (Grows limit w c a b v r)
+      → Sized w v (TriesEnds (memory ot on ol) (memory nt nn nl) groups limit w c e f v r)
+  unfolding Known
+  ends-known u v r y known y′ q =
+      ends-grown v r y
+      (λ o p h g s i j l.
+      let fm = formed-in _ _ o p h (g .memory) in
+      known (o .program) (p .program) c (s .kept l .store) (g .groups)
+      (λ x z k. let pair = s .kept l .sound x z k in (pair-alike (o .program) (p .program) (fm .old-formed) (fm .new-formed) pair, pair-inside fm pair .1)) j y′) q
 
-    pub edge-known : (u : Bool) (v : List ℕ) (r : ℕ) → t ≡ false → Known w groups a b u → u ≡ true → Sized w v (Grows limit w c a b v r)
-        → Sized w v (TriesEdge (memory ot on ol) (memory nt nn nl) groups limit w c e m v r)
-    unfolding Known
-    edge-known u v r y known y′ q =
-        edge-grown v r y
-        (λ o p h g s i j l.
-        let f = formed-in _ _ o p h (g .memory) in
-        known (o .program) (p .program) c (s .kept l .store) (g .groups)
-        (λ x z k. let pair = s .kept l .sound x z k in (pair-alike (o .program) (p .program) (f .old-formed) (f .new-formed) pair, pair-inside f pair .1)) j y′) q
-
-pub ruleset edges = (edge-none, edge-there, edge-known, edge-unlike, edge-new)
+pub ruleset ends = (lost-marked, lost-none, ends-there, ends-known, ends-unlike, ends-new)

@@ -1,5 +1,5 @@
 -- The turns of the loops, and the returns of the functions over them, as `search` finds them: the premises are what the code holds there.
-use mathlib.Core.Path.{_≡_, refl, sym, ap, _∙_, subst, subst₂}
+use mathlib.Core.Path.{_≡_, refl, sym, ap, ap₂, _∙_, subst, subst₂}
 use mathlib.Core.Logic.{⊎-elim}
 use mathlib.Core.Bool.{Bool, true, false, not, false≢true}
 use mathlib.Core.List.{List}
@@ -12,7 +12,7 @@ use Rattle.laws.specs.Tests.{listed}
 use Rattle.laws.specs.TestLaws.{below-suc, both-ways, fails}
 use Rattle.laws.specs.Lists.{choose-yes, choose-no}
 use Rattle.laws.specs.Slices.{below-or, same-or}
-use Rattle.laws.specs.Chain.{Walk, walk-start, walk-step, walk-end}
+use Rattle.laws.specs.Chain.{Walk, latest, walk-start, walk-step, walk-end}
 use Rattle.rules.specs.Graph.{C, Program, called, edgeCount, entry, exit, kindAt, kindNumber, sameKind, sourceAt}
 use Rattle.rules.specs.Closing.{MayGoOn, Pair, callee-entries, first-entries, pairs}
 use Rattle.rules.specs.ProgramFile.{Listing}
@@ -26,12 +26,88 @@ use Rattle.pairset.specs.StoreLaws.{listed-at, listed-of}
 use Rattle.versions.specs.Memory.{InMemory, Memory, memory}
 use Rattle.versions.specs.MemoryLaws.{callees-are, edges-chained, kind-is}
 use Rattle.versions.specs.Called.{CalleesAt, at-end, at-here, at-next, callee-is, fewer-callees}
+use Rattle.versions.specs.Opposite.{FindsBefore, LastOpposite, OppositeBefore, opposites, side-at, side-of, sideOf}
 use Rattle.versions.specs.Groups.{Groups, InGroups, Regrouped, grouped-none}
-use Rattle.closure.specs.State.{AllDone, AllEntered, CallDone, CalleeDone, Claim, EachDone, EdgeDone, EdgesDone, Entered, Lasts, MetAt, MetTo, OnDone, PairDone, PairFollowed, State, Step, Turn}
-use Rattle.closure.specs.Step.{done-lasts, edge-lasts, entered-done, entered-lasts, entries-lasts, followed-lasts, met-lasts, pair-inside, state-none, step-lasts, step-map, step-none, step-same, step-shows, step-then}
+use Rattle.closure.specs.State.{AllDone, AllEntered, CallDone, CalleeDone, Claim, EachDone, EdgeDone, EdgesDone, EndsDone, Entered, Lasts, MetAt, MetTo, OnDone, PairDone, PairFollowed, State, Step, Turn}
+use Rattle.closure.specs.Step.{done-lasts, edge-lasts, ends-lasts, entered-done, entered-lasts, entries-lasts, followed-lasts, lost-lasts, met-lasts, pair-inside, state-none, step-lasts, step-map, step-none, step-same, step-shows, step-then}
 use Rattle.closure.specs.Full.{all-counted, all-dangers, all-same}
-use Rattle.closure.specs.Claims.{AddsEntries, Closes, Enters, EntersCallee, EntersCallees, Finds, Follows, Passes, Sized, TriesEdge, Visits}
-use Rattle.closure.proofs.Laws.{formed-in}
+use Rattle.closure.specs.Claims.{AddsEntries, Closes, Enters, EntersCallee, EntersCallees, Finds, Follows, MarksLost, Passes, Sized, TriesEdge, TriesEnds, Visits}
+use Rattle.closure.proofs.Laws.{edge-done, formed-in}
+
+-- ---- `try_edge`
+
+-- At the place: the edges of m from it on that are opposite to e were tried.
+pub record TriedTo (old new : Program) (limit : ℕ) (w₀ : List ℕ) (c₀ e m : ℕ) (w : List ℕ) (c place : ℕ) : Type 0 where
+  pub step : Step old new limit w₀ c₀ (λ M _. M ≡ M) w c
+  pub walk : Walk (λ f. c ≤ limit → EndsDone old new e f (pairsIn w c) (dangerIn w)) (sideOf old new e m) 0 (edgeCount new) place
+
+unfoldable pub Trying : Memory → Memory → List ℕ → ℕ → List ℕ → ℕ → ℕ → ℕ → List ℕ → ℕ → ℕ → Type 0
+Trying a b t limit w₀ c₀ e m w c place =
+    (o p : Listing) → InMemory a o → InGroups b t p → State (o .program) (p .program) limit w₀ c₀ → e < edgeCount (o .program)
+    → Pair (o .program) (p .program) (sourceAt (o .program) e) m → MayGoOn (o .program) (p .program) (sourceAt (o .program) e) m
+    → TriedTo (o .program) (p .program) limit w₀ c₀ e m w c place
+
+-- The walk goes down.
+pub try-less : (ol nl : List ℕ) (e f r place : ℕ) → 0 < place → f ≡ place - 1 → OppositeBefore ol nl e f r → r < place
+try-less ol nl e f r place pos d q = omega (arith, q .below)
+
+module _ (ot on ol nt nn nl groups : List ℕ) (limit : ℕ) (w₀ : List ℕ) (c₀ e m : ℕ) where
+  pub try-start : (last : ℕ) → LastOpposite ol nl e m last → Sized w₀ w₀ (Trying (memory ot on ol) (memory nt nn nl) groups limit w₀ c₀ e m w₀ c₀ last)
+  unfolding Trying LastOpposite
+  try-start last q =
+      record {
+        size = refl;
+        claim = λ o p h g s i y z.
+            let j = pair-inside (formed-in _ _ o p h (g .memory)) y in
+            record {
+              step = step-none s (λ _. refl);
+              walk = rw (q ot on nt nn o p h (g .memory) i (j .1)) (walk-start (opposites (o .program) (p .program) e m) 0 (omega arith));
+            };
+      }
+
+  module _ (w : List ℕ) (c place : ℕ) (inv : Sized w₀ w (Trying (memory ot on ol) (memory nt nn nl) groups limit w₀ c₀ e m w c place)) where
+    pub try-on : (f : ℕ) (v : List ℕ) (r x : ℕ) → 0 < place → f ≡ place - 1 → Sized w v (TriesEnds (memory ot on ol) (memory nt nn nl) groups limit w c e f v r)
+        → OppositeBefore ol nl e f x → Sized w₀ v (Trying (memory ot on ol) (memory nt nn nl) groups limit w₀ c₀ e m v r x)
+    unfolding Trying TriesEnds Lasts FindsBefore
+    try-on f v r x pos d t q =
+        record {
+          size = t .size ∙ inv .size;
+          claim = λ o p h g s i y z.
+              let k = inv .claim o p h g s i y z in
+              let l : f < edgeCount (p .program) = omega (arith, k .walk .within) in
+              let own : sideOf (o .program) (p .program) e m f ≡ 0 = ap (sideOf (o .program) (p .program) e m) d ∙ k .walk .owner pos in
+              let side = side-at (o .program) (p .program) e m f own in
+              let j = t .claim o p h g (k .step .state) i l (side .1) (rw (side .0) y) (rw (side .0) z) in
+              let next : x ≡ latest (sideOf (o .program) (p .program) e m) (sideOf (o .program) (p .program) e m (place - 1)) (place - 1)
+              = q .finds ot on nt nn o p h (g .memory) i l m own
+              ∙ ap₂ (latest (sideOf (o .program) (p .program) e m)) (sym (k .walk .owner pos)) d in
+              record {
+                step = step-then (λ M S N T _ _. refl) (k .step) j (λ _ _. refl);
+                walk = rw next
+                    (walk-step (opposites (o .program) (p .program) e m) {Q = λ f. r ≤ limit → EndsDone (o .program) (p .program) e f (pairsIn v r) (dangerIn v)} (k .walk) pos
+                    (λ f u b. step-lasts j _ (ends-lasts (o .program) (p .program) e f) b (u (omega (arith, j .more))))
+                    (rw (← d) (j .done)));
+              };
+        }
+
+  pub try-end : (u w : List ℕ) (c place last : ℕ) → LastOpposite ol nl e m last → Sized w₀ u (MarksLost ol nl w₀ e m last u)
+      → Sized u w (Trying (memory ot on ol) (memory nt nn nl) groups limit u c₀ e m w c place) → place ≤ 0
+      → Sized w₀ w (TriesEdge (memory ot on ol) (memory nt nn nl) groups limit w₀ c₀ e m w c)
+  unfolding Trying TriesEdge MarksLost LastOpposite
+  try-end u w c place last q lost inv z =
+      record {
+        size = inv .size ∙ lost .size;
+        claim = λ o p h g s i y x.
+            let j = pair-inside (formed-in _ _ o p h (g .memory)) y in
+            let a = lost .claim ot on nt nn o p h (g .memory) limit c₀ s i y x (q ot on nt nn o p h (g .memory) i (j .1)) in
+            let b = inv .claim o p h g (a .state) i y x in
+            step-then (lost-lasts (o .program) (p .program) e m) a
+            (step-shows (b .step) {E = λ M S. (f : ℕ) → f < edgeCount (p .program) → sideOf (o .program) (p .program) e m f ≡ 0 → EndsDone (o .program) (p .program) e f M S}
+            (λ few f l own. walk-end (b .walk) z f l own few))
+            (λ t each. edge-done (o .program) (p .program) e m _ _ t (λ f l own k. each f l (side-of (o .program) (p .program) e m f own k)));
+      }
+
+pub ruleset tries = (try-less, try-start, try-on, try-end)
 
 -- ---- `follow`
 

@@ -8,14 +8,15 @@ use lib.Dec.{leb}
 use lib.ListN.{length}
 use Rattle.laws.specs.Tests.{choose, has, listed}
 use Rattle.rules.specs.Graph.{Program, edgeCount, entry, procCount, sourceAt}
-use Rattle.rules.specs.Closing.{MayGoOn, Pair, dangers, pairs}
+use Rattle.rules.specs.Closing.{MayGoOn, Pair, dangers, pairs, sameWord}
 use Rattle.rules.specs.ProgramFile.{Listing}
 use Rattle.pairset.specs.Store.{dangerIn, newAt, oldAt, pairBase, pairsIn}
 use Rattle.versions.specs.Memory.{InMemory, Memory, memory}
 use Rattle.versions.specs.Called.{CalleesAt}
+use Rattle.versions.specs.Opposite.{oppositeBelow}
 use Rattle.versions.specs.PairsHeld.{PairsHeld}
 use Rattle.versions.specs.Groups.{InGroups}
-use Rattle.closure.specs.State.{AllDone, CalleeDone, EdgeDone, EdgesDone, Entered, EntriesDone, Formed, PairDone, PairFollowed, State, Step, Turn}
+use Rattle.closure.specs.State.{AllDone, CalleeDone, EdgeDone, EdgesDone, EndsDone, Entered, EntriesDone, Formed, LostDone, PairDone, PairFollowed, State, Step, Turn}
 
 -- A claim, and the table as long as it was.
 pub record Sized (w v : List ℕ) (X : Type 0) : Type 0 where
@@ -54,7 +55,22 @@ Enters on ol nn nl limit w c n m v r settled =
     (ot nt : List ℕ) (o p : Listing) → InMemory (memory ot on ol) o → InMemory (memory nt nn nl) p → State (o .program) (p .program) limit w c → Pair (o .program) (p .program) n m
     → Step (o .program) (p .program) limit w c (Entered (o .program) (p .program) n m settled) v r
 
+-- `mark_lost`: the old edge e is marked if the new node m takes no edge for its word, where their pair may go on and `last` is what `last_opposite` answers.
+unfoldable pub MarksLost : List ℕ → List ℕ → List ℕ → ℕ → ℕ → ℕ → List ℕ → Type 0
+MarksLost ol nl w e m last v =
+    (ot on nt nn : List ℕ) (o p : Listing) → InMemory (memory ot on ol) o → InMemory (memory nt nn nl) p → (limit c : ℕ) → State (o .program) (p .program) limit w c
+    → e < edgeCount (o .program) → Pair (o .program) (p .program) (sourceAt (o .program) e) m → MayGoOn (o .program) (p .program) (sourceAt (o .program) e) m
+    → last ≡ oppositeBelow (o .program) (p .program) e m (edgeCount (p .program)) → Step (o .program) (p .program) limit w c (LostDone (o .program) (p .program) e m) v c
+
 module _ (a b : Memory) (t : List ℕ) (limit : ℕ) (w : List ℕ) where
+  -- `try_ends`: rule 3 for the old edge e and the new edge f, which are opposite and leave a pair that may go on.
+  unfoldable pub TriesEnds : ℕ → ℕ → ℕ → List ℕ → ℕ → Type 0
+  TriesEnds c e f v r =
+      (o p : Listing) → InMemory a o → InGroups b t p → State (o .program) (p .program) limit w c → e < edgeCount (o .program) → f < edgeCount (p .program)
+      → sameWord (o .program) (p .program) e f ≡ true → Pair (o .program) (p .program) (sourceAt (o .program) e) (sourceAt (p .program) f)
+      → MayGoOn (o .program) (p .program) (sourceAt (o .program) e) (sourceAt (p .program) f)
+      → Step (o .program) (p .program) limit w c (EndsDone (o .program) (p .program) e f) v r
+
   -- `try_edge`: rule 3 for the old edge e and the new node m, where their pair may go on.
   unfoldable pub TriesEdge : ℕ → ℕ → ℕ → List ℕ → ℕ → Type 0
   TriesEdge c e m v r =

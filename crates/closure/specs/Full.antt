@@ -9,26 +9,33 @@ use Rattle.laws.specs.Tests.{has, listed}
 use Rattle.laws.specs.TestLaws.{same-test}
 use Rattle.rules.specs.Graph.{Program, sourceAt}
 use Rattle.rules.specs.Closing.{Dangerous, Pair, dangers, pairs}
-use Rattle.rules.specs.Proofs.Closure.{dangers-iff, goesOn-of, least, pairs-ascend, pairs-complete, pairs-sound}
+use Rattle.rules.specs.Proofs.Closure.{danger-unfitted, dangers-iff, goesOn-of, least, pairs-ascend, pairs-complete, pairs-sound}
+use Rattle.rules.specs.Proofs.ClosingLaws.{danger-old, fits-of, word-one}
+use Rattle.rules.specs.Proofs.GraphLaws.{taken-at}
 use Rattle.pairset.specs.Store.{dangerIn, pairsIn}
 use Rattle.pairset.specs.StoreLaws.{pairs-count}
 use Rattle.closure.specs.Once.{once-ascending, pigeonhole}
 use Rattle.closure.specs.State.{AllDone, CallDone, EachDone, EdgesDone, EntriesDone, Formed, Kept, OnDone}
 
-module _ {old new : Program} where
+module _ {old new : Program} (fm : Formed old new) where
   pub all-listed : {M : List (ℕ × ℕ)} {S : ℕ → Bool} → AllDone old new M S → {a b : ℕ} → Pair old new a b → listed M a b ≡ true
   unfolding EntriesDone EachDone CallDone OnDone EdgesDone
   all-listed {M} {S} d =
       least old new (λ a b. listed M a b ≡ true) (d .start)
       (λ n m l k k′ i b x. d .each n m l .call k k′ i b x)
-      (λ e f l x h h′ t. d .each (sourceAt old e) (sourceAt new f) l .on (goesOn-of old new M _ _ x) e h refl .ends f h′ refl t)
+      (λ n m e f l x w t t′ a.
+      let u = taken-at old n w e t in
+      let u′ = taken-at new m w f t′ in
+      d .each n m l .on (goesOn-of old new M n m x) e (u .0) (u .1) .ends f (u′ .0) (u′ .1)
+      (fits-of old new e f (word-one old new (fm .old-formed) (fm .new-formed) n m e f w t t′) a))
 
   all-marked : {M : List (ℕ × ℕ)} {S : ℕ → Bool} → AllDone old new M S → {e : ℕ} → Dangerous old new e → S e ≡ true
   unfolding EachDone OnDone EdgesDone
   all-marked {M} {S} d {e} x =
-      d .each (sourceAt old e) (x .partner) (all-listed d (x .pair)) .on (goesOn-of old new M _ _ (λ k i l. all-listed d (x .mayGoOn k i l))) e (x .isOld) refl .danger (x .unfit)
+      d .each (sourceAt old e) (x .partner) (all-listed d (x .pair)) .on (goesOn-of old new M _ _ (λ k i l. all-listed d (x .mayGoOn k i l))) e (danger-old old new x) refl
+      .danger (danger-unfitted old new (fm .old-formed) (fm .new-formed) x)
 
-  module _ {w : List ℕ} {c : ℕ} (fm : Formed old new) (k : Kept old new w c) (d : AllDone old new (pairsIn w c) (dangerIn w)) where
+  module _ {w : List ℕ} {c : ℕ} (k : Kept old new w c) (d : AllDone old new (pairsIn w c) (dangerIn w)) where
     -- As many pairs, and the same.
     pub all-counted : c ≡ length (pairs old new)
     all-counted =
@@ -36,11 +43,11 @@ module _ {old new : Program} where
         (subst (λ (n : ℕ). n ≤ length (pairs old new)) (pairs-count w c)
         (pigeonhole (pairs old new) (k .once) (λ a b t. pairs-complete old new (fm .old-formed) (fm .new-formed) (k .sound a b t))))
         (subst (λ (n : ℕ). length (pairs old new) ≤ n) (pairs-count w c)
-        (pigeonhole (pairsIn w c) (once-ascending (pairs-ascend old new)) (λ a b t. all-listed d (pairs-sound old new a b t))))
+        (pigeonhole (pairsIn w c) (once-ascending (pairs-ascend old new)) (λ a b t. all-listed d (pairs-sound old new (fm .old-formed) (fm .new-formed) a b t))))
 
     pub all-same : (a b : ℕ) → listed (pairsIn w c) a b ≡ listed (pairs old new) a b
     all-same a b =
-        same-test _ _ (λ t. pairs-complete old new (fm .old-formed) (fm .new-formed) (k .sound a b t)) (λ t. all-listed d (pairs-sound old new a b t))
+        same-test _ _ (λ t. pairs-complete old new (fm .old-formed) (fm .new-formed) (k .sound a b t)) (λ t. all-listed d (pairs-sound old new (fm .old-formed) (fm .new-formed) a b t))
 
     pub all-dangers : (e : ℕ) → dangerIn w e ≡ has (dangers old new) e
     all-dangers e =

@@ -1,13 +1,13 @@
 -- What the search for the pairs keeps: the pairs and the dangerous edges found so far, a step that adds some, a turn of a pass, and when a list and a set have the
 -- three rules.
 use mathlib.Core.Path.{_≡_}
-use mathlib.Core.Bool.{Bool, true}
+use mathlib.Core.Bool.{Bool, false, true}
 use mathlib.Core.List.{List}
 use Prim.Native.Nat.{ℕ, _+_, _*_, _≤_, _<_}
 use lib.ListN.{length}
-use Rattle.laws.specs.Tests.{listed}
-use Rattle.rules.specs.Graph.{C, Program, WellFormed, calleeCount, called, edgeCount, entry, exit, kindAt, nodeCount, sourceAt, targetAt}
-use Rattle.rules.specs.Closing.{Dangerous, ExitsMet, Pair, fits, goesOn, pairs}
+use Rattle.laws.specs.Tests.{listed, some?}
+use Rattle.rules.specs.Graph.{C, Program, WellFormed, calleeCount, called, edgeCount, edgeTaken, entry, exit, kindAt, nodeCount, sourceAt, targetAt, wordAt}
+use Rattle.rules.specs.Closing.{Dangerous, ExitsMet, Pair, alike, fits, fitted, goesOn, pairs}
 use Rattle.pairset.specs.Store.{Store, dangerIn, newAt, oldAt, pairBase, pairsIn}
 use Rattle.closure.specs.Once.{Once}
 
@@ -63,14 +63,19 @@ module _ (old new : Program) where
 
   -- ---- the rules within a list M, and the dangerous edges within a set S
 
-  -- No edge of the new node m fits the old edge e.
-  abbrev pub Unfit : ℕ → ℕ → Type 0
-  Unfit e m = (f : ℕ) → f < edgeCount new → sourceAt new f ≡ m → fits old new e f ≡ true → ⊥
+  -- The old edge e and the new edge f, where they are opposite: if the ends are alike, they are listed, and if not, e is in the set.
+  pub record EndsDone (e f : ℕ) (M : List (ℕ × ℕ)) (S : ℕ → Bool) : Type 0 where
+    pub ends : alike old new (targetAt old e) (targetAt new f) ≡ true → listed M (targetAt old e) (targetAt new f) ≡ true
+    pub danger : alike old new (targetAt old e) (targetAt new f) ≡ false → S e ≡ true
 
-  -- The old edge e and the new node m: for each edge of m that fits e the ends are listed, and if none does, e is in the set; for the edges of the old node n.
+  -- If the new node m takes no edge for the word of the old edge e, e is in the set.
+  unfoldable pub LostDone : ℕ → ℕ → Claim
+  LostDone e m M S = some? (edgeTaken new m (wordAt old e)) ≡ false → S e ≡ true
+
+  -- The old edge e and the new node m: for each edge of m that fits e the ends are listed, and if e is not fitted, it is in the set; for the edges of the old node n.
   pub record EdgeDone (e m : ℕ) (M : List (ℕ × ℕ)) (S : ℕ → Bool) : Type 0 where
     pub ends : (f : ℕ) → f < edgeCount new → sourceAt new f ≡ m → fits old new e f ≡ true → listed M (targetAt old e) (targetAt new f) ≡ true
-    pub danger : Unfit e m → S e ≡ true
+    pub danger : fitted old new e m ≡ false → S e ≡ true
 
   unfoldable pub EdgesDone : ℕ → ℕ → Claim
   EdgesDone n m M S = (e : ℕ) → e < edgeCount old → sourceAt old e ≡ n → EdgeDone e m M S

@@ -16,10 +16,11 @@ use Rattle.laws.specs.Slices.{below-or, same-or}
 use Rattle.rules.specs.Graph.{Program, nodeCount}
 use Rattle.rules.specs.Closing.{Dangerous, Pair, pairs}
 use Rattle.rules.specs.Proofs.Closure.{pairs-complete, pairs-inside}
+use Rattle.rules.specs.Proofs.ClosingLaws.{danger-old}
 use Rattle.pairset.specs.Store.{Appended, Appends, DangerMarked, MarksDanger, Store, dangerIn, newAt, oldAt, pairBase, pairsIn}
 use Rattle.pairset.specs.StoreLaws.{listed-at, listed-of, listed-snoc, no-pairs, pairs-agree, pairs-count}
 use Rattle.closure.specs.Once.{once-none, once-snoc, pigeonhole}
-use Rattle.closure.specs.State.{AllEntered, CallDone, Claim, EdgeDone, EdgesDone, EntriesDone, Formed, Kept, Lasts, MetTo, OnDone, PairDone, PairFollowed, State, Step, Within}
+use Rattle.closure.specs.State.{AllEntered, CallDone, Claim, EdgeDone, EdgesDone, EndsDone, EntriesDone, Formed, Kept, Lasts, LostDone, MetTo, OnDone, PairDone, PairFollowed, State, Step, Within}
 
 -- ---- nothing found yet
 
@@ -45,6 +46,14 @@ pair-inside {old} {new} {a} {b} f p = pairs-inside old new a b (pairs-complete o
 -- ---- what lasts as list and set grow
 
 module _ (old new : Program) where
+  pub ends-lasts : (e f : ℕ) → Lasts (EndsDone old new e f)
+  unfolding Lasts
+  ends-lasts e f M S N T h d = record { ends = λ t. h .list _ _ (d .ends t); danger = λ u. h .set e (d .danger u) }
+
+  pub lost-lasts : (e m : ℕ) → Lasts (LostDone old new e m)
+  unfolding Lasts LostDone
+  lost-lasts e m M S N T h d u = h .set e (d u)
+
   pub edge-lasts : (e m : ℕ) → Lasts (EdgeDone old new e m)
   unfolding Lasts
   edge-lasts e m M S N T h d = record { ends = λ f l s t. h .list _ _ (d .ends f l s t); danger = λ u. h .set e (d .danger u) }
@@ -218,7 +227,7 @@ module _ {old new : Program} {limit : ℕ} where
       }
     where
       marks : c ≤ limit → Store v c × ((k : ℕ) → (oldAt v k ≡ oldAt w k) × (newAt v k ≡ newAt w k)) × ((i : ℕ) → dangerIn v i ≡ (eqb e i or dangerIn w i))
-      marks l = x .marks c (s .kept l .store) (omega (arith, d .isOld, fm .few-edges))
+      marks l = x .marks c (s .kept l .store) (omega (arith, danger-old old new d, fm .few-edges))
 
       kept : c ≤ limit → Kept old new v c
       kept l =

@@ -13,9 +13,11 @@ ghost use Rattle.closure.specs.Claims.{
   Finds,
   Follows,
   Grows,
+  MarksLost,
   Passes,
   Sized,
   TriesEdge,
+  TriesEnds,
   Visits,
 };
 
@@ -148,9 +150,56 @@ fn enter(
     enter_callees(ol, nl, limit, w, had, k, l)
 }
 
-// Rule 3 for the old edge e and the new node m, whose pair may go on: if m has no edge with the word of e, or the ends are not alike, e is
-// dangerous. Ends that are a pair already are alike, and are not compared again; nor are those that are known to be alike by the groups of the
-// new nodes.
+// Rule 3 for the old edge e and the new edge f, which are opposite (taken for one word) and leave a pair that may go on: if the ends are not
+// alike, e is dangerous. Ends that are a pair already are alike, and are not compared again; nor are those that are known to be alike by the groups
+// of the new nodes.
+fn try_ends(
+    ot: &[u8],
+    on: &[usize],
+    ol: &[usize],
+    nt: &[u8],
+    nn: &[usize],
+    nl: &[usize],
+    groups: &[usize],
+    limit: usize,
+    w: &mut [usize],
+    count: usize,
+    e: usize,
+    f: usize,
+) -> usize
+    requires { ⌜ limit ≤ 4096 ⌝ }
+    ensures { λ r. ⌜ Sized (now (w .entry)) (now (w .exit))
+        (TriesEnds
+        (memory (now (ot .entry)) (now (on .entry)) (now (ol .entry)))
+        (memory (now (nt .entry)) (now (nn .entry)) (now (nl .entry)))
+        (now (groups .entry)) limit (now (w .entry)) count e f (now (w .exit)) r) ⌝ }
+{
+    let a = versions::target(ol, e);
+    let b = versions::target(nl, f);
+    if pairset::has(w, a, b) {
+        return count;
+    }
+    if versions::known_alike(w, groups, a, b) {
+        return grow(limit, w, count, a, b);
+    }
+    if versions::alike(ot, on, ol, nt, nn, nl, a, b) {
+        return grow(limit, w, count, a, b);
+    }
+    pairset::mark_danger(w, e);
+    count
+}
+
+// Marks the old edge e as dangerous if the new node m takes no edge for its word, where `last` is what `last_opposite` found.
+fn mark_lost(ol: &[usize], nl: &[usize], w: &mut [usize], e: usize, m: usize, last: usize)
+    ensures { λ _. ⌜ Sized (now (w .entry)) (now (w .exit)) (MarksLost (now (ol .entry)) (now (nl .entry)) (now (w .entry)) e m last (now (w .exit))) ⌝ }
+{
+    if versions::word_lost(ol, nl, e, m, last) {
+        pairset::mark_danger(w, e);
+    }
+}
+
+// Rule 3 for the old edge e and the new node m, whose pair may go on: if m takes no edge for the word of e, e is dangerous; then each edge of m that
+// is opposite to e. Only `*` has several.
 fn try_edge(
     ot: &[u8],
     on: &[usize],
@@ -172,24 +221,16 @@ fn try_edge(
         (memory (now (nt .entry)) (now (nn .entry)) (now (nl .entry)))
         (now (groups .entry)) limit (now (w .entry)) count e m (now (w .exit)) r) ⌝ }
 {
-    let place = versions::taken(ol, nl, e, m);
-    if place == 0 {
-        pairset::mark_danger(w, e);
-        return count;
+    let last = versions::last_opposite(ol, nl, e, m);
+    mark_lost(ol, nl, w, e, m, last);
+    let mut total = count;
+    let mut place = last;
+    while 0 < place {
+        let f = place - 1;
+        total = try_ends(ot, on, ol, nt, nn, nl, groups, limit, w, total, e, f);
+        place = versions::opposite_before(ol, nl, e, f);
     }
-    let a = versions::target(ol, e);
-    let b = versions::target(nl, place - 1);
-    if pairset::has(w, a, b) {
-        return count;
-    }
-    if versions::known_alike(w, groups, a, b) {
-        return grow(limit, w, count, a, b);
-    }
-    if versions::alike(ot, on, ol, nt, nn, nl, a, b) {
-        return grow(limit, w, count, a, b);
-    }
-    pairset::mark_danger(w, e);
-    count
+    total
 }
 
 // Rule 3 for the pair (n, m), which may go on: each edge of the old node.
@@ -344,13 +385,15 @@ fn repeat(
 // limit; what the table holds then is left open.
 //
 // The worst case. A pass visits each pair once; a visit looks up the entries and the exits of at most 4 callees, and tries the edges of the old
-// node, at most 8. A try compares the edge's word with those of the new node, at most 8, and looks the pair of ends up by its bit; labels are
-// compared only for ends that are no pair yet, and not known to be alike by the groups. There is at most one pass more than old procedures; one
-// pass is enough where no call waits for its exits. A pass leaves out only what stands behind calls that wait, so one that adds a pair, after the
-// first, does so from a call that waited for the exits of a callee, which became a pair in the pass before; the callees i of a pair have one
-// name, so there are at most as many such passes as old procedures. If there are as many, the exits of every callee are a pair before the last of
-// them, in which so no call waits, and no pass follows it. Otherwise one pass more, which adds nothing, is the last. At the limits of the files
-// that is at most 65 * 4,096 * 8 tries.
+// node, at most 8. A try looks the edge's word up among those of the new node, at most 8, and if it is not there, `*`; it finds at most one opposite
+// edge. A try of `*`, which a node has at most once, looks the word of each edge of the new node up among those of the old node in this way, and `*`
+// among those of the new node; it finds at most 8. So a visit sets at most 15 pairs of ends against each other. A pair of ends is looked up by its
+// bit; labels are compared only for ends that are no pair yet, and not known to be alike by the groups. There is at most one pass more than old
+// procedures; one pass is enough where no call waits for its exits. A pass leaves out only what stands behind calls that wait, so one that adds a
+// pair, after the first, does so from a call that waited for the exits of a callee, which became a pair in the pass before; the callees i of a pair
+// have one name, so there are at most as many such passes as old procedures. If there are as many, the exits of every callee are a pair before the
+// last of them, in which so no call waits, and no pass follows it. Otherwise one pass more, which adds nothing, is the last. At the limits of the
+// files that is at most 65 * 4,096 * 8 tries, and 65 * 4,096 * 15 pairs of ends.
 pub fn close(
     ot: &[u8],
     on: &[usize],

@@ -1,93 +1,60 @@
 use borrow.Author.Needs.{needs}
 use Rattle.closure.proofs.All.{all}
+use Rattle.versions.specs.Memory.{memory}
+use Rattle.closure.specs.Claims.{Sized}
+use Rattle.closure.proofs.Turns.{Trying}
 use Rattle.closure.proofs.try_edge.Statement.{statement}
 use Rattle.closure.proofs.try_edge.Tie as tie
 
-taken-requires : tie.Need-taken-requires
-taken-requires c κs = search needs
+abbrev Inv-loop : tie.InvT-loop
+Inv-loop ot on ol nt nn nl groups limit w₀ count e m last total₀ place₀ w total place = Sized w₀ w (Trying (memory ot on ol) (memory nt nn nl) groups limit w₀ total₀ e m w total place)
 
-mark-danger-requires : tie.Need-mark-danger-requires
-mark-danger-requires c κs = search needs
+abbrev μ-loop : tie.MeasureT-loop
+μ-loop ot on ol nt nn nl groups limit w₀ count e m last total₀ place₀ w total place = place
 
-same-length : tie.Need-same-length
-same-length c = search needs
+last-opposite-requires : tie.Need-last-opposite-requires Inv-loop μ-loop
+last-opposite-requires c κs = search (all, needs)
 
-returns : tie.Need-returns
+mark-lost-requires : tie.Need-mark-lost-requires Inv-loop μ-loop
+mark-lost-requires c κs = search (all, needs)
+
+loop-holds : tie.Need-loop-holds Inv-loop μ-loop
+loop-holds c = search (all, needs)
+
+sub-f : tie.Need-sub-f Inv-loop μ-loop
+sub-f c = search (all, needs)
+
+try-ends-requires : tie.Need-try-ends-requires Inv-loop μ-loop
+try-ends-requires c κs = search (all, needs)
+
+opposite-before-requires : tie.Need-opposite-before-requires Inv-loop μ-loop
+opposite-before-requires c κs = search (all, needs)
+
+loop-less : tie.Need-loop-less Inv-loop μ-loop
+loop-less c = search (all, needs)
+
+loop-again : tie.Need-loop-again Inv-loop μ-loop
+loop-again c = search (all, needs)
+
+same-length : tie.Need-same-length Inv-loop μ-loop
+same-length c = search (all, needs)
+
+returns : tie.Need-returns Inv-loop μ-loop
 returns c = search (all, needs)
-
-target-requires : tie.Need-target-requires
-target-requires c κs = search needs
-
-sub-target : tie.Need-sub-target
-sub-target c = search needs
-
-target-requires-2 : tie.Need-target-requires-2
-target-requires-2 c κs = search needs
-
-has-requires : tie.Need-has-requires
-has-requires c κs = search needs
-
-same-length-2 : tie.Need-same-length-2
-same-length-2 c = search needs
-
-returns-2 : tie.Need-returns-2
-returns-2 c = search (all, needs)
-
-known-alike-requires : tie.Need-known-alike-requires
-known-alike-requires c κs = search needs
-
-grow-requires : tie.Need-grow-requires
-grow-requires c κs = search needs
-
-same-length-3 : tie.Need-same-length-3
-same-length-3 c = search needs
-
-returns-3 : tie.Need-returns-3
-returns-3 c = search (all, needs)
-
-alike-requires : tie.Need-alike-requires
-alike-requires c κs = search needs
-
-grow-requires-2 : tie.Need-grow-requires-2
-grow-requires-2 c κs = search needs
-
-same-length-4 : tie.Need-same-length-4
-same-length-4 c = search needs
-
-returns-4 : tie.Need-returns-4
-returns-4 c = search (all, needs)
-
-mark-danger-requires-2 : tie.Need-mark-danger-requires-2
-mark-danger-requires-2 c κs = search needs
-
-same-length-5 : tie.Need-same-length-5
-same-length-5 c = search needs
-
-returns-5 : tie.Need-returns-5
-returns-5 c = search (all, needs)
 
 pub try-edge-spec : {M : Type 1} → statement M
 try-edge-spec =
     tie.close
     (tie.spec
-    taken-requires
-    mark-danger-requires
+    Inv-loop
+    μ-loop
+    last-opposite-requires
+    mark-lost-requires
+    loop-holds
+    sub-f
+    try-ends-requires
+    opposite-before-requires
+    loop-less
+    loop-again
     same-length
-    returns
-    target-requires
-    sub-target
-    target-requires-2
-    has-requires
-    same-length-2
-    returns-2
-    known-alike-requires
-    grow-requires
-    same-length-3
-    returns-3
-    alike-requires
-    grow-requires-2
-    same-length-4
-    returns-4
-    mark-danger-requires-2
-    same-length-5
-    returns-5)
+    returns)
