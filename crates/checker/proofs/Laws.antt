@@ -5,18 +5,17 @@ use mathlib.Core.List.{List, []}
 use Prim.Native.Nat.{ℕ, _+_, _-_, _≤_, _<_}
 use native.Mathlib.Numerals.{add-one}
 use native.Mathlib.Omega.{arith}
-use lib.Dec.{eqb}
 use lib.ListN.{getD, length}
 use borrow.Author.Tests.{eq-eqb, eqb-true, ne-eqb}
-use Rattle.laws.specs.Tests.{_and_, _or_, _⇒_, allPairs, any, choose, every, found, first, has, listed}
-use Rattle.laws.specs.TestLaws.{and-both, and-left, and-right, any-at, any-of, both-ways, every-at, every-of, every-skip, fails, implied, implies, or-left, same-test}
-use Rattle.laws.specs.Chain.{Walk, walk-end, walk-start, walk-step}
+use Rattle.laws.specs.Tests.{_and_, _or_, _⇒_, allPairs, choose, every, has, isnt, listed, some?}
+use Rattle.laws.specs.TestLaws.{and-both, and-left, and-right, both-ways, every-at, every-of, every-skip, fails, implied, implies, isnt-false, isnt-true, or-left, yes-and}
+use Rattle.laws.specs.Chain.{Walk, latest, walk-end, walk-start, walk-step}
 use Rattle.laws.specs.Bits.{bitIn}
-use Rattle.rules.specs.Graph.{calleeCount, edgeCount, nodeCount, sourceAt, targetAt}
+use Rattle.rules.specs.Graph.{calleeCount, edgeCount, edgeTaken, nodeCount, sourceAt, targetAt, wordAt}
 use Rattle.rules.specs.ProgramFile.{Listing}
-use Rattle.rules.specs.Closing.{Coverage, bothCall, goesOn, meets, sameWord}
+use Rattle.rules.specs.Closing.{Coverage, bothCall, goesOn, keptBy, meets}
 use Rattle.rules.specs.Sheet.{Sheet}
-use Rattle.rules.specs.Check.{edgeKept, edgesKept, entered, enteredAt, keeps, rule1, rule5}
+use Rattle.rules.specs.Check.{edgeKept, edgesKept, entered, enteredAt, rule1, rule5}
 use Rattle.graph.specs.Table.{edgeBase, headBase, procBase}
 use Rattle.graph.specs.Reads.{upTo}
 use Rattle.graph.proofs.Laws.{before-less}
@@ -26,10 +25,9 @@ use Rattle.coverage.specs.Rows.{rowMeets}
 use Rattle.coverage.specs.RowLaws.{meets-are}
 use Rattle.versions.specs.Memory.{Memory, memory}
 use Rattle.versions.specs.MemoryLaws.{edges-chained, entry-is, sound, target-is, well-formed}
-use Rattle.versions.specs.Found.{found-none}
-use Rattle.versions.specs.Claims.{Alike, Entered, GoesOn, Taken}
-use Rattle.versions.proofs.Laws.{one-taken}
-use Rattle.checker.specs.Rules.{AllKeep, AllKept, Claimed, Covered, EdgeKept, EdgesKept, PairKeeps, Rule1, Rule5, TestKept, edgeAllowed, pairRule}
+use Rattle.versions.specs.Claims.{Alike, Entered, GoesOn}
+use Rattle.versions.specs.Opposite.{FindsBefore, LastOpposite, OppositeBefore, WordLost, opposite, oppositeBelow, opposites, side-at, side-of, sideOf}
+use Rattle.checker.specs.Rules.{AllKeep, AllKept, Claimed, Covered, EdgeKept, EdgesKept, EndsListed, OppositesListed, PairKeeps, Rule1, Rule5, TestKept, edgeAllowed, oppositesListed, pairRule}
 
 -- ---- `rule1`
 
@@ -46,6 +44,81 @@ rule1-is ol nl w a b r ea eb h ot nt on nn sets m o p s c =
     (ea ∙ entry-is (memory ot on ol) o (c .old-in) 0 (well-formed (memory ot on ol) o (c .old-in) .begins))
     (eb ∙ entry-is (memory nt nn nl) p (c .new-in) 0 (well-formed (memory nt nn nl) p (c .new-in) .begins))
 
+-- ---- `ends_listed`
+
+pub ends-are : (ol nl w : List ℕ) (e f a b : ℕ) (r : Bool) → a ≡ getD ol (edgeBase e + 3) 0 → b ≡ getD nl (edgeBase f + 3) 0 → Has w a b r → EndsListed ol nl w e f r
+unfolding EndsListed
+ends-are ol nl w e f a b r ea eb h ot on nt nn sets m o p s c i j =
+    listed-is _ _ w sets m o p s c a b r h
+    ∙ ap₂ (λ (x y : ℕ). listed (s .M) x y) (ea ∙ target-is (memory ot on ol) o (c .old-in) e i) (eb ∙ target-is (memory nt nn nl) p (c .new-in) f j)
+
+-- ---- `opposites_listed`
+
+-- The ends are listed for the opposite edges from the place on.
+unfoldable pub ListedFrom : List ℕ → List ℕ → List ℕ → ℕ → ℕ → ℕ → Type 0
+ListedFrom ol nl w e last place =
+    (ot on nt nn sets : List ℕ) (m : ℕ) (o p : Listing) (s : Sheet) → Claimed (memory ot on ol) (memory nt nn nl) w sets m o p s → e < edgeCount (o .program)
+    → (k : ℕ) → last ≡ oppositeBelow (o .program) (p .program) e k (edgeCount (p .program))
+    → Walk (λ f. listed (s .M) (targetAt (o .program) e) (targetAt (p .program) f) ≡ true) (sideOf (o .program) (p .program) e k) 0 (edgeCount (p .program)) place
+
+module _ (ol nl w : List ℕ) (e last : ℕ) where
+  pub opposites-first : ListedFrom ol nl w e last last
+  unfolding ListedFrom
+  opposites-first ot on nt nn sets m o p s c i k h =
+      subst (λ (x : ℕ). Walk (λ f. listed (s .M) (targetAt (o .program) e) (targetAt (p .program) f) ≡ true) (sideOf (o .program) (p .program) e k) 0 (edgeCount (p .program)) x) (sym h)
+      (walk-start (opposites (o .program) (p .program) e k) 0 (omega arith))
+
+  module _ (place : ℕ) (inv : ListedFrom ol nl w e last place) where
+    pub opposites-last : place ≤ 0 → OppositesListed ol nl w e last true
+    unfolding OppositesListed ListedFrom oppositesListed opposite
+    opposites-last z ot on nt nn sets m o p s c i k h =
+        sym (every-of (λ f. opposite (o .program) (p .program) e k f ⇒ listed (s .M) (targetAt (o .program) e) (targetAt (p .program) f)) (edgeCount (p .program))
+        (λ f l.
+        implies _ _ (λ q.
+        walk-end (inv ot on nt nn sets m o p s c i k h) z f l (side-of (o .program) (p .program) e k f (eqb-true _ _ (and-left _ _ q)) (and-right _ _ q)))))
+
+    module _ (f : ℕ) (t : Bool) (pos : 0 < place) (ef : f ≡ place - 1) (et : EndsListed ol nl w e f t) where
+      -- The edge at the place is opposite, and the test says whether the ends are listed.
+      opposite-place : (ot on nt nn sets : List ℕ) (m : ℕ) (o p : Listing) (s : Sheet) → Claimed (memory ot on ol) (memory nt nn nl) w sets m o p s → e < edgeCount (o .program)
+          → (k : ℕ) → last ≡ oppositeBelow (o .program) (p .program) e k (edgeCount (p .program))
+          → (f < edgeCount (p .program)) × (sideOf (o .program) (p .program) e k f ≡ 0) × (t ≡ listed (s .M) (targetAt (o .program) e) (targetAt (p .program) f))
+      unfolding ListedFrom EndsListed
+      opposite-place ot on nt nn sets m o p s c i k h =
+          let x = inv ot on nt nn sets m o p s c i k h in
+          let l : f < edgeCount (p .program) = omega (arith, x .within) in
+          (l, ap (sideOf (o .program) (p .program) e k) ef ∙ x .owner pos, et ot on nt nn sets m o p s c i l)
+
+      pub opposites-broken : t ≡ false → OppositesListed ol nl w e last false
+      unfolding OppositesListed oppositesListed opposite
+      opposites-broken z ot on nt nn sets m o p s c i k h =
+          let x = opposite-place ot on nt nn sets m o p s c i k h in
+          let y = side-at (o .program) (p .program) e k f (x .1) in
+          sym (fails _ (λ a.
+          both-ways
+          (x .2
+          ∙ implied _ _
+          (every-at (λ g. opposite (o .program) (p .program) e k g ⇒ listed (s .M) (targetAt (o .program) e) (targetAt (p .program) g)) (edgeCount (p .program)) a f (x .0))
+          (and-both (eq-eqb _ _ (y .0)) (y .1)))
+          z))
+
+      pub opposites-on : (next : ℕ) → t ≡ true → OppositeBefore ol nl e f next → ListedFrom ol nl w e last next
+      unfolding ListedFrom FindsBefore
+      opposites-on next y en ot on nt nn sets m o p s c i k h =
+          let x = opposite-place ot on nt nn sets m o p s c i k h in
+          let key : ℕ → ℕ = sideOf (o .program) (p .program) e k in
+          let P : ℕ → Type 0 = λ g. listed (s .M) (targetAt (o .program) e) (targetAt (p .program) g) ≡ true in
+          subst (λ (u : ℕ). Walk P key 0 (edgeCount (p .program)) u)
+          (ap (λ (u : ℕ). latest key (key u) u) (sym ef)
+          ∙ ap (λ (u : ℕ). latest key u f) (x .1)
+          ∙ sym (en .finds ot on nt nn o p (c .old-in) (c .new-in) i (x .0) k (x .1)))
+          (walk-step (opposites (o .program) (p .program) e k) {P = P} {Q = P} (inv ot on nt nn sets m o p s c i k h) pos (λ u q. q) (subst P ef (sym (x .2) ∙ y)))
+
+-- The walk leads down.
+pub opposites-down : (ol nl : List ℕ) (e place f next : ℕ) → 0 < place → f ≡ place - 1 → OppositeBefore ol nl e f next → next < place
+opposites-down ol nl e place f next pos ef h = omega (arith, h .below)
+
+pub ruleset listings = (ends-are, opposites-first, opposites-last, opposites-broken, opposites-on, opposites-down)
+
 -- ---- `edge_kept`
 
 module _ (ol nl w sets : List ℕ) (e k : ℕ) (t : Bool) (et : t ≡ bitIn sets e) where
@@ -57,44 +130,33 @@ module _ (ol nl w sets : List ℕ) (e k : ℕ) (t : Bool) (et : t ≡ bitIn sets
   unfolding EdgeKept edgeAllowed
   kept-listed y ot on nt nn m o p s c i j = sym (or-left _ (bit-listed ot on nt nn m o p s c i ∙ y))
 
-  module _ (n : t ≡ false) (x : ℕ) (ex : Taken ol nl e k x) where
+  module _ (n : t ≡ false) (last : ℕ) (el : LastOpposite ol nl e k last) (x : Bool) (ex : WordLost ol nl e k last x) where
+    -- The two terms that are left: the new node takes an edge for the word, and the ends are listed for each opposite edge.
     allowed-is : (ot on nt nn : List ℕ) (m : ℕ) (o p : Listing) (s : Sheet) → Claimed (memory ot on ol) (memory nt nn nl) w sets m o p s → e < edgeCount (o .program)
-        → edgeAllowed (o .program) (p .program) s k e ≡ any (edgeCount (p .program)) (keeps (o .program) (p .program) s k e)
-    unfolding edgeAllowed _or_
-    allowed-is ot on nt nn m o p s c i = ap (λ (b : Bool). b or any (edgeCount (p .program)) (keeps (o .program) (p .program) s k e)) (bit-listed ot on nt nn m o p s c i ∙ n)
+        → edgeAllowed (o .program) (p .program) s k e ≡ (some? (edgeTaken (p .program) k (wordAt (o .program) e)) and oppositesListed (o .program) (p .program) s k e)
+    unfolding edgeAllowed keptBy oppositesListed opposite _or_
+    allowed-is ot on nt nn m o p s c i = ap (λ (b : Bool). b or keptBy (o .program) (p .program) (listed (s .M)) e k) (bit-listed ot on nt nn m o p s c i ∙ n)
 
-    -- The new node has no such word.
-    pub kept-none : x < 1 → EdgeKept ol nl w sets e k false
-    unfolding EdgeKept Taken keeps
-    kept-none z ot on nt nn m o p s c i j =
+    lost-is : (ot on nt nn : List ℕ) (m : ℕ) (o p : Listing) (s : Sheet) → Claimed (memory ot on ol) (memory nt nn nl) w sets m o p s → e < edgeCount (o .program) → k < nodeCount (p .program)
+        → isnt (some? (edgeTaken (p .program) k (wordAt (o .program) e))) ≡ x
+    unfolding LastOpposite WordLost
+    lost-is ot on nt nn m o p s c i j = sym (ex ot on nt nn o p (c .old-in) (c .new-in) i j (el ot on nt nn o p (c .old-in) (c .new-in) i j))
+
+    -- The new node takes no edge for the word.
+    pub kept-lost : x ≡ true → EdgeKept ol nl w sets e k false
+    unfolding EdgeKept _and_
+    kept-lost y ot on nt nn m o p s c i j =
         sym (allowed-is ot on nt nn m o p s c i
-        ∙ fails _ (λ a.
-        let r = any-at (keeps (o .program) (p .program) s k e) (edgeCount (p .program)) a in
-        let q : found (first (edgeCount (p .program)) (λ f. eqb (sourceAt (p .program) f) k and sameWord (o .program) (p .program) e f)) ≡ 0
-        = omega (arith, ex ot on nt nn o p (c .old-in) (c .new-in) i j) in
-        found-none (λ f. eqb (sourceAt (p .program) f) k and sameWord (o .program) (p .program) e f) (edgeCount (p .program)) q (r .0) (r .1)
-        (and-both (and-left _ _ (r .2)) (and-left _ _ (and-right _ _ (r .2))))))
+        ∙ ap (λ (b : Bool). b and oppositesListed (o .program) (p .program) s k e) (isnt-true _ (lost-is ot on nt nn m o p s c i j ∙ y)))
 
-    -- It has one edge with the word: the ends of that one are listed, or none are.
-    pub kept-ends : (a b y : ℕ) (r : Bool) → 1 ≤ x → a ≡ getD ol (edgeBase e + 3) 0 → y ≡ x - 1 → b ≡ getD nl (edgeBase y + 3) 0 → Has w a b r → EdgeKept ol nl w sets e k r
-    unfolding EdgeKept keeps
-    kept-ends a b y r l ea ey eb h ot on nt nn m o p s c i j =
-        let q = one-taken ot on ol nt nn nl e k x ex (λ z. let b : ⊥ = omega arith in b) o p (c .old-in) (c .new-in) i j in
-        let is : r ≡ listed (s .M) (targetAt (o .program) e) (targetAt (p .program) (x - 1)) =
-        listed-is _ _ w sets m o p s c a b r h
-        ∙ ap₂ (λ (u v : ℕ). listed (s .M) u v)
-        (ea ∙ target-is (memory ot on ol) o (c .old-in) e i)
-        (eb ∙ ap (λ (u : ℕ). getD nl (edgeBase u + 3) 0) ey ∙ target-is (memory nt nn nl) p (c .new-in) (x - 1) (q .0)) in
-        let there : r ≡ true → any (edgeCount (p .program)) (keeps (o .program) (p .program) s k e) ≡ true
-        = λ u. any-of (keeps (o .program) (p .program) s k e) (edgeCount (p .program)) (x - 1) (q .0) (and-both (eq-eqb _ _ (q .1)) (and-both (q .2) (sym is ∙ u))) in
-        let back : any (edgeCount (p .program)) (keeps (o .program) (p .program) s k e) ≡ true → r ≡ true
-        = λ u.
-        let f = any-at (keeps (o .program) (p .program) s k e) (edgeCount (p .program)) u in
-        let only : f .0 ≡ x - 1 = q .3 (f .0) (f .1) (eqb-true _ _ (and-left _ _ (f .2))) (and-left _ _ (and-right _ _ (f .2))) in
-        is ∙ ap (λ (g : ℕ). listed (s .M) (targetAt (o .program) e) (targetAt (p .program) g)) (sym only) ∙ and-right _ _ (and-right _ _ (f .2)) in
-        same-test r _ there back ∙ sym (allowed-is ot on nt nn m o p s c i)
+    -- It takes one: the ends decide.
+    pub kept-ends : (r : Bool) → x ≡ false → OppositesListed ol nl w e last r → EdgeKept ol nl w sets e k r
+    unfolding EdgeKept OppositesListed LastOpposite
+    kept-ends r y h ot on nt nn m o p s c i j =
+        h ot on nt nn sets m o p s c i k (el ot on nt nn o p (c .old-in) (c .new-in) i j)
+        ∙ sym (allowed-is ot on nt nn m o p s c i ∙ yes-and _ (isnt-false _ (lost-is ot on nt nn m o p s c i j ∙ y)))
 
-pub ruleset kept = (kept-listed, kept-none, kept-ends)
+pub ruleset kept = (kept-listed, kept-lost, kept-ends)
 
 -- ---- `all_kept`
 

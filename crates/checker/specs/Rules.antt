@@ -5,15 +5,16 @@ use mathlib.Core.List.{List, []}
 use Prim.Native.Nat.{ℕ, _<_}
 use lib.Dec.{eqb}
 use lib.ListN.{getD, length}
-use Rattle.laws.specs.Tests.{_or_, _⇒_, allPairs, any, choose, every, has, listed}
+use Rattle.laws.specs.Tests.{_or_, _⇒_, allPairs, choose, every, has, listed}
 use Rattle.rules.specs.Text.{Bytes}
-use Rattle.rules.specs.Graph.{Program, edgeCount, nodeCount}
+use Rattle.rules.specs.Graph.{Program, edgeCount, nodeCount, targetAt}
 use Rattle.rules.specs.ProgramFile.{Listing}
-use Rattle.rules.specs.Closing.{Coverage, alike, meets}
+use Rattle.rules.specs.Closing.{Coverage, alike, keptBy, meets}
 use Rattle.rules.specs.Sheet.{Sheet}
-use Rattle.rules.specs.Check.{broken, edgeKept, edgesKept, entered, keeps, rule1, rule5}
+use Rattle.rules.specs.Check.{broken, edgeKept, edgesKept, entered, rule1, rule5}
 use Rattle.coverage.specs.Rows.{Row}
 use Rattle.versions.specs.Memory.{InMemory, Memory, memory}
+use Rattle.versions.specs.Opposite.{opposite, oppositeBelow}
 use Rattle.sheet_reader.specs.Claims.{ClaimsHeld}
 
 -- Two programs in memory, and the claims of a sheet in its tables, whose pairs and edges are theirs.
@@ -35,9 +36,24 @@ Rule1 ol nl w r =
     (ot nt : Bytes) (on nn sets : List ℕ) (m : ℕ) (o p : Listing) (s : Sheet) → Claimed (memory ot on ol) (memory nt nn nl) w sets m o p s
     → r ≡ rule1 (o .program) (p .program) s
 
--- `edge_kept`: the old edge e is listed under D, or the new node k has its word and the ends are listed.
+-- `ends_listed`: the ends of the old edge e and the new edge f are listed.
+unfoldable pub EndsListed : List ℕ → List ℕ → List ℕ → ℕ → ℕ → Bool → Type 0
+EndsListed ol nl w e f r =
+    (ot on nt nn sets : List ℕ) (m : ℕ) (o p : Listing) (s : Sheet) → Claimed (memory ot on ol) (memory nt nn nl) w sets m o p s → e < edgeCount (o .program) → f < edgeCount (p .program)
+    → r ≡ listed (s .M) (targetAt (o .program) e) (targetAt (p .program) f)
+
+-- `opposites_listed`: they are for each edge of the new node k that is opposite to the old edge e, where `last` is what `last_opposite` answers for them.
+unfoldable pub oppositesListed : Program → Program → Sheet → ℕ → ℕ → Bool
+oppositesListed old new s k e = every (edgeCount new) (λ f. opposite old new e k f ⇒ listed (s .M) (targetAt old e) (targetAt new f))
+
+unfoldable pub OppositesListed : List ℕ → List ℕ → List ℕ → ℕ → ℕ → Bool → Type 0
+OppositesListed ol nl w e last r =
+    (ot on nt nn sets : List ℕ) (m : ℕ) (o p : Listing) (s : Sheet) → Claimed (memory ot on ol) (memory nt nn nl) w sets m o p s → e < edgeCount (o .program)
+    → (k : ℕ) → last ≡ oppositeBelow (o .program) (p .program) e k (edgeCount (p .program)) → r ≡ oppositesListed (o .program) (p .program) s k e
+
+-- `edge_kept`: the old edge e is listed under D, or, for every word for which it is taken, the new node k takes an edge and the ends are listed.
 unfoldable pub edgeAllowed : Program → Program → Sheet → ℕ → ℕ → Bool
-edgeAllowed old new s k e = has (s .D) e or any (edgeCount new) (keeps old new s k e)
+edgeAllowed old new s k e = has (s .D) e or keptBy old new (listed (s .M)) e k
 
 unfoldable pub EdgeKept : List ℕ → List ℕ → List ℕ → List ℕ → ℕ → ℕ → Bool → Type 0
 EdgeKept ol nl w sets e k r =

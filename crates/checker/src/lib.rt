@@ -10,7 +10,9 @@ ghost use Rattle.checker.specs.Rules.{
   AllKept,
   EdgeKept,
   EdgesKept,
+  EndsListed,
   Judges,
+  OppositesListed,
   PairKeeps,
   Rule1,
   Rule5,
@@ -28,20 +30,45 @@ fn rule1(ol: &[usize], nl: &[usize], w: &[usize]) -> bool
     pairset::has(w, a, b)
 }
 
-// Whether the old edge e is listed under D, or the new node k has its word and the ends are listed.
+// Of rule 4: whether the ends of the old edge e and the new edge f are listed.
+fn ends_listed(ol: &[usize], nl: &[usize], w: &[usize], e: usize, f: usize) -> bool
+    ensures { λ r. ⌜ EndsListed (now (ol .entry)) (now (nl .entry)) (now (w .entry)) e f r ⌝ }
+{
+    let a = versions::target(ol, e);
+    let b = versions::target(nl, f);
+    pairset::has(w, a, b)
+}
+
+// The last term of rule 4: whether the ends are listed for each edge of a new node that is opposite to the old edge e, where `last` is what
+// `versions::last_opposite` found.
+fn opposites_listed(ol: &[usize], nl: &[usize], w: &[usize], e: usize, last: usize) -> bool
+    ensures { λ r. ⌜ OppositesListed (now (ol .entry)) (now (nl .entry)) (now (w .entry)) e last r ⌝ }
+{
+    let mut place = last;
+    while 0 < place {
+        let f = place - 1;
+        if ends_listed(ol, nl, w, e, f) {
+            place = versions::opposite_before(ol, nl, e, f);
+        } else {
+            return false;
+        }
+    }
+    true
+}
+
+// Rule 4 of the old edge e at the new node k: e is listed under D, or, for every word for which it is taken, k takes an edge and the ends are
+// listed.
 fn edge_kept(ol: &[usize], nl: &[usize], w: &[usize], sets: &[u64], e: usize, k: usize) -> bool
     ensures { λ r. ⌜ EdgeKept (now (ol .entry)) (now (nl .entry)) (now (w .entry)) (now (sets .entry)) e k r ⌝ }
 {
     if coverage::in_set(sets, e) {
         return true;
     }
-    let t = versions::taken(ol, nl, e, k);
-    if t < 1 {
+    let last = versions::last_opposite(ol, nl, e, k);
+    if versions::word_lost(ol, nl, e, k, last) {
         return false;
     }
-    let a = versions::target(ol, e);
-    let b = versions::target(nl, t - 1);
-    pairset::has(w, a, b)
+    opposites_listed(ol, nl, w, e, last)
 }
 
 // Whether each edge of the old node n is kept at the new node k.

@@ -1,6 +1,5 @@
 use borrow.Author.Needs.{needs}
 use Rattle.checker.proofs.All.{all}
-use Prim.Native.Nat.{_-_}
 use Rattle.checker.proofs.Laws.{KeptFrom}
 use Rattle.checker.proofs.all_kept.Statement.{statement}
 use Rattle.checker.proofs.all_kept.Tie as tie

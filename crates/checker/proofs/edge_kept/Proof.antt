@@ -9,20 +9,17 @@ in-set-requires c κs = search needs
 returns : tie.Need-returns
 returns c = search (all, needs)
 
-taken-requires : tie.Need-taken-requires
-taken-requires c κs = search needs
+last-opposite-requires : tie.Need-last-opposite-requires
+last-opposite-requires c κs = search needs
+
+word-lost-requires : tie.Need-word-lost-requires
+word-lost-requires c κs = search needs
 
 returns-2 : tie.Need-returns-2
 returns-2 c = search (all, needs)
 
-target-requires : tie.Need-target-requires
-target-requires c κs = search needs
-
-target-requires-2 : tie.Need-target-requires-2
-target-requires-2 c κs = search needs
-
-has-requires : tie.Need-has-requires
-has-requires c κs = search needs
+opposites-listed-requires : tie.Need-opposites-listed-requires
+opposites-listed-requires c κs = search needs
 
 returns-3 : tie.Need-returns-3
 returns-3 c = search (all, needs)
@@ -33,9 +30,8 @@ edge-kept-spec =
     (tie.spec
     in-set-requires
     returns
-    taken-requires
+    last-opposite-requires
+    word-lost-requires
     returns-2
-    target-requires
-    target-requires-2
-    has-requires
+    opposites-listed-requires
     returns-3)
