@@ -2,7 +2,7 @@
 //! that generated jobs must meet.
 
 use crate::independent::after::Doubt;
-use crate::independent::closing::{called, Closing, Graph, Leaving};
+use crate::independent::closing::{called, compare, Closing, Graph};
 use crate::independent::program::Kind;
 use crate::independent::suite::{edges, holds, meet, Edges};
 
@@ -157,7 +157,7 @@ impl<'g> Shown<'g> {
         }
     }
 
-    /// Dangers by whether the new node has the word.
+    /// Dangers by whether the new node takes an edge for the word.
     fn tell_dangers(&self, tell: &mut impl FnMut(&'static str, bool)) {
         let (mut gone, mut started) = (Vec::new(), Vec::new());
         let pairs = &self.closing.pairs;
@@ -166,14 +166,14 @@ impl<'g> Shown<'g> {
             if !exits.all(|(n, m)| pairs.contains(n, m)) {
                 continue;
             }
-            for edge in self.old.leaving(n) {
-                let same = |other: &&Leaving| other.word == edge.word;
-                match self.new.leaving(m).iter().find(same) {
+            compare(self.old.leaving(n), self.new.leaving(m), |edge, other| {
+                match other {
                     None => gone.push(edge.edge),
                     Some(other) if other.class != edge.class => started.push(edge.edge),
                     _ => (),
                 }
-            }
+                true
+            });
         }
         tell(WORD_GONE, !gone.is_empty());
         tell(ONE_START, gone.iter().any(|edge| started.contains(edge)));

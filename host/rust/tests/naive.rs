@@ -184,6 +184,35 @@ impl Program<'_> {
         let callees = callees(field).into_iter();
         callees.map(|name| self.end(number(name), kind)).collect()
     }
+
+    /// The edges of a node, each with its word.
+    fn leaving(&self, node: usize) -> Vec<(Field<'_>, usize)> {
+        let edges = self.edges.iter().enumerate().filter(|(_, e)| e.0 == node);
+        edges.map(|(at, e)| (e.1, at)).collect()
+    }
+}
+
+/// The edge of a node that is taken for a word: the one that has it, or else
+/// `*`.
+fn taken(leaving: &[(Field, usize)], word: Field) -> Option<usize> {
+    let of = |word: Field| leaving.iter().find(|edge| edge.0 == word);
+    of(word).or_else(|| of(b"*")).map(|edge| edge.1)
+}
+
+/// A word that no file can name, as it has nine bytes: it stands for all words
+/// that neither of two nodes names.
+const NO_WORD: Field = b"no_branch";
+
+/// For each word for which the old node takes an edge that edge, and the one
+/// that the new node takes.
+fn compared(old: &Program, new: &Program, (n, m): Pair) -> Vec<(usize, Option<usize>)> {
+    let (leaving, others) = (old.leaving(n), new.leaving(m));
+    let words = leaving.iter().chain(&others).map(|edge| edge.0);
+    let edges = words.chain([NO_WORD]).filter_map(|word| {
+        let edge = taken(&leaving, word)?;
+        Some((edge, taken(&others, word)))
+    });
+    edges.collect()
 }
 
 type Pair = (usize, usize);
@@ -269,7 +298,7 @@ type Edges = BTreeSet<usize>;
 struct Closed {
     pairs: Pairs,
     dangers: Edges,
-    /// New edges with the word of a dangerous edge where it is dangerous.
+    /// New edges taken for a word that makes a danger.
     starts: Edges,
     /// Counterparts.
     joined: BTreeSet<(usize, usize)>,
@@ -287,11 +316,11 @@ fn close(old: &Program, new: &Program) -> Option<Closed> {
             if !may_go_on(old, new, &pairs, (n, m)) {
                 continue;
             }
-            for (e, edge) in old.edges.iter().enumerate().filter(|(_, e)| e.0 == n) {
-                let other = new.edges.iter().position(|f| f.0 == m && f.1 == edge.1);
+            for (e, other) in compared(old, new, (n, m)) {
+                let end = old.edges[e].2;
                 match other {
-                    Some(f) if alike(old.nodes[edge.2], new.nodes[new.edges[f].2]) => {
-                        found.insert((edge.2, new.edges[f].2));
+                    Some(f) if alike(old.nodes[end], new.nodes[new.edges[f].2]) => {
+                        found.insert((end, new.edges[f].2));
                         joined.insert((e, f));
                     }
                     other => {
@@ -539,9 +568,9 @@ fn claims(
         if !may_go_on(old, new, pairs, (n, m)) {
             continue;
         }
-        for (e, edge) in old.edges.iter().enumerate().filter(|(_, e)| e.0 == n) {
-            let other = new.edges.iter().find(|f| f.0 == m && f.1 == edge.1);
-            let listed = other.is_some_and(|f| pairs.contains(&(edge.2, f.2)));
+        for (e, other) in compared(old, new, (n, m)) {
+            let ends = |f: usize| (old.edges[e].2, new.edges[f].2);
+            let listed = other.is_some_and(|f| pairs.contains(&ends(f)));
             if !listed && !dangers.contains(&e) {
                 return broken(4);
             }

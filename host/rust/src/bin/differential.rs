@@ -13,7 +13,7 @@ use rivetyellow_host::generate::labels::parts;
 use rivetyellow_host::generate::random::Random;
 use rivetyellow_host::generate::sheets::{label, lists};
 use rivetyellow_host::generate::{self, Generated};
-use rivetyellow_host::independent::closing::{self, called, Closing, Graph, Pairs};
+use rivetyellow_host::independent::closing::{self, called, compare, Closing, Graph, Pairs};
 use rivetyellow_host::independent::job::Job;
 use rivetyellow_host::independent::program::Kind;
 use rivetyellow_host::independent::suite::meet;
@@ -174,14 +174,12 @@ impl Statistics {
             if waits_at(old, new, &closed.pairs, (n, m)).is_some() {
                 continue;
             }
-            for edge in old.leaving(n) {
-                let mut others = new.leaving(m).iter();
-                if let Some(other) = others.find(|other| other.word == edge.word) {
-                    if other.class != edge.class {
-                        self.near(old, new, edge.end, other.end);
-                    }
+            compare(old.leaving(n), new.leaving(m), |edge, other| {
+                if let Some(other) = other.filter(|other| other.class != edge.class) {
+                    self.near(old, new, edge.end, other.end);
                 }
-            }
+                true
+            });
         }
     }
 

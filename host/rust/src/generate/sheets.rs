@@ -2,7 +2,7 @@
 
 use super::model::{joined, Bytes, Sheet};
 use super::random::Random;
-use crate::independent::closing::{called, Graph};
+use crate::independent::closing::{called, compare, Graph};
 use crate::independent::job::Job;
 use crate::independent::suite::holds;
 use std::collections::BTreeSet;
@@ -115,17 +115,17 @@ fn close(
             if !old.callees(n).is_empty() {
                 calls.push((n, m));
             }
-            for edge in old.leaving(n) {
-                for other in new.leaving(m) {
+            compare(old.leaving(n), new.leaving(m), |edge, other| {
+                if let Some(other) = other.filter(|other| other.class == edge.class) {
                     let ends = (edge.end, other.end);
-                    let joined = edge.word == other.word && edge.class == other.class;
                     // Also above the limit: whoever made the list asks how long
                     // it is.
-                    if joined && kept(ends.0, ends.1) && pairs.insert(wide(ends)) {
+                    if kept(ends.0, ends.1) && pairs.insert(wide(ends)) {
                         work.push(wide(ends));
                     }
                 }
-            }
+                true
+            });
         }
         for &call in &calls {
             for (entries, exits) in called(old, new, call) {
@@ -148,15 +148,12 @@ fn complete(job: &Job, old: &Graph, new: &Graph, sheet: &mut Sheet) {
         if !called(old, new, (n, m)).all(|(_, exits)| met(exits)) {
             continue;
         }
-        for edge in old.leaving(n) {
-            let listed = new.leaving(m).iter().any(|other| {
-                let ends = (edge.end as usize, other.end as usize);
-                other.word == edge.word && sheet.pairs.contains(&ends)
-            });
-            if !listed {
+        compare(old.leaving(n), new.leaving(m), |edge, other| {
+            if !other.is_some_and(|other| met((edge.end, other.end))) {
                 sheet.dangers.insert(edge.edge as usize);
             }
-        }
+            true
+        });
     }
     for test in 0..job.suite.len() {
         let row = job.suite.row(test);

@@ -4,8 +4,8 @@ use super::closing::{Closing, Graph};
 use super::program::{Kind, NODE_LIMIT};
 use super::suite::{edges, place_of, Edges, ROW_WORDS};
 
-/// The new edges that need a probe: those that have the word of a dangerous
-/// edge at a pair that makes it dangerous, and all that lie after them.
+/// The new edges that need a probe: those taken for a word that makes an old
+/// edge dangerous, at a pair that does, and all that lie after them.
 pub fn probes(new: &Graph, closing: &Closing) -> Edges {
     after(new, &closing.starts)
 }

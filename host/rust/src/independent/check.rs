@@ -1,6 +1,6 @@
 //! The sheet checker: reads a sheet's layout, then judges its claims.
 
-use super::closing::{called, Graph, Pairs, PAIR_LIMIT};
+use super::closing::{called, compare, Graph, Pairs, PAIR_LIMIT};
 use super::job::Job;
 use super::sheet::FIRST_LINE;
 use super::suite::{holds, meet, place_of, ROW_WORDS};
@@ -234,22 +234,16 @@ fn entered(old: &Graph, new: &Graph, pairs: &Pairs, n: u16, m: u16) -> bool {
 }
 
 /// Rule 4 for one listed pair: it may go on if the exits of all its callees are
-/// listed.
+/// listed, and then for every word the old edge taken is listed under D, or the
+/// new node takes one and the ends are listed.
 fn covered(old: &Graph, new: &Graph, listed: &Listed, n: u16, m: u16) -> bool {
     let pairs = &listed.pairs;
     let mut callees = called(old, new, (n, m));
     if !callees.all(|(_, exits)| pairs.contains(exits.0, exits.1)) {
         return true;
     }
-    let others = new.leaving(m);
-    let mut at = 0;
-    old.leaving(n).iter().all(|edge| {
-        while at < others.len() && others[at].word < edge.word {
-            at += 1;
-        }
-        let kept = others
-            .get(at)
-            .is_some_and(|other| other.word == edge.word && pairs.contains(edge.end, other.end));
+    compare(old.leaving(n), new.leaving(m), |edge, other| {
+        let kept = other.is_some_and(|other| pairs.contains(edge.end, other.end));
         kept || holds(&listed.danger, edge.edge as usize)
     })
 }

@@ -1,4 +1,5 @@
-//! The closing rules: pairs, dangerous edges and counterparts.
+//! The closing rules: pairs, dangerous edges and counterparts, taken over all
+//! words. For each word a node takes the edge that has it, or else `*`.
 
 use super::program::{Kind, Node, Program, NODE_LIMIT};
 use super::suite::{place_of, Edges, ROW_WORDS};
@@ -6,18 +7,32 @@ use super::text::Word;
 
 pub const PAIR_LIMIT: usize = 4_096;
 
+/// The word of the branch for anything else, as it is packed, and as edges have
+/// it where they are laid out: there it is below all others.
+const STAR: Word = b'*' as Word;
+const ELSE: Word = 0;
+
 /// An edge as the closure meets it.
 #[derive(Clone, Copy)]
 pub struct Leaving {
-    pub word: Word,
+    /// Packed, or `ELSE` for `*`.
+    word: Word,
     pub end: u16,
     /// The class of its end.
     pub class: u16,
     pub edge: u16,
 }
 
-/// A program with its edges laid out by node, by word within a node, and a
-/// class for each node: two nodes are alike exactly if their classes are equal.
+impl Leaving {
+    /// Whether this is the branch for anything else.
+    pub fn is_star(&self) -> bool {
+        self.word == ELSE
+    }
+}
+
+/// A program with its edges laid out by node, by word within a node, `*` first,
+/// and a class for each node: two nodes are alike exactly if their classes are
+/// equal.
 /// Labels are compared without blanks at both ends, each inner run as one.
 pub struct Graph<'p> {
     pub program: &'p Program<'p>,
@@ -48,12 +63,13 @@ impl<'p> Graph<'p> {
             let start = first[from] as usize;
             let mut at = start + filled[from] as usize;
             filled[from] += 1;
-            while at > start && leaving[at - 1].word > edge.word {
+            let word = if edge.word == STAR { ELSE } else { edge.word };
+            while at > start && leaving[at - 1].word > word {
                 leaving[at] = leaving[at - 1];
                 at -= 1;
             }
             leaving[at] = Leaving {
-                word: edge.word,
+                word,
                 end: edge.to,
                 class: class[edge.to as usize],
                 edge: number as u16,
@@ -109,6 +125,50 @@ pub fn called<'g>(
         let ((entry, exit), (new_entry, new_exit)) = (old.ends(callee), new.ends(partner));
         ((entry, new_entry), (exit, new_exit))
     })
+}
+
+/// Calls `meet` with the edges to compare of an old and a new node: for each
+/// word the edge that the old node takes, and the one that the new node takes,
+/// if any. A word for which the old node takes none is left out. All words that
+/// neither node names go `*` against `*`, and count once. Ends, and answers
+/// false, where `meet` answers false.
+#[inline]
+pub fn compare<'g>(
+    old: &'g [Leaving],
+    new: &'g [Leaving],
+    mut meet: impl FnMut(&'g Leaving, Option<&'g Leaving>) -> bool,
+) -> bool {
+    let (star, named) = parted(old);
+    let (other_star, others) = parted(new);
+    let mut at = 0;
+    for edge in named {
+        // Words below that only the new node names: the old one takes `*`.
+        while at < others.len() && others[at].word < edge.word {
+            if star.is_some_and(|star| !meet(star, Some(&others[at]))) {
+                return false;
+            }
+            at += 1;
+        }
+        let same = others.get(at).filter(|other| other.word == edge.word);
+        at += usize::from(same.is_some());
+        if !meet(edge, same.or(other_star)) {
+            return false;
+        }
+    }
+    let Some(star) = star else {
+        return true;
+    };
+    let mut rest = others[at..].iter();
+    rest.all(|other| meet(star, Some(other))) && meet(star, other_star)
+}
+
+/// The edge `*` of a node, and the others.
+#[inline]
+fn parted(leaving: &[Leaving]) -> (Option<&Leaving>, &[Leaving]) {
+    match leaving {
+        [star, named @ ..] if star.is_star() => (Some(star), named),
+        named => (None, named),
+    }
 }
 
 /// Lays out both programs with classes in common.
@@ -318,8 +378,8 @@ pub struct Closing {
     pub pairs: Pairs,
     /// Dangerous edges, as a row.
     pub danger: Edges,
-    /// New edges with the word of a dangerous edge, at a pair that makes it
-    /// dangerous.
+    /// New edges taken for a word that makes an old edge dangerous, at a pair
+    /// that does.
     pub starts: Edges,
 }
 
@@ -341,8 +401,8 @@ impl Waiting {
     }
 }
 
-/// Closes the rules; `join` is told each old edge and its new counterpart
-/// once. `None` if there are more pairs than the limit.
+/// Closes the rules; `join` is told each old edge and each of its new
+/// counterparts once. `None` if there are more pairs than the limit.
 pub fn close(old: &Graph, new: &Graph, join: impl FnMut(u16, u16)) -> Option<Closing> {
     let mut search = Search {
         old,
@@ -437,29 +497,21 @@ impl<J: FnMut(u16, u16)> Search<'_, J> {
     /// Rule 3 for one pair that may go on.
     #[inline]
     fn go_on(&mut self, (n, m): (u16, u16)) -> bool {
-        let others = self.new.leaving(m);
-        let mut at = 0;
-        for edge in self.old.leaving(n) {
-            while at < others.len() && others[at].word < edge.word {
-                at += 1;
+        let (old, new) = (self.old.leaving(n), self.new.leaving(m));
+        compare(old, new, |edge, other| match other {
+            Some(other) if other.class == edge.class => {
+                (self.join)(edge.edge, other.edge);
+                self.pairs.add(edge.end, other.end)
             }
-            match others.get(at) {
-                Some(other) if other.word == edge.word && other.class == edge.class => {
-                    if !self.pairs.add(edge.end, other.end) {
-                        return false;
-                    }
-                    (self.join)(edge.edge, other.edge);
+            other => {
+                let (word, bit) = place_of(edge.edge as usize);
+                self.danger[word] |= bit;
+                if let Some(start) = other {
+                    let (word, bit) = place_of(start.edge as usize);
+                    self.starts[word] |= bit;
                 }
-                other => {
-                    let (word, bit) = place_of(edge.edge as usize);
-                    self.danger[word] |= bit;
-                    if let Some(start) = other.filter(|other| other.word == edge.word) {
-                        let (word, bit) = place_of(start.edge as usize);
-                        self.starts[word] |= bit;
-                    }
-                }
+                true
             }
-        }
-        true
+        })
     }
 }
