@@ -26,16 +26,23 @@ fn callees() {
     hold(include_str!("given/callees"), 55, 112);
 }
 
-/// Request 4: the search in a row ends at the lowest dangerous edge.
+/// Request 4: the search in a row ends at the lowest dangerous edge. Of this and
+/// of request 5 one case each is left out, which request 6 answers otherwise.
 #[test]
 fn first_danger() {
-    hold(include_str!("given/first_danger"), 18, 123);
+    hold(include_str!("given/first_danger"), 17, 117);
 }
 
 /// Request 5: probes, and the marks of repeated tests.
 #[test]
 fn probes() {
-    hold(include_str!("given/probes"), 48, 160);
+    hold(include_str!("given/probes"), 47, 159);
+}
+
+/// Request 6: the branch `*`, taken for a word that no other has.
+#[test]
+fn star() {
+    hold(include_str!("given/star"), 45, 128);
 }
 
 /// The numbers are those of the cases and of the calls in the file.
