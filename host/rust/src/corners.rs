@@ -97,10 +97,10 @@ pub const MET: [(&str, u64); 33] = [
 
 /// An accepted job, its closing and its counterparts.
 pub struct Shown<'g> {
-    old: &'g Graph<'g>,
-    new: &'g Graph<'g>,
+    pub old: &'g Graph<'g>,
+    pub new: &'g Graph<'g>,
     pub closing: &'g Closing,
-    joined: &'g [(u16, u16)],
+    pub joined: &'g [(u16, u16)],
     doubt: Doubt,
 }
 

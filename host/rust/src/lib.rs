@@ -11,3 +11,4 @@ pub mod lent;
 pub mod lent_calls;
 pub mod records;
 pub mod search;
+pub mod stars;

@@ -2,8 +2,8 @@
 //! implementation on COUNT generated jobs, every call of each, answers and
 //! lent bytes. Exits 1 on a difference; the first one's job is left in
 //! `differential-job`. It exits 1 too if COUNT is 20,000 or more and labels that
-//! match with other bytes, or that nearly match, or what calls of several names
-//! or probes show, were met too seldom. Without the library it exits 2 after the
+//! match with other bytes, or that nearly match, or what calls of several names,
+//! probes or branches `*` show, were met too seldom. Without the library it exits 2 after the
 //! statistics.
 
 use rivetyellow_host::answer::{meaning, Answer};
@@ -19,6 +19,7 @@ use rivetyellow_host::independent::program::Kind;
 use rivetyellow_host::independent::suite::meet;
 use rivetyellow_host::independent::text::Name;
 use rivetyellow_host::lent::{front, pattern, Lent};
+use rivetyellow_host::stars;
 use std::collections::BTreeMap;
 use std::time::Instant;
 use std::{env, fs, process};
@@ -156,7 +157,7 @@ impl Statistics {
     /// What was met less often than it must be.
     fn unmet(&self) -> Vec<&'static str> {
         let met = |what| self.counts.get(what).copied().unwrap_or_default();
-        let all = MET.iter().chain(&corners::MET);
+        let all = MET.iter().chain(&corners::MET).chain(&stars::MET);
         let unmet = all.filter(|(what, least)| met(what) < *least);
         unmet.map(|(what, _)| *what).collect()
     }
@@ -323,7 +324,11 @@ impl Statistics {
     /// Counts a sheet by what it lists of callees.
     fn sheet(&mut self, job: &Job, text: &[u8], answer: Answer) {
         let (old, new) = job.graphs();
-        let listed = lists(job, text).pairs;
+        let sheet = lists(job, text);
+        stars::tell_sheet(&old, &new, &sheet, answer, &mut |what, holds| {
+            self.count(what, holds)
+        });
+        let listed = sheet.pairs;
         let is = |(n, m): (u16, u16)| listed.contains(&(n as usize, m as usize));
         let (mut first, mut later) = (false, false);
         let (mut exits_missing, mut entries_missing) = (false, false);
@@ -351,6 +356,9 @@ impl Statistics {
         let line = &record[..record.len() - 1];
         let marks = line.rsplit(|&byte| byte == b',').next().unwrap_or(&[]);
         shown.tell_test(row, marks, &mut |what, holds| self.count(what, holds));
+        stars::tell_test(shown, row, marks, &mut |what, holds| {
+            self.count(what, holds)
+        });
         let has = |mark: u8| marks.contains(&mark);
         let left_off = !meet(row, &shown.closing.danger);
         self.count("repeated tests", !left_off);
@@ -614,6 +622,7 @@ impl<'g> Comparison<'g> {
         statistics.calls(&old, &new, &closed);
         statistics.pairs(&old, &new, &closed);
         shown.tell(&mut |what, holds| statistics.count(what, holds));
+        stars::tell(&shown, &mut |what, holds| statistics.count(what, holds));
         for (test, record) in records {
             if let Some(record) = record {
                 statistics.record(&shown, job.suite.row(*test), record);

@@ -10,6 +10,7 @@ pub mod programs;
 pub mod random;
 pub mod sequences;
 pub mod sheets;
+pub mod star;
 pub mod tests;
 
 use crate::independent::closing;
@@ -36,6 +37,7 @@ fn texts(random: &mut Random) -> Texts {
         6..=39 => limits::light(random),
         40..=189 => calling(random),
         190..=289 => parting(random),
+        290..=389 => star(random),
         _ => small(random),
     }
 }
@@ -92,6 +94,13 @@ fn calling(random: &mut Random) -> Texts {
 fn parting(random: &mut Random) -> Texts {
     let pools = programs::Pools::new(random);
     let (old, new) = parting::versions(random, &pools);
+    with_tests(random, &old, &new)
+}
+
+/// Programs with switches, and tests.
+fn star(random: &mut Random) -> Texts {
+    let pools = programs::Pools::new(random);
+    let (old, new) = star::versions(random, &pools);
     with_tests(random, &old, &new)
 }
 

@@ -157,7 +157,7 @@ fn procedure(random: &mut Random, pools: &Pools, names: &[Bytes], own: usize) ->
 }
 
 /// One to three later procedures.
-fn callees(random: &mut Random, later: &[Bytes]) -> Bytes {
+pub fn callees(random: &mut Random, later: &[Bytes]) -> Bytes {
     let count = *random.pick(&[1, 1, 2, 2, 3]);
     let called: Vec<Bytes> = (0..count).map(|_| random.pick(later).clone()).collect();
     called.join(&b'+')

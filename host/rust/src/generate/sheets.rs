@@ -2,10 +2,10 @@
 
 use super::model::{joined, Bytes, Sheet};
 use super::random::Random;
-use crate::independent::closing::{called, compare, Graph};
+use crate::independent::closing::{called, compare, Graph, Leaving};
 use crate::independent::job::Job;
 use crate::independent::suite::holds;
-use std::collections::BTreeSet;
+use std::collections::{BTreeMap, BTreeSet};
 
 const PAIR_LIMIT: usize = 4_096;
 
@@ -196,6 +196,13 @@ pub fn sheet(random: &mut Random, job: &Job, own: Option<&[u8]>) -> Made {
         Some(text) if random.percent(60) => lists(job, text),
         _ => stranger(random, job),
     };
+    if random.percent(25) && drop_word(random, job, &mut sheet) {
+        let text = joined(&sheet.lines(name));
+        return Made {
+            text,
+            passes: false,
+        };
+    }
     let mut passes = sheet.pairs.len() <= PAIR_LIMIT;
     if random.percent(30) {
         for _ in 0..random.within(1, 2) {
@@ -253,6 +260,57 @@ fn change_lists(random: &mut Random, job: &Job, sheet: &mut Sheet) {
             sheet.pairs.remove(&(old as usize, new as usize));
         }
     }
+}
+
+/// Drops what rule 4 asks for one word where a `*` is taken on either side: the
+/// listed ends, or the D line.
+fn drop_word(random: &mut Random, job: &Job, sheet: &mut Sheet) -> bool {
+    let (old, new) = job.graphs();
+    let (mut ends, mut dangers) = (Asked::new(), Asked::new());
+    for &(n, m) in &sheet.pairs {
+        let (leaving, others) = (old.leaving(n as u16), new.leaving(m as u16));
+        let mut words = 0;
+        compare(leaving, others, |edge, _| {
+            words += usize::from(edge.is_star());
+            true
+        });
+        compare(leaving, others, |edge, other| {
+            let met = other.map(|other| (edge.end as usize, other.end as usize));
+            let met = met.filter(|met| sheet.pairs.contains(met));
+            let asked = match (met, sheet.dangers.contains(&(edge.edge as usize))) {
+                (Some(met), false) => ends.entry(met).or_default(),
+                (None, true) => dangers.entry((edge.edge as usize, 0)).or_default(),
+                _ => return true,
+            };
+            asked.0 += 1;
+            asked.1 |= edge.is_star() && words > 1;
+            asked.2 |= edge.is_star() || other.is_some_and(Leaving::is_star);
+            true
+        });
+    }
+    match (one_asked(random, &ends), one_asked(random, &dangers)) {
+        (Some(met), danger) if danger.is_none() || random.percent(60) => sheet.pairs.remove(&met),
+        (_, Some((danger, _))) => sheet.dangers.remove(&danger),
+        _ => false,
+    }
+}
+
+/// Of each thing how many words ask for it, whether one of several that an old
+/// `*` is taken for does, and whether any does for which a `*` is taken.
+type Asked = BTreeMap<(usize, usize), (usize, bool, bool)>;
+
+/// A thing that a word asks for which a `*` is taken for, mostly one of several
+/// words; and, if it can be, that no other word asks for.
+fn one_asked(random: &mut Random, all: &Asked) -> Option<(usize, usize)> {
+    let several = all.values().any(|asked| asked.1) && random.percent(80);
+    let by_star = || {
+        all.iter()
+            .filter(|(_, asked)| asked.2 && (asked.1 || !several))
+    };
+    let fewest = by_star().map(|(_, asked)| asked.0).min()?;
+    let fewest = by_star().filter(|(_, asked)| asked.0 == fewest);
+    let one = *random.pick(&fewest.collect::<Vec<_>>());
+    Some(*one.0)
 }
 
 /// Drops the entries or the exits of one callee, or both, that a listed pair

@@ -96,6 +96,11 @@ impl<'p> Graph<'p> {
         &self.leaving[self.first[node] as usize..self.first[node + 1] as usize]
     }
 
+    /// Whether an edge is the branch for anything else.
+    pub fn is_star(&self, edge: u16) -> bool {
+        self.program.edges[edge as usize].word == STAR
+    }
+
     /// The numbers of the procedures that a node calls.
     pub fn callees(&self, node: u16) -> &[u16] {
         self.program.callees(node)
