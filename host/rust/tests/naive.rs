@@ -184,17 +184,23 @@ impl Program<'_> {
         let callees = callees(field).into_iter();
         callees.map(|name| self.end(number(name), kind)).collect()
     }
+}
 
-    /// The edges of a node, each with its word.
-    fn leaving(&self, node: usize) -> Vec<(Field<'_>, usize)> {
-        let edges = self.edges.iter().enumerate().filter(|(_, e)| e.0 == node);
+/// The edges of a node, each with its word.
+type Leaving<'a> = Vec<(Field<'a>, usize)>;
+
+/// Those of each node.
+fn leaving<'a>(p: &Program<'a>) -> Vec<Leaving<'a>> {
+    let of = |node| {
+        let edges = p.edges.iter().enumerate().filter(|(_, e)| e.0 == node);
         edges.map(|(at, e)| (e.1, at)).collect()
-    }
+    };
+    (0..p.nodes.len()).map(of).collect()
 }
 
 /// The edge of a node that is taken for a word: the one that has it, or else
 /// `*`.
-fn taken(leaving: &[(Field, usize)], word: Field) -> Option<usize> {
+fn taken(leaving: &Leaving, word: Field) -> Option<usize> {
     let of = |word: Field| leaving.iter().find(|edge| edge.0 == word);
     of(word).or_else(|| of(b"*")).map(|edge| edge.1)
 }
@@ -205,12 +211,11 @@ const NO_WORD: Field = b"no_branch";
 
 /// For each word for which the old node takes an edge that edge, and the one
 /// that the new node takes.
-fn compared(old: &Program, new: &Program, (n, m): Pair) -> Vec<(usize, Option<usize>)> {
-    let (leaving, others) = (old.leaving(n), new.leaving(m));
-    let words = leaving.iter().chain(&others).map(|edge| edge.0);
+fn compared(old: &Leaving, new: &Leaving) -> Vec<(usize, Option<usize>)> {
+    let words = old.iter().chain(new).map(|edge| edge.0);
     let edges = words.chain([NO_WORD]).filter_map(|word| {
-        let edge = taken(&leaving, word)?;
-        Some((edge, taken(&others, word)))
+        let edge = taken(old, word)?;
+        Some((edge, taken(new, word)))
     });
     edges.collect()
 }
@@ -306,40 +311,53 @@ struct Closed {
 
 /// `None` above the limit.
 fn close(old: &Program, new: &Program) -> Option<Closed> {
+    let from = [leaving(old), leaving(new)];
+    let mut closed = Closed {
+        pairs: all_pairs(old, new, &from)?,
+        dangers: Edges::new(),
+        starts: Edges::new(),
+        joined: BTreeSet::new(),
+    };
+    for &(n, m) in &closed.pairs {
+        if !may_go_on(old, new, &closed.pairs, (n, m)) {
+            continue;
+        }
+        for (e, other) in compared(&from[0][n], &from[1][m]) {
+            match other {
+                Some(f) if alike(old.nodes[old.edges[e].2], new.nodes[new.edges[f].2]) => {
+                    closed.joined.insert((e, f));
+                }
+                other => {
+                    closed.dangers.insert(e);
+                    closed.starts.extend(other);
+                }
+            }
+        }
+    }
+    Some(closed)
+}
+
+/// Passes over the pairs until one adds nothing.
+fn all_pairs(old: &Program, new: &Program, from: &[Vec<Leaving>; 2]) -> Option<Pairs> {
     let mut pairs = Pairs::from([(old.end(0, b'E'), new.end(0, b'E'))]);
     loop {
         let mut found = pairs.clone();
-        let (mut dangers, mut starts) = (Edges::new(), Edges::new());
-        let mut joined = BTreeSet::new();
         for &(n, m) in &pairs {
             found.extend(entries(old, new, &pairs, (n, m)));
             if !may_go_on(old, new, &pairs, (n, m)) {
                 continue;
             }
-            for (e, other) in compared(old, new, (n, m)) {
-                let end = old.edges[e].2;
-                match other {
-                    Some(f) if alike(old.nodes[end], new.nodes[new.edges[f].2]) => {
-                        found.insert((end, new.edges[f].2));
-                        joined.insert((e, f));
-                    }
-                    other => {
-                        dangers.insert(e);
-                        starts.extend(other);
-                    }
-                }
+            for (e, other) in compared(&from[0][n], &from[1][m]) {
+                let ends = other.map(|f| (old.edges[e].2, new.edges[f].2));
+                let new_ends = ends.filter(|ends| !found.contains(ends));
+                found.extend(new_ends.filter(|&(n, m)| alike(old.nodes[n], new.nodes[m])));
             }
         }
         if found.len() > 4_096 {
             return None;
         }
         if found == pairs {
-            return Some(Closed {
-                pairs,
-                dangers,
-                starts,
-                joined,
-            });
+            return Some(pairs);
         }
         pairs = found;
     }
@@ -564,11 +582,12 @@ fn claims(
             return broken(3);
         }
     }
+    let (from_old, from_new) = (leaving(old), leaving(new));
     for &(n, m) in pairs {
         if !may_go_on(old, new, pairs, (n, m)) {
             continue;
         }
-        for (e, other) in compared(old, new, (n, m)) {
+        for (e, other) in compared(&from_old[n], &from_new[m]) {
             let ends = |f: usize| (old.edges[e].2, new.edges[f].2);
             let listed = other.is_some_and(|f| pairs.contains(&ends(f)));
             if !listed && !dangers.contains(&e) {
@@ -631,6 +650,8 @@ struct Met {
     stored: usize,
     several: usize,
     probed: usize,
+    /// With a branch `*` in each version.
+    stars: usize,
 }
 
 impl Trial<'_> {
@@ -697,6 +718,8 @@ impl Trial<'_> {
         met.accepted += 1;
         met.several += usize::from(p.nodes.iter().any(|node| node.2.contains(&b'+')));
         met.probed += usize::from(due[2].0.is_success() && due[2].0.place > 0);
+        let star = |p: &Program| p.edges.iter().any(|e| e.1 == b"*");
+        met.stars += usize::from(star(p) && star(q));
     }
 
     /// The check. A sheet that passed when labels were compared by their bytes
@@ -730,7 +753,7 @@ fn read_all<'t>(
 #[test]
 fn plain_rules() {
     let mut met = Met::default();
-    for number in 0..4_000 {
+    for number in 0..5_000 {
         let mut random = Random::new(77, number);
         let job = &generate::job(&mut random);
         // Plain passes over the largest jobs take too long here.
@@ -757,4 +780,5 @@ fn plain_rules() {
     assert!(met.stored > 400, "{}", met.stored);
     assert!(met.several > 700, "{}", met.several);
     assert!(met.probed > 500, "{}", met.probed);
+    assert!(met.stars > 600, "{}", met.stars);
 }

@@ -347,7 +347,7 @@ const RUNS: usize = 8;
 
 /// Two programs, in half of the jobs such with switches.
 fn programs(random: &mut Random, number: u64) -> [Bytes; 2] {
-    if number % 2 == 0 {
+    if number.is_multiple_of(2) {
         let pools = Pools::new(random);
         let (old, new) = star::versions(random, &pools);
         return [old.text(), new.text()];
