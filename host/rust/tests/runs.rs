@@ -17,6 +17,7 @@ use rivetyellow_host::generate::random::Random;
 use rivetyellow_host::generate::{mostly_right, sheets, star};
 use rivetyellow_host::independent::job::Job;
 use rivetyellow_host::independent::program::{Kind, Program};
+use rivetyellow_host::independent::suite::holds;
 use rivetyellow_host::independent::text::Word;
 use std::collections::BTreeMap;
 use whole::all;
@@ -324,7 +325,8 @@ impl Trial<'_, '_> {
     }
 }
 
-/// A stranger's sheet; some have a pair or a D line less than they need.
+/// A stranger's sheet; some have a pair or a D line less than they need. Only the
+/// tests are listed that hold an edge under D.
 fn stranger(random: &mut Random, job: &Job) -> Sheet {
     let mut sheet = sheets::stranger(random, job);
     if random.percent(30) {
@@ -337,6 +339,11 @@ fn stranger(random: &mut Random, job: &Job) -> Sheet {
         let edge = sheet.dangers.iter().nth(at).copied();
         sheet.dangers.retain(|&one| Some(one) != edge);
     }
+    let held = |test: &usize| {
+        let row = job.suite.row(*test);
+        sheet.dangers.iter().any(|&edge| holds(row, edge))
+    };
+    sheet.repeated.retain(held);
     sheet
 }
 
