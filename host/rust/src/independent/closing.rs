@@ -147,15 +147,10 @@ pub fn compare<'g>(
     let (other_star, others) = parted(new);
     let mut at = 0;
     for edge in named {
-        // Words below that only the new node names: the old one takes `*`.
         while at < others.len() && others[at].word < edge.word {
-            if star.is_some_and(|star| !meet(star, Some(&others[at]))) {
-                return false;
-            }
             at += 1;
         }
         let same = others.get(at).filter(|other| other.word == edge.word);
-        at += usize::from(same.is_some());
         if !meet(edge, same.or(other_star)) {
             return false;
         }
@@ -163,8 +158,16 @@ pub fn compare<'g>(
     let Some(star) = star else {
         return true;
     };
-    let mut rest = others[at..].iter();
-    rest.all(|other| meet(star, Some(other))) && meet(star, other_star)
+    // Words that only the new node names, then those that neither names.
+    let mut at = 0;
+    let unnamed = others.iter().filter(|other| {
+        while at < named.len() && named[at].word < other.word {
+            at += 1;
+        }
+        named.get(at).is_none_or(|edge| edge.word != other.word)
+    });
+    let mut compared = unnamed.map(Some).chain([other_star]);
+    compared.all(|other| meet(star, other))
 }
 
 /// The edge `*` of a node, and the others.
