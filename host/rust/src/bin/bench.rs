@@ -5,7 +5,7 @@
 use rivetyellow_host::calls::{Calls, INDEPENDENT, LINKED};
 use rivetyellow_host::generate::labels::format_some;
 use rivetyellow_host::generate::limits::{
-    deep, formatted_ring, fours, groups, many_tests, put_blanks, ring, wide,
+    deep, formatted_ring, fours, groups, many_tests, put_blanks, ring, switches, wide,
 };
 use rivetyellow_host::generate::model::{joined, put_line, row, Edge, Program, Sheet};
 use rivetyellow_host::generate::random::Random;
@@ -120,6 +120,8 @@ struct Jobs {
     groups_parted: Texts,
     /// The word leads to the exit.
     calls_parted: Texts,
+    switches: Texts,
+    switches_parted: Texts,
 }
 
 impl Jobs {
@@ -138,6 +140,8 @@ impl Jobs {
             parted: parted(random, &distinct, &distinct),
             groups_parted: parted(random, &grouped[0], &grouped[1]),
             calls_parted: calls_of_four(random, |edge| edge.to = 7),
+            switches: switched(random),
+            switches_parted: switches_parted(random),
         }
     }
 }
@@ -156,20 +160,54 @@ fn parted(random: &mut Random, old: &Program, new: &Program) -> Texts {
             edge.to = 1;
         }
     }
+    let parts = |edge: &Edge| edge.word == danger.word && before.nodes[edge.from].label == *label;
+    repeated(random, old, &new, parts)
+}
+
+/// 200 tests that crossed these dangerous edges, and some others.
+fn repeated(
+    random: &mut Random,
+    old: &Program,
+    new: &Program,
+    parts: impl Fn(&Edge) -> bool,
+) -> Texts {
     let mut tests = Vec::new();
     for test in 0..200 {
-        let crossed = before.edges.iter().map(|edge| {
-            let parts = edge.word == danger.word && before.nodes[edge.from].label == *label;
-            parts || random.percent(30)
-        });
+        let edges = old.procedures[0].edges.iter();
+        let crossed = edges.map(|edge| parts(edge) || random.percent(30));
         let row = row(&crossed.collect::<Vec<bool>>());
         let name = format!("test_{test:0>7}").into_bytes();
         put_line(&mut tests, &[b"T", &name, &row]);
     }
-    let texts = Texts::new(old, &new, tests);
+    let texts = Texts::new(old, new, tests);
     let sheet = own_sheet(&texts);
     assert!(sheet.ends_with(b",200\n"), "a test that is not repeated");
     texts
+}
+
+/// Each `*` is taken for names of the other version: an old one for seven new
+/// names and all other words, a new one for seven old names or one. No edge is
+/// dangerous.
+fn switched(random: &mut Random) -> Texts {
+    let (old, new) = (switches(b'w', 0, true), switches(b'v', 3, false));
+    let texts = Texts::new(&old, &new, many_tests(random, 200, 1_024, 30));
+    let sheet = own_sheet(&texts);
+    assert!(sheet.ends_with(b"\nend,3958,0,0\n"), "other pairs");
+    texts
+}
+
+/// The same, and one new name of eight switches leads back to the first step: it
+/// makes their old `*` dangerous, which 200 tests crossed.
+fn switches_parted(random: &mut Random) -> Texts {
+    let (old, mut new) = (switches(b'w', 0, true), switches(b'v', 3, false));
+    let parting = 193..=200;
+    for edge in &mut new.procedures[0].edges {
+        if parting.contains(&edge.from) && edge.word == b"v3" {
+            edge.to = 1;
+        }
+    }
+    let parts = |edge: &Edge| parting.contains(&edge.from) && edge.word == b"*";
+    repeated(random, &old, &new, parts)
 }
 
 /// Blanks moved in every label.
@@ -284,6 +322,26 @@ fn parted_cases(jobs: &Jobs) -> Cases<'_> {
         (
             "probes: 64 procedures, calls of four each",
             write_probes(&jobs.calls_parted),
+        ),
+    ]
+}
+
+fn star_cases(jobs: &Jobs) -> Cases<'_> {
+    let switches = &jobs.switches;
+    vec![
+        ("sheet: 512 nodes, * against names", write_sheet(switches)),
+        ("check: this sheet", check(switches, own_sheet(switches))),
+        (
+            "record: one line of 200, * against names",
+            write_records(switches, 200),
+        ),
+        (
+            "record: 200 repeated tests, * against names",
+            write_records(&jobs.switches_parted, 200),
+        ),
+        (
+            "probes: 512 nodes, * against names",
+            write_probes(&jobs.switches_parted),
         ),
     ]
 }
@@ -449,6 +507,7 @@ fn main() {
         formatted_cases(&jobs),
         calling_cases(&jobs),
         parted_cases(&jobs),
+        star_cases(&jobs),
     ];
     for (name, run) in cases.iter().flatten() {
         let by = |calls| move |turn| run(black_box(calls), turn);

@@ -115,6 +115,47 @@ pub fn groups(random: &mut Random, alike: usize) -> Program {
     }
 }
 
+/// The steps of a group of `switches`, all of one label.
+const GROUP: usize = 8;
+
+/// 512 nodes and 1,024 edges, with a branch `*` on each step, or on nearly all.
+/// The steps are in groups, and all branches of a group lead to the next one, each
+/// `turn` places further there. Steps of nine groups have seven names beside `*`,
+/// nine other steps one; these begin with a letter. If so told, every second group
+/// without names has one for `*`. So two such programs whose letters differ pair
+/// nearly all steps of each group, 3,958 pairs, and take `*` for the other's names.
+pub fn switches(letter: u8, turn: usize, named: bool) -> Program {
+    let mut made = Procedure::new(b"twelve_bytes");
+    made.node(b'E', b"", b"");
+    let steps = 510;
+    for step in 0..steps {
+        made.node(b'S', &label(step / GROUP), b"");
+    }
+    let exit = made.node(b'X', b"", b"");
+    made.edge(0, b"-", 1);
+    for step in 0..steps {
+        let group = step / GROUP;
+        let next = (group + 1) * GROUP;
+        let to = |place: usize| match steps.saturating_sub(next).min(GROUP) {
+            0 => exit,
+            size => 1 + next + (step % GROUP + place + turn) % size,
+        };
+        let names = match step {
+            _ if group == 1 || group.is_multiple_of(8) => 7,
+            16..=24 => 1,
+            _ => 0,
+        };
+        for at in 0..names {
+            made.edge(step + 1, &[letter, b'0' + at as u8], to(at));
+        }
+        let one = named && names == 0 && !group.is_multiple_of(2);
+        made.edge(step + 1, if one { b"next" } else { b"*" }, to(7));
+    }
+    Program {
+        procedures: vec![made],
+    }
+}
+
 /// `count` procedures of 8 nodes and 16 edges, each calling the next one.
 pub fn deep(count: usize) -> Program {
     let name = |at: usize| format!("procedure_{at:0>2}").into_bytes();
@@ -287,7 +328,7 @@ impl Texts {
 /// A job with many lines or pairs.
 pub fn heavy(random: &mut Random) -> Texts {
     let over = random.below(2);
-    match random.below(10) {
+    match random.below(11) {
         0 => {
             let mut program = many(64 + over);
             match random.below(4) {
@@ -417,8 +458,25 @@ pub fn heavy(random: &mut Random) -> Texts {
         }
         7 => many_pairs(random),
         8 => many_callees(random),
+        9 => many_switches(random),
         _ => long_text(random),
     }
+}
+
+/// A `*` on each step, some branches led elsewhere.
+fn many_switches(random: &mut Random) -> Texts {
+    let named = random.percent(50);
+    let old = switches(b'w', random.below(GROUP), named);
+    let letter = *random.pick(b"vw");
+    let mut new = switches(letter, random.below(GROUP), random.percent(20));
+    for _ in 0..random.below(4) {
+        let edge = random.within(1, 1_023);
+        new.procedures[0].edges[edge].to = random.within(1, 511);
+    }
+    let mut texts = Texts::both(&old, &new);
+    let dense = *random.pick(&[0, 1, 60]);
+    texts.tests = many_tests(random, 20, 1_024, dense);
+    texts
 }
 
 /// 64 procedures whose calls name four each. In some new ones a procedure does
