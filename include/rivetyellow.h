@@ -22,6 +22,12 @@
  * the place is the count of bytes written, 0 for a call that writes nothing.
  * Otherwise the number says why the call is refused and the place says where.
  *
+ * Branches
+ *   At a step a run takes the edge with the chosen word, or else the edge `*`.
+ *   The versions are compared so for every word: an old `*` with the new one,
+ *   and with each branch that only the new node names. An entry or a call has
+ *   no `*`.
+ *
  * Texts and outputs
  *   A text or an output is a pointer and a length in bytes. Texts are not
  *   ended by a zero byte, and any byte may stand in them. Of an empty one the
@@ -107,9 +113,10 @@ enum {
            taking each inner run of them as one;
          3 for a listed pair of calls the first callee's entries are listed, and
            each later one's, if the exits of every callee before it are;
-         4 each old edge of a listed pair that may go on (a call only if the
-           exits of all its callees are listed) is listed under D, or the new
-           node has its word and the ends are listed;
+         4 at a listed pair that may go on (a call only if the exits of all its
+           callees are listed), for every word, the edge that the old node
+           takes, the one with the word or else `*`, is listed under D, or the
+           new node takes one and the ends are listed;
          5 every test whose row holds a D edge is listed. */
     RY_CLAIM_FALSE = 12,
     /* The job is at another stage than the call is for. Place: 0. This and 14

@@ -128,7 +128,7 @@ static inline const char *claim_in_words(uint32_t rule)
     case 3:
         return "a listed pair of calls lacks the entries of a procedure that comes to be called";
     case 4:
-        return "an old edge is neither listed as dangerous nor led to a listed pair";
+        return "for some word an old edge is neither listed as dangerous nor led to a listed pair";
     case 5:
         return "a test that crosses a listed dangerous edge is not listed";
     default:
