@@ -1,13 +1,13 @@
 //! Probes, and the marks of repeated tests, by the whole-job calls and over a
 //! lent job. Each answer is due by request 5 of the change requests: the start is
 //! each new edge with the word of a dangerous edge at a pair that makes it
-//! dangerous; then come the edges leaving its end, at a call the first callee's
-//! entry edge instead, from an exit at every call of that procedure the next
-//! callee's entry edge or after the last the call's edge. Old edges after a
-//! danger are found likewise. A repeated test has `?` where the new edge has a
-//! probe or a crossed old counterpart lies after a danger; other marks are as for
-//! tests left off. The library, where it is linked, must do as the independent
-//! implementation.
+//! dangerous (`star.rs` has those where `*` is taken for the word); then come the
+//! edges leaving its end, at a call the first callee's entry edge instead, from an
+//! exit at every call of that procedure the next callee's entry edge or after the
+//! last the call's edge. Old edges after a danger are found likewise. A repeated
+//! test has `?` where the new edge has a probe or a crossed old counterpart lies
+//! after a danger; other marks are as for tests left off. The library, where it is
+//! linked, must do as the independent implementation.
 
 mod driving;
 mod whole;

@@ -170,6 +170,33 @@ fn several_callees() {
     );
 }
 
+/// An old `*` against a name that leads elsewhere and a `*` that does not: both
+/// are compared, and the probes start at the name. The other way round the name
+/// takes `*` in the new version.
+#[test]
+fn the_branch_for_anything_else() {
+    let text_of = |branches: &str| {
+        format!("P,up N,E,, N,S,read, N,S,hold, N,X,, B,0,-,1 {branches} B,2,ok,3")
+    };
+    let (one, two) = (text_of("B,1,*,2"), text_of("B,1,a,3 B,1,*,2"));
+    let tests = "T,t,e";
+    assert_eq!(
+        sheet_of(&one, &two, tests),
+        text("sheet,1 M,0,0 M,1,1 M,2,2 M,3,3 D,1 R,t end,4,1,1")
+    );
+    assert_eq!(record_of(&one, &two, tests, 0), text("V,t,3,1???"));
+    assert_eq!(probes_of(&one, &two, tests), text("Q,1"));
+    // The rows hold 0, 2, 3 and 0, 1.
+    let tests = "T,t,b T,u,c";
+    assert_eq!(
+        sheet_of(&two, &one, tests),
+        text("sheet,1 M,0,0 M,1,1 M,2,2 M,3,3 D,1 R,u end,4,1,1")
+    );
+    assert_eq!(record_of(&two, &one, tests, 0), text("V,t,3,111"));
+    assert_eq!(record_of(&two, &one, tests, 1), text("V,u,2,1??"));
+    assert_eq!(probes_of(&two, &one, tests), text("Q,1 Q,2"));
+}
+
 #[track_caller]
 fn program(lines: &str, number: u32, place: u32) {
     assert_eq!(
