@@ -6,7 +6,7 @@ use Prim.Native.Nat.{ℕ, zero, suc, _-_, _≤_, _<_}
 use native.Mathlib.Omega.{arith}
 use Rattle.laws.specs.Slices.{same-or}
 use Rattle.laws.specs.Tests.{_or_, any, choose}
-use Rattle.laws.specs.TestLaws.{or-swap}
+use Rattle.laws.specs.TestLaws.{fails, or-swap}
 use Rattle.laws.specs.Those.{any-more}
 use Rattle.laws.specs.Chain.{Blind, Chained, Left, latest, left-start, left-step}
 
@@ -42,11 +42,18 @@ module _ {X : Type 0} {key : ℕ → ℕ} {a : ℕ} (g : ℕ → X → X) (other
       sym (w .rest ∙ ap (λ (i : ℕ). fold g i now) s)
 
 -- Items that only add something to the value, and nothing where they do not pass.
-module _ {X : Type 0} (add : X → Bool → X) (more : (x : X) (b d : Bool) → add (add x b) d ≡ add x (b or d)) (T : ℕ → Bool) where
-  pub fold-adds : (none : (x : X) → add x false ≡ x) (c : ℕ) (x : X) → fold (λ k y. add y (T k)) c x ≡ add x (any c T)
+pub record Adding {X : Type 0} (add : X → Bool → X) : Type 0 where
+  pub none : (x : X) → add x false ≡ x
+  pub more : (x : X) (b d : Bool) → add (add x b) d ≡ add x (b or d)
+
+module _ {X : Type 0} {add : X → Bool → X} (h : Adding add) (T : ℕ → Bool) where
+  pub fold-adds : (c : ℕ) (x : X) → fold (λ k y. add y (T k)) c x ≡ add x (any c T)
   unfolding fold any
-  fold-adds none zero x = sym (none x)
-  fold-adds none (suc c) x = fold-adds none c (add x (T c)) ∙ more x (T c) (any c T) ∙ ap (add x) (or-swap (T c) (any c T) ∙ sym (any-more T c))
+  fold-adds zero x = sym (h .none x)
+  fold-adds (suc c) x = fold-adds c (add x (T c)) ∙ h .more x (T c) (any c T) ∙ ap (add x) (or-swap (T c) (any c T) ∙ sym (any-more T c))
+
+  pub adds-others : (key : ℕ → ℕ) (a : ℕ) → ((k : ℕ) → T k ≡ true → key k ≡ a) → (k : ℕ) (x : X) → (key k ≡ a → ⊥) → add x (T k) ≡ x
+  adds-others key a only k x d = ap (add x) (fails _ (λ t. d (only k t))) ∙ h .none x
 
 -- What each item keeps of the numbers met so far holds of all that are met.
 module _ {X : Type 0} (g : ℕ → X → X) (Q : (ℕ → Type 0) → X → Type 0) (meets : ℕ → ℕ → Type 0)

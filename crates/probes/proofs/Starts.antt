@@ -1,149 +1,111 @@
 -- The turns and the returns of the functions that find where the runs may part, as `search` finds them: the premises are what the code holds there.
-use mathlib.Core.Path.{_≡_, refl, sym, ap, ap₂, _∙_}
+use mathlib.Core.Path.{_≡_, refl, sym, ap, _∙_}
 use mathlib.Core.Bool.{Bool, true, false}
 use mathlib.Core.List.{List}
-use Prim.Native.Nat.{ℕ, suc, _+_, _-_, _*_, _/_, _≤_, _<_}
+use Prim.Native.Nat.{ℕ, _+_, _-_, _≤_, _<_}
 use native.Mathlib.Numerals.{add-one}
 use native.Mathlib.Omega.{arith}
 use lib.Dec.{eqb, ltb}
-use lib.ListN.{getD, length, length-set}
-use borrow.Author.Tests.{eqb-true, eq-eqb, le-ltb, lt-ltb, ltb-true, ne-eqb}
-use Rattle.laws.specs.Tests.{_and_, _or_, any, choose}
-use Rattle.laws.specs.TestLaws.{and-left, and-right, both-ways, fails, or-assoc, or-none, or-swap, yes-and}
-use Rattle.laws.specs.Lists.{choose-no, choose-yes}
-use Rattle.laws.specs.Slices.{same-or}
-use Rattle.laws.specs.Chain.{Blind, Left, left-start, left-step}
+use lib.ListN.{getD, length}
+use borrow.Author.Tests.{ltb-true}
+use Rattle.laws.specs.Tests.{_and_, _or_, any, listed}
+use Rattle.laws.specs.TestLaws.{and-left, and-right, both-ways, fails, or-assoc, or-none, or-swap}
+use Rattle.laws.specs.Fold.{Adding}
 use Rattle.laws.specs.Bits.{bitIn}
-use Rattle.laws.specs.BitSets.{bit-with, withBit}
-use Rattle.laws.specs.Those.{any-more, any-skip}
+use Rattle.laws.specs.BitSets.{bit-with, with-size, withBit}
+use Rattle.laws.specs.Those.{any-more}
 use Rattle.rules.specs.Graph.{edgeCount, sourceAt}
 use Rattle.rules.specs.Closing.{dangers, pairs}
 use Rattle.rules.specs.ProgramFile.{Listing}
 use Rattle.rules.specs.Proofs.Closure.{dangers-iff, parted-danger}
 use Rattle.graph.specs.Table.{edgeBase}
 use Rattle.pairset.specs.Store.{lastPair, newAt, oldAt, pairBefore, pairsIn}
-use Rattle.pairset.specs.StoreLaws.{walked}
 use Rattle.versions.specs.MemoryLaws.{sound, well-formed}
-use Rattle.selection.specs.Compared.{Compared, Joins, counterpart, leads-any, parts-lead}
+use Rattle.selection.specs.Compared.{Compared, Joins, JoinsBefore, met-parted}
 use Rattle.selection.proofs.Dangers.{before-less, source-of}
-use Rattle.selection.proofs.Counterparts.{joins-here}
-use Rattle.probes.specs.Starts.{AddsAll, AddsParted, AddsStart, AllStart, Parts, Starts, added, partsTo}
+use Rattle.selection.proofs.Hits.{EdgesLeft, PairsLeft, edges-end, edges-on, edges-start, hit-less, pair-at, pairs-end, pairs-on, pairs-start}
+use Rattle.probes.specs.Starts.{AddsAll, AddsAt, AddsParted, AddsStart, AllStart, Parts, PartsAt, Starts, partsTo}
 
--- ---- `add`
+pub adding : Adding _or_
+adding = record { none = λ b. or-none b refl; more = λ a b d. sym (or-assoc a b d) }
 
-pub add-none : (set : List ℕ) (f : ℕ) → f ≡ 0 → set ≡ added set f
-unfolding added
-add-none set f e = sym (choose-no _ _ (le-ltb 0 f (omega arith)))
+-- ---- `part_at`
 
-pub add-one-more : (set set′ : List ℕ) (f : ℕ) → (f ≡ 0 → ⊥) → set′ ≡ withBit set (f - 1) → set′ ≡ added set f
-unfolding added
-add-one-more set set′ f d e = e ∙ sym (choose-yes _ _ (lt-ltb 0 f (omega arith)))
+-- With the set, the edges below the place lead to the one at the end.
+unfoldable pub AddsFrom : List ℕ → List ℕ → List ℕ → List ℕ → List ℕ → ℕ → ℕ → ℕ → List ℕ → List ℕ → ℕ → Type 0
+AddsFrom on ol nn nl w e n m set set′ place =
+    (o p : Listing) (c : ℕ) (h : Compared on ol nn nl w c o p) → e < edgeCount (o .program) → n ≡ sourceAt (o .program) e → listed (pairsIn w c) n m ≡ true → 16 ≤ length set
+    → (x : ℕ) → EdgesLeft h e false _or_ adding x m (bitIn set x) (bitIn set′ x) place
 
--- The bits by index.
-added-at : (set : List ℕ) (f x : ℕ) → f ≤ 64 * length set → bitIn (added set f) x ≡ (bitIn set x or eqb f (suc x))
-unfolding added choose _or_
-added-at set f x l =
-    same-or f 0
-    (λ z. ap (λ (b : Bool). bitIn (choose b (withBit set (f - 1)) set) x) (le-ltb 0 f (omega arith)) ∙ sym (or-none (bitIn set x) (ne-eqb f (suc x) (λ e. let y : ⊥ = omega arith in y))))
-    (λ d.
-    ap (λ (b : Bool). bitIn (choose b (withBit set (f - 1)) set) x) (lt-ltb 0 f (omega arith)) ∙ bit-with set (f - 1) x (omega arith) ∙ or-swap (eqb (f - 1) x) (bitIn set x)
-    ∙ ap (λ (b : Bool). bitIn set x or b) (shifted d))
-  where
-    shifted : (f ≡ 0 → ⊥) → eqb (f - 1) x ≡ eqb f (suc x)
-    shifted d = same-or f (suc x) (λ e. eq-eqb (f - 1) x (omega arith) ∙ sym (eq-eqb _ _ e)) (λ e. ne-eqb (f - 1) x (λ (q : f - 1 ≡ x). e (omega arith)) ∙ sym (ne-eqb _ _ e))
+pub record PartsFrom (on ol nn nl w : List ℕ) (e n m : ℕ) (set set′ : List ℕ) (place : ℕ) : Type 0 where
+  pub from : AddsFrom on ol nn nl w e n m set set′ place
+  pub size : length set′ ≡ length set
 
-added-size : (set : List ℕ) (f : ℕ) → length (added set f) ≡ length set
-unfolding added choose withBit
-added-size set f = go (ltb 0 f)
-  where
-    go : (b : Bool) → length (choose b (withBit set (f - 1)) set) ≡ length set
-    go true = length-set set ((f - 1) / 64) _
-    go false = refl
+module _ (on ol nn nl w : List ℕ) (e n m : ℕ) (set : List ℕ) where
+  pub at-start : (place : ℕ) → Joins on ol nn nl w e n m false place → PartsFrom on ol nn nl w e n m set set place
+  unfolding AddsFrom Joins
+  at-start place j = record { from = λ o p c h i en l room x. edges-start h e false _or_ adding x m _ place (j o p c h i en l); size = refl }
+
+  module _ (set₁ : List ℕ) (place : ℕ) (inv : PartsFrom on ol nn nl w e n m set set₁ place) where
+    pub at-end : place ≤ 0 → PartsAt on ol nn nl w e n m set set₁
+    unfolding AddsFrom AddsAt
+    at-end z = record { adds = λ o p c h i en l room x. edges-end h e false _or_ adding x m _ _ place (inv .from o p c h i en l room x) z; size = inv .size }
+
+    pub at-on : (f next : ℕ) (set₂ : List ℕ) → 0 < place → f ≡ place - 1 → set₂ ≡ withBit set₁ f → JoinsBefore ol nl w e f false next → PartsFrom on ol nn nl w e n m set set₂ next
+    unfolding AddsFrom
+    at-on f next set₂ pos d er j =
+        record {
+          from = λ o p c h i en l room x.
+              let r = inv .from o p c h i en l room x in
+              edges-on h e false _or_ adding x m _ _ _ place f next r i (rw (← en) l) pos d
+              (ap (λ (v : List ℕ). bitIn v x) er ∙ bit-with set₁ f x (omega (arith, r .within, sound _ p (h .new-in) .fewEdges, inv .size)) ∙ or-swap (eqb f x) (bitIn set₁ x)) j;
+          size = ap length er ∙ with-size set₁ f ∙ inv .size;
+        }
 
 -- ---- `part`
 
--- The pair k leads to the new edge x.
-abbrev leadsTo : List ℕ → ℕ → (ℕ → ℕ) → ℕ → ℕ → Bool
-leadsTo w a to x k = eqb (oldAt w k) a and eqb (to k) (suc x)
+-- With the set, the pairs below the place lead to the one at the end.
+unfoldable pub AddsTo : List ℕ → List ℕ → List ℕ → List ℕ → List ℕ → ℕ → ℕ → List ℕ → List ℕ → ℕ → Type 0
+AddsTo on ol nn nl w e n set set′ place =
+    (o p : Listing) (c : ℕ) (h : Compared on ol nn nl w c o p) → e < edgeCount (o .program) → 16 ≤ length set
+    → (n ≡ sourceAt (o .program) e) × ((x : ℕ) → PairsLeft h e false _or_ adding x (bitIn set x) (bitIn set′ x) place)
 
--- The set comes to what the pairs below the place still add.
-unfoldable pub AddsFrom : List ℕ → List ℕ → List ℕ → List ℕ → List ℕ → ℕ → ℕ → List ℕ → List ℕ → ℕ → Type 0
-AddsFrom on ol nn nl w e n set set′ place =
-    (o p : Listing) (c : ℕ) → Compared on ol nn nl w c o p → e < edgeCount (o .program) → 16 ≤ length set
-    → (n ≡ sourceAt (o .program) e)
-    × ((x : ℕ) → Left (oldAt w) (sourceAt (o .program) e) c
-    (bitIn set x or any c (leadsTo w (sourceAt (o .program) e) (λ k. counterpart (o .program) (p .program) (pairsIn w c) false e (newAt w k)) x))
-    (λ j. bitIn set′ x or any j (leadsTo w (sourceAt (o .program) e) (λ k. counterpart (o .program) (p .program) (pairsIn w c) false e (newAt w k)) x)) place)
-
-pub record PartsFrom (on ol nn nl w : List ℕ) (e n : ℕ) (set set′ : List ℕ) (place : ℕ) : Type 0 where
-  pub from : AddsFrom on ol nn nl w e n set set′ place
+pub record PartsTo (on ol nn nl w : List ℕ) (e n : ℕ) (set set′ : List ℕ) (place : ℕ) : Type 0 where
+  pub to : AddsTo on ol nn nl w e n set set′ place
   pub size : length set′ ≡ length set
 
-adds-blind : (w : List ℕ) (a : ℕ) (to : ℕ → ℕ) (x : ℕ) (b : Bool) → Blind (oldAt w) a (λ j. b or any j (leadsTo w a to x))
-unfolding Blind
-adds-blind w a to x b k d = ap (λ (t : Bool). b or t) (any-skip (leadsTo w a to x) k (fails _ (λ t. d (eqb-true _ _ (and-left _ _ t)))))
-
-pub part-start : (on ol nn nl w : List ℕ) (e n place : ℕ) (set : List ℕ) → n ≡ getD ol (edgeBase e) 0 → place ≡ lastPair w n → PartsFrom on ol nn nl w e n set set place
-unfolding AddsFrom
+pub part-start : (on ol nn nl w : List ℕ) (e n place : ℕ) (set : List ℕ) → n ≡ getD ol (edgeBase e) 0 → place ≡ lastPair w n → PartsTo on ol nn nl w e n set set place
+unfolding AddsTo
 part-start on ol nn nl w e n place set en ep =
     record {
-      from = λ o p c h i room.
-          let s : n ≡ sourceAt (o .program) e = source-of e n h i en in (
-            s,
-            λ x. rw (ep, s) (left-start (walked (h .held .store) (suc (sourceAt (o .program) e))) (sourceAt (o .program) e) (omega arith)
-                (adds-blind w (sourceAt (o .program) e) (λ k. counterpart (o .program) (p .program) (pairsIn w c) false e (newAt w k)) x (bitIn set x))),
-          );
+      to = λ o p c h i room. let s : n ≡ sourceAt (o .program) e = source-of e n h i en in (s, λ x. pairs-start h e false _or_ adding x _ n place s ep);
       size = refl;
     }
 
-or-turn : (a b d : Bool) → (a or (b or d)) ≡ ((a or d) or b)
-unfolding _or_
-or-turn true b d = refl
-or-turn false b d = or-swap b d
-
-module _ (on ol nn nl w : List ℕ) (e n : ℕ) (set set₁ : List ℕ) (place : ℕ) (inv : PartsFrom on ol nn nl w e n set set₁ place) where
+module _ (on ol nn nl w : List ℕ) (e n : ℕ) (set set₁ : List ℕ) (place : ℕ) (inv : PartsTo on ol nn nl w e n set set₁ place) where
   pub part-end : place ≤ 0 → Parts on ol nn nl w e set set₁
-  unfolding AddsFrom AddsParted any
+  unfolding AddsTo AddsParted
   part-end z =
       record {
         adds = λ o p c h i room x.
-            let r = inv .from o p c h i room .1 x in
-            let y : place ≡ 0 = omega arith in
-            let to : ℕ → ℕ = λ k. counterpart (o .program) (p .program) (pairsIn w c) false e (newAt w k) in
-            sym (or-none (bitIn set₁ x) refl)
-            ∙ ap (λ (j : ℕ). bitIn set₁ x or any j (leadsTo w (sourceAt (o .program) e) to x)) (sym y)
-            ∙ sym (r .rest) ∙ ap (λ (t : Bool). bitIn set x or t) (leads-any (parts-lead h e) x);
+            pairs-end h e false _or_ adding x _ _ place (inv .to o p c h i room .1 x) z
+            ∙ ap (λ (t : Bool). bitIn set x or (ltb x (edgeCount (p .program)) and t)) (met-parted (o .program) (p .program) _ e x);
         size = inv .size;
       }
 
-  pub part-on : (k m f next : ℕ) (set₂ : List ℕ) → 0 < place → k ≡ place - 1 → m ≡ newAt w k → Joins on ol nn nl w e n m false f → set₂ ≡ added set₁ f → next ≡ pairBefore w k
-      → PartsFrom on ol nn nl w e n set set₂ next
-  unfolding AddsFrom
-  part-on k m f next set₂ pos d em j er en =
+  pub part-on : (k m next : ℕ) (set₂ : List ℕ) → 0 < place → k ≡ place - 1 → m ≡ newAt w k → PartsAt on ol nn nl w e n m set₁ set₂ → next ≡ pairBefore w k → PartsTo on ol nn nl w e n set set₂ next
+  unfolding AddsTo AddsAt
+  part-on k m next set₂ pos d em a en =
       record {
-        from = λ o p c h i room.
-            let r = inv .from o p c h i room in
-            let a : ℕ = sourceAt (o .program) e in
-            let to : ℕ → ℕ = λ k. counterpart (o .program) (p .program) (pairsIn w c) false e (newAt w k) in (
+        to = λ o p c h i room.
+            let r = inv .to o p c h i room in (
               r .0,
               λ x.
                   let y = r .1 x in
-                  let b : k < c = omega (arith, y .within) in
-                  let own : oldAt w k ≡ a = ap (oldAt w) d ∙ y .owner pos in
-                  let q : f ≡ to k = joins-here h e n k m f false i (r .0) b (own ∙ sym (r .0)) em j in
-                  let T : ℕ → Bool = leadsTo w a to x in
-                  let here : T k ≡ eqb f (suc x) = yes-and _ (eq-eqb _ _ own) ∙ ap (λ (u : ℕ). eqb u (suc x)) (sym q) in
-                  let few : f ≤ 64 * length set₁
-                  = same-or f 0 (λ z. omega arith)
-                  (λ z. let u = parts-lead h e .into k b own (omega arith) in omega (arith, u .0, sound _ p (h .new-in) .fewEdges, inv .size)) in
-                  let g : bitIn set₂ x ≡ (bitIn set₁ x or T k) = ap (λ (l : List ℕ). bitIn l x) er ∙ added-at set₁ f x few ∙ ap (λ (t : Bool). bitIn set₁ x or t) (sym here) in
-                  let u : place ≡ suc k = omega arith in
-                  let step : (bitIn set₁ x or any place T) ≡ (bitIn set₂ x or any (place - 1) T)
-                  = ap (λ (t : Bool). bitIn set₁ x or t) (ap (λ (n : ℕ). any n T) u ∙ any-more T k) ∙ or-turn (bitIn set₁ x) (any k T) (T k)
-                  ∙ ap₂ (λ (v : Bool) (n : ℕ). v or any n T) (sym g) d in
-                  rw (en, d) (left-step (walked (h .held .store) (suc a)) y pos (adds-blind w a to x (bitIn set₂ x)) step),
+                  let there = pair-at h n m k (omega (arith, y .within)) (r .0 ∙ sym (y .owner pos) ∙ ap (oldAt w) (sym d)) em in
+                  pairs-on h e false _or_ adding x _ _ _ place k m next y pos d em (a .adds o p c h i (r .0) there (omega (arith, inv .size)) x) en,
             );
-        size = ap length er ∙ added-size set₁ f ∙ inv .size;
+        size = a .size ∙ inv .size;
       }
 
 -- ---- `start`, `start_all`
@@ -187,4 +149,4 @@ module _ (on ol nn nl w dangers : List ℕ) (edges : ℕ) (set : List ℕ) where
     pub all-end : e ≤ edges → edges ≤ e → AllStart on ol nn nl w dangers edges edges set set₁
     all-end a b = let q : e ≡ edges = omega arith in rw q at inv
 
-pub ruleset starts = (before-less, add-none, add-one-more, part-start, part-end, part-on, start-on, start-past, all-none, all-on, all-end)
+pub ruleset starts = (before-less, hit-less, at-start, at-end, at-on, part-start, part-end, part-on, start-on, start-past, all-none, all-on, all-end)

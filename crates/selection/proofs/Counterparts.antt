@@ -1,5 +1,5 @@
 -- The turns and the returns of the functions that find the counterparts of an old edge.
-use mathlib.Core.Path.{_≡_, refl, sym, ap, ap₂, _∙_, subst}
+use mathlib.Core.Path.{_≡_, refl, sym, ap, _∙_, subst}
 use mathlib.Core.Bool.{Bool, true, false}
 use mathlib.Core.Logic.{_⊎_, inl, inr, ⊎-elim}
 use mathlib.Core.List.{List}
@@ -12,7 +12,7 @@ use Rattle.laws.specs.Tests.{_and_, any, choose, first, found, listed}
 use Rattle.laws.specs.TestLaws.{and-both, and-left, and-right, any-at, any-of, both-ways, every-at, every-of, first-only, implied, implies, passes?}
 use Rattle.laws.specs.Lists.{choose-yes, choose-no}
 use Rattle.laws.specs.Slices.{below-or, same-or}
-use Rattle.laws.specs.Chain.{latest, latest-none}
+use Rattle.laws.specs.Chain.{latest-none}
 use Rattle.laws.specs.Fold.{Folded, fold, fold-end, fold-keeps, fold-start, fold-step, passing, passing-at, passing-chain, passing-of}
 use Rattle.rules.specs.Graph.{Program, edgeCount, sourceAt}
 use Rattle.rules.specs.Closing.{goesOn, joined, pairs}
@@ -24,9 +24,10 @@ use Rattle.versions.specs.Found.{none-found}
 use Rattle.versions.specs.MemoryLaws.{sound}
 use Rattle.versions.specs.Claims.{GoesOn}
 use Rattle.versions.specs.Opposite.{FindsBefore, LastOpposite, OppositeBefore}
-use Rattle.selection.specs.Compared.{Compared, Fits, Fitting, Joins, JoinsBefore, JoinsDown, hitAt, hitBelow, hits-any, met-joined, pair-there, partner-below}
+use Rattle.selection.specs.Compared.{Compared, Fits, Fitting, Joins, JoinsBefore, JoinsDown, hitAt, hits-any, met-joined, partner-below}
 use Rattle.selection.specs.Marks.{Only, Sees, seenAt, several, sole, united}
 use Rattle.selection.proofs.Dangers.{goes-is, hit-at, source-of}
+use Rattle.selection.proofs.Hits.{hit-less, hit-next, pair-at}
 
 -- ---- `joins`, `joins_before`
 
@@ -56,22 +57,6 @@ joins-down ol nl w e f met before r q t =
           t .fits on nn o p c h i m f l (u .1) (omega (arith, u .0)) (q .finds (h .old-text) on (h .new-text) nn o p (h .old-in) (h .new-in) i (u .0) m (u .2));
       below = omega (arith, t .below, q .below);
     }
-
--- A walk along such edges, at f: the next one.
-pub hit-next : {on ol nn nl w : List ℕ} {c : ℕ} {o p : Listing} → Compared on ol nn nl w c o p → (e m f x next : ℕ) (met : Bool) → e < edgeCount (o .program)
-    → listed (pairsIn w c) (sourceAt (o .program) e) m ≡ true → x ≡ f - 1 → passing (hitAt (o .program) (p .program) (pairsIn w c) met e m) (f - 1) ≡ 0 → JoinsBefore ol nl w e x met next
-    → next ≡ latest (passing (hitAt (o .program) (p .program) (pairsIn w c) met e m)) (passing (hitAt (o .program) (p .program) (pairsIn w c) met e m) (f - 1)) (f - 1)
-unfolding JoinsDown
-hit-next {on = on} {nn = nn} {w = w} {c = c} {o = o} {p = p} h e m f x next met i l ex q j =
-    let T : ℕ → Bool = hitAt (o .program) (p .program) (pairsIn w c) met e m in
-    j .joins on nn o p c h i m l (ap T ex ∙ passing-at T (f - 1) q) ∙ ap₂ (λ (a : ℕ) (b : ℕ). latest (passing T) a b) (sym q) ex
-
-pub hit-less : (ol nl w : List ℕ) (e f x next : ℕ) (met : Bool) → 0 < f → x ≡ f - 1 → JoinsBefore ol nl w e x met next → next < f
-hit-less ol nl w e f x next met pos ex j = omega (arith, j .below)
-
--- A pair of the table, by what the code holds of it.
-pub pair-at : {on ol nn nl w : List ℕ} {c : ℕ} {o p : Listing} → Compared on ol nn nl w c o p → (n m k : ℕ) → k < c → n ≡ oldAt w k → m ≡ newAt w k → listed (pairsIn w c) n m ≡ true
-pair-at {w = w} {c = c} h n m k l a b = ap₂ (listed (pairsIn w c)) a b ∙ pair-there w c k l
 
 -- ---- `unite`
 
@@ -118,7 +103,7 @@ module _ (on ol nn nl w : List ℕ) (e n m before : ℕ) where
         let s : place ≡ suc (place - 1) = omega arith in
         fold-step _ (see-others (o .program) (p .program) (pairsIn w c) e m) (passing-chain _ _) (omega arith) before seen seen′ place next r pos
         (es ∙ ap (united seen) s ∙ sym (choose-yes _ seen (passing-at _ (place - 1) (r .owner pos))))
-        (hit-next h e m place x next true i (rw (← en) l) ex (r .owner pos) j)
+        (hit-next h e true m place x next i (rw (← en) l) ex (r .owner pos) j)
 
 -- ---- what is seen of all
 

@@ -1,4 +1,5 @@
 pub mod Dangers
+pub mod Hits
 pub mod Counterparts
 pub mod Marks
 pub mod All

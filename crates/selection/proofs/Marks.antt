@@ -11,26 +11,25 @@ use lib.Seq.{sets, set-out, length-sets, getD-set-same, getD-set-other}
 use borrow.Author.Tests.{eqb-true, eq-eqb, ne-eqb, le-leb, lt-leb, lt-ltb, le-ltb, ltb-true}
 use Rattle.laws.specs.Tests.{_and_, _⇒_, any, choose, every, first, found, has, listed}
 use Rattle.laws.specs.Bits.{bitIn}
-use Rattle.laws.specs.TestLaws.{and-both, and-ends, and-left, and-right, any-at, any-of, both-ways, eqb-self, same-test, every-at, fails, implied, yes-and}
+use Rattle.laws.specs.TestLaws.{and-both, and-ends, and-left, and-right, any-at, both-ways, every-at, fails, implied, yes-and}
 use Rattle.laws.specs.Lists.{choose-yes, choose-no}
 use Rattle.laws.specs.Counting.{any-agree}
 use Rattle.laws.specs.Slices.{below-or, same-or, sets-more, sets-out, getD-sets-after, getD-sets-in}
-use Rattle.laws.specs.Fold.{Folded, fold-adds, fold-end, fold-start, fold-step, passing, passing-at, passing-chain, passing-of}
+use Rattle.laws.specs.Fold.{Adding}
 use Rattle.rules.specs.Graph.{Program, edgeCount, sourceAt}
 use Rattle.rules.specs.Closing.{Coverage, afterDangers, carries as carriesOf, carriesOnly, dangers, endangered, holds, joined, mark, meets, pairs, probes}
 use Rattle.rules.specs.Sheet.{markByte}
 use Rattle.rules.specs.ProgramFile.{Listing}
 use Rattle.graph.specs.Table.{edgeBase}
 use Rattle.pairset.specs.Store.{lastPair, newAt, oldAt, pairBefore, pairsIn}
-use Rattle.pairset.specs.StoreLaws.{walked}
 use Rattle.coverage.specs.Rows.{Row, edgeBit}
 use Rattle.versions.specs.Found.{found-at, found-none}
 use Rattle.laws.specs.Those.{any-more, any-skip}
-use Rattle.selection.specs.Compared.{Compared, Joins, JoinsBefore, hitAt, hits-any, met-joined}
+use Rattle.selection.specs.Compared.{Compared, Joins, JoinsBefore, met-joined}
 use Rattle.selection.specs.Marks.{AllCarried, AllOpened, AllRaised, Carried, Carries, CarriesTo, Finds, MarksFound, Only, Opened, Opens, OpensTo, RaisedAt, Raises, RaisesAt, SetOpened, carried, carriesOnlyTo, carriesTo, lifted, markedOne, opensTo, raised, sole}
 use Rattle.selection.specs.MarkLaws.{carried-lifted, carried-more, carried-none, carried-only, lifted-before, lifted-more, lifted-none, mark-left, mark-open, marks-by}
-use Rattle.selection.proofs.Dangers.{hit-at, source-of}
-use Rattle.selection.proofs.Counterparts.{hit-next, pair-at}
+use Rattle.selection.proofs.Dangers.{source-of}
+use Rattle.selection.proofs.Hits.{EdgesLeft, PairsLeft, edges-end, edges-on, edges-start, pair-at, pairs-end, pairs-on, pairs-start}
 
 -- ---- `raise`, `mark_one`
 
@@ -92,98 +91,56 @@ module _ (marks : List ℕ) (x most : ℕ) where
 
 -- ---- `raise_at`
 
--- An item that lifts a mark only where it passes.
-lifts-others : (most : ℕ) (T : ℕ → Bool) (key : ℕ → ℕ) (a : ℕ) → ((k : ℕ) → T k ≡ true → key k ≡ a) → (k y : ℕ) → (key k ≡ a → ⊥) → lifted most y (T k) ≡ y
-lifts-others most T key a h k y d = ap (lifted most y) (fails _ (λ t. d (h k t))) ∙ lifted-none most y
-
--- The new edge f is such an edge, and is x.
-abbrev hitIs : Program → Program → List (ℕ × ℕ) → ℕ → ℕ → ℕ → ℕ → Bool
-hitIs old new M e m x f = hitAt old new M true e m f and eqb f x
+pub lifting : (most : ℕ) → Adding (lifted most)
+lifting most = record { none = lifted-none most; more = lifted-more most }
 
 -- With the marks, the edges below the place lead to those at the end.
 unfoldable pub RaisesFrom : List ℕ → List ℕ → List ℕ → List ℕ → List ℕ → ℕ → ℕ → ℕ → ℕ → List ℕ → List ℕ → ℕ → Type 0
 RaisesFrom on ol nn nl w e n m most marks marks′ place =
-    (o p : Listing) (c : ℕ) → Compared on ol nn nl w c o p → e < edgeCount (o .program) → n ≡ sourceAt (o .program) e → listed (pairsIn w c) n m ≡ true → (x : ℕ) → x < length marks
-    → Folded (passing (hitAt (o .program) (p .program) (pairsIn w c) true e m)) 0 (edgeCount (p .program))
-    (λ f y. lifted most y (hitIs (o .program) (p .program) (pairsIn w c) e m x f)) (getD marks x 0) (getD marks′ x 0) place
+    (o p : Listing) (c : ℕ) (h : Compared on ol nn nl w c o p) → e < edgeCount (o .program) → n ≡ sourceAt (o .program) e → listed (pairsIn w c) n m ≡ true → (x : ℕ) → x < length marks
+    → EdgesLeft h e true (lifted most) (lifting most) x m (getD marks x 0) (getD marks′ x 0) place
 
 pub record RaisedFrom (on ol nn nl w : List ℕ) (e n m most : ℕ) (marks marks′ : List ℕ) (place : ℕ) : Type 0 where
   pub from : RaisesFrom on ol nn nl w e n m most marks marks′ place
   pub size : length marks′ ≡ length marks
 
-module _ (old new : Program) (M : List (ℕ × ℕ)) (e m most x : ℕ) where
-  hit-others : (f y : ℕ) → (passing (hitAt old new M true e m) f ≡ 0 → ⊥) → lifted most y (hitIs old new M e m x f) ≡ y
-  hit-others = lifts-others most (hitIs old new M e m x) _ 0 (λ f t. passing-of _ f (and-left _ _ t))
-
-  hit-any : any (edgeCount new) (hitIs old new M e m x) ≡ hitAt old new M true e m x
-  hit-any =
-      same-test _ _
-      (λ t. let r = any-at (hitIs old new M e m x) (edgeCount new) t in ap (hitAt old new M true e m) (sym (eqb-true _ _ (and-right _ _ (r .2)))) ∙ and-left _ _ (r .2))
-      (λ t. any-of (hitIs old new M e m x) (edgeCount new) x (hit-at old new M true e m x t .0) (and-both t (eqb-self x)))
-
 module _ (on ol nn nl w : List ℕ) (e n m most : ℕ) (marks : List ℕ) where
   pub at-start : (place : ℕ) → Joins on ol nn nl w e n m true place → RaisedFrom on ol nn nl w e n m most marks marks place
   unfolding RaisesFrom Joins
-  at-start place j =
-      record {
-        from = λ o p c h i en l x b. fold-start _ (hit-others (o .program) (p .program) (pairsIn w c) e m most x) (passing-chain _ _) (omega arith) _ place (j o p c h i en l);
-        size = refl;
-      }
+  at-start place j = record { from = λ o p c h i en l x b. edges-start h e true (lifted most) (lifting most) x m _ place (j o p c h i en l); size = refl }
 
   module _ (marks₁ : List ℕ) (place : ℕ) (inv : RaisedFrom on ol nn nl w e n m most marks marks₁ place) where
     pub at-end : place ≤ 0 → RaisedAt on ol nn nl w e n m most marks marks₁
     unfolding RaisesFrom RaisesAt
-    at-end z =
-        record {
-          raises = λ o p c h i en l x b.
-              fold-end _ (hit-others (o .program) (p .program) (pairsIn w c) e m most x) (edgeCount (p .program)) _ _ place (inv .from o p c h i en l x b) z
-              ∙ fold-adds (lifted most) (lifted-more most) (hitIs (o .program) (p .program) (pairsIn w c) e m x) (lifted-none most) (edgeCount (p .program)) (getD marks x 0)
-              ∙ ap (lifted most (getD marks x 0)) (hit-any (o .program) (p .program) (pairsIn w c) e m most x);
-          size = inv .size;
-        }
+    at-end z = record { raises = λ o p c h i en l x b. edges-end h e true (lifted most) (lifting most) x m _ _ place (inv .from o p c h i en l x b) z; size = inv .size }
 
     pub at-on : (f next : ℕ) (marks₂ : List ℕ) → 0 < place → f ≡ place - 1 → marks₂ ≡ raised marks₁ f most → JoinsBefore ol nl w e f true next → RaisedFrom on ol nn nl w e n m most marks marks₂ next
     unfolding RaisesFrom
     at-on f next marks₂ pos d er j =
         record {
           from = λ o p c h i en l x b.
-              let r = inv .from o p c h i en l x b in
-              let T : ℕ → Bool = hitAt (o .program) (p .program) (pairsIn w c) true e m in
-              fold-step _ (hit-others (o .program) (p .program) (pairsIn w c) e m most x) (passing-chain _ _) (omega arith) _ _ _ place next r pos
-              (ap (λ (v : List ℕ). getD v x 0) er ∙ raised-at marks₁ f most x (omega (arith, inv .size))
-              ∙ ap (lifted most (getD marks₁ x 0)) (ap (λ (g : ℕ). eqb g x) d ∙ sym (yes-and _ (passing-at T (place - 1) (r .owner pos)))))
-              (hit-next h e m place f next true i (rw (← en) l) d (r .owner pos) j);
+              edges-on h e true (lifted most) (lifting most) x m _ _ _ place f next (inv .from o p c h i en l x b) i (rw (← en) l) pos d
+              (ap (λ (v : List ℕ). getD v x 0) er ∙ raised-at marks₁ f most x (omega (arith, inv .size))) j;
           size = ap length er ∙ raised-size marks₁ f most ∙ inv .size;
         }
 
 -- ---- `raise_all`
 
--- At the pair k the new edge x is such an edge.
-abbrev hitBy : Program → Program → List ℕ → ℕ → ℕ → ℕ → ℕ → Bool
-hitBy old new w c e x k = eqb (oldAt w k) (sourceAt old e) and hitAt old new (pairsIn w c) true e (newAt w k) x
-
 -- With the marks, the pairs below the place lead to those at the end.
 unfoldable pub RaisesTo : List ℕ → List ℕ → List ℕ → List ℕ → List ℕ → ℕ → ℕ → ℕ → List ℕ → List ℕ → ℕ → Type 0
 RaisesTo on ol nn nl w e most n marks marks′ place =
-    (o p : Listing) (c : ℕ) → Compared on ol nn nl w c o p → e < edgeCount (o .program)
-    → (n ≡ sourceAt (o .program) e)
-    × ((x : ℕ) → x < length marks
-    → Folded (oldAt w) (sourceAt (o .program) e) c (λ k y. lifted most y (hitBy (o .program) (p .program) w c e x k)) (getD marks x 0) (getD marks′ x 0) place)
+    (o p : Listing) (c : ℕ) (h : Compared on ol nn nl w c o p) → e < edgeCount (o .program)
+    → (n ≡ sourceAt (o .program) e) × ((x : ℕ) → x < length marks → PairsLeft h e true (lifted most) (lifting most) x (getD marks x 0) (getD marks′ x 0) place)
 
 pub record RaisedTo (on ol nn nl w : List ℕ) (e most n : ℕ) (marks marks′ : List ℕ) (place : ℕ) : Type 0 where
   pub to : RaisesTo on ol nn nl w e most n marks marks′ place
   pub size : length marks′ ≡ length marks
 
-by-others : (old new : Program) (w : List ℕ) (c e most x k y : ℕ) → (oldAt w k ≡ sourceAt old e → ⊥) → lifted most y (hitBy old new w c e x k) ≡ y
-by-others old new w c e most x = lifts-others most (hitBy old new w c e x) (oldAt w) (sourceAt old e) (λ k t. eqb-true _ _ (and-left _ _ t))
-
 pub all-start : (on ol nn nl w : List ℕ) (e most n place : ℕ) (marks : List ℕ) → n ≡ getD ol (edgeBase e) 0 → place ≡ lastPair w n → RaisedTo on ol nn nl w e most n marks marks place
 unfolding RaisesTo
 all-start on ol nn nl w e most n place marks en ep =
     record {
-      to = λ o p c h i.
-          let s : n ≡ sourceAt (o .program) e = source-of e n h i en in
-          (s, λ x l. fold-start _ (by-others (o .program) (p .program) w c e most x) (walked (h .held .store) (suc (sourceAt (o .program) e))) (omega arith) _ place (ep ∙ ap (lastPair w) s));
+      to = λ o p c h i. let s : n ≡ sourceAt (o .program) e = source-of e n h i en in (s, λ x l. pairs-start h e true (lifted most) (lifting most) x _ n place s ep);
       size = refl;
     }
 
@@ -193,9 +150,8 @@ module _ (on ol nn nl w : List ℕ) (e most n : ℕ) (marks marks₁ : List ℕ)
   all-end z =
       record {
         raises = λ o p c h i x l.
-            fold-end _ (by-others (o .program) (p .program) w c e most x) c _ _ place (inv .to o p c h i .1 x l) z
-            ∙ fold-adds (lifted most) (lifted-more most) (hitBy (o .program) (p .program) w c e x) (lifted-none most) c (getD marks x 0)
-            ∙ ap (lifted most (getD marks x 0)) (hits-any h e true x ∙ ap (λ (t : Bool). ltb x (edgeCount (p .program)) and t) (met-joined (o .program) (p .program) _ e x));
+            pairs-end h e true (lifted most) (lifting most) x _ _ place (inv .to o p c h i .1 x l) z
+            ∙ ap (λ (t : Bool). lifted most (getD marks x 0) (ltb x (edgeCount (p .program)) and t)) (met-joined (o .program) (p .program) _ e x);
         size = inv .size;
       }
 
@@ -209,13 +165,8 @@ module _ (on ol nn nl w : List ℕ) (e most n : ℕ) (marks marks₁ : List ℕ)
               r .0,
               λ x l.
                   let y = r .1 x l in
-                  let q : m ≡ newAt w (place - 1) = em ∙ ap (newAt w) d in
-                  let own : oldAt w (place - 1) ≡ sourceAt (o .program) e = y .owner pos in
-                  let there = pair-at h n m (place - 1) (omega (arith, y .within)) (r .0 ∙ sym own) q in
-                  fold-step _ (by-others (o .program) (p .program) w c e most x) (walked (h .held .store) (suc (sourceAt (o .program) e))) (omega arith) _ _ _ place next y pos
-                  (a .raises o p c h i (r .0) there x (omega (arith, inv .size))
-                  ∙ ap (lifted most (getD marks₁ x 0)) (ap (λ (v : ℕ). hitAt (o .program) (p .program) (pairsIn w c) true e v x) q ∙ sym (yes-and _ (eq-eqb _ _ own))))
-                  (en ∙ ap (pairBefore w) d),
+                  let there = pair-at h n m k (omega (arith, y .within)) (r .0 ∙ sym (y .owner pos) ∙ ap (oldAt w) (sym d)) em in
+                  pairs-on h e true (lifted most) (lifting most) x _ _ _ place k m next y pos d em (a .raises o p c h i (r .0) there x (omega (arith, inv .size))) en,
             );
         size = a .size ∙ inv .size;
       }

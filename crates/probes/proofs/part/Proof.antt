@@ -2,12 +2,12 @@ use borrow.Author.Needs.{needs}
 use Rattle.probes.proofs.All.{all}
 use mathlib.Core.Path.{_≡_}
 use lib.ListN.{length}
-use Rattle.probes.proofs.Starts.{PartsFrom}
+use Rattle.probes.proofs.Starts.{PartsTo}
 use Rattle.probes.proofs.part.Statement.{statement}
 use Rattle.probes.proofs.part.Tie as tie
 
 abbrev Inv-loop : tie.InvT-loop
-Inv-loop on ol nn nl w e set₀ n place₀ set place = (length set ≡ length set₀) × PartsFrom on ol nn nl w e n set₀ set place
+Inv-loop on ol nn nl w e set₀ n place₀ set place = (length set ≡ length set₀) × PartsTo on ol nn nl w e n set₀ set place
 
 abbrev μ-loop : tie.MeasureT-loop
 μ-loop on ol nn nl w e set₀ n place₀ set place = place
@@ -27,11 +27,8 @@ sub-k c = search (all, needs)
 new-of-requires : tie.Need-new-of-requires Inv-loop μ-loop
 new-of-requires c κs = search (all, needs)
 
-joins-requires : tie.Need-joins-requires Inv-loop μ-loop
-joins-requires c κs = search (all, needs)
-
-add-requires : tie.Need-add-requires Inv-loop μ-loop
-add-requires c κs = search (all, needs)
+part-at-requires : tie.Need-part-at-requires Inv-loop μ-loop
+part-at-requires c κs = search (all, needs)
 
 pair-before-requires : tie.Need-pair-before-requires Inv-loop μ-loop
 pair-before-requires c κs = search (all, needs)
@@ -59,8 +56,7 @@ part-spec =
     loop-holds
     sub-k
     new-of-requires
-    joins-requires
-    add-requires
+    part-at-requires
     pair-before-requires
     loop-less
     loop-again
