@@ -1,5 +1,6 @@
 -- The turns and the returns of the functions of the five rules, as `search` finds them: the premises are what the code holds there.
 use mathlib.Core.Path.{_≡_, refl, sym, ap, ap₂, _∙_, subst}
+use mathlib.Core.Logic.{⊎-elim}
 use mathlib.Core.Bool.{Bool, true, false}
 use mathlib.Core.List.{List, []}
 use Prim.Native.Nat.{ℕ, _+_, _-_, _≤_, _<_}
@@ -26,7 +27,7 @@ use Rattle.coverage.specs.RowLaws.{meets-are}
 use Rattle.versions.specs.Memory.{Memory, memory}
 use Rattle.versions.specs.MemoryLaws.{edges-chained, entry-is, sound, target-is, well-formed}
 use Rattle.versions.specs.Claims.{Alike, Entered, GoesOn}
-use Rattle.versions.specs.Opposite.{FindsBefore, LastOpposite, OppositeBefore, WordLost, opposite, oppositeBelow, opposites, side-at, side-of, sideOf}
+use Rattle.versions.specs.Opposite.{FindsBefore, LastOpposite, OppositeBefore, SoleOpposite, WordLost, oppositeAt, oppositeBelow, opposites, side-at, side-of, sideOf}
 use Rattle.checker.specs.Rules.{AllKeep, AllKept, Claimed, Covered, EdgeKept, EdgesKept, EndsListed, OppositesListed, PairKeeps, Rule1, Rule5, TestKept, edgeAllowed, oppositesListed, pairRule}
 
 -- ---- `rule1`
@@ -70,9 +71,9 @@ module _ (ol nl w : List ℕ) (e last : ℕ) where
 
   module _ (place : ℕ) (inv : ListedFrom ol nl w e last place) where
     pub opposites-last : place ≤ 0 → OppositesListed ol nl w e last true
-    unfolding OppositesListed ListedFrom oppositesListed opposite
+    unfolding OppositesListed ListedFrom oppositesListed oppositeAt
     opposites-last z ot on nt nn sets m o p s c i k h =
-        sym (every-of (λ f. opposite (o .program) (p .program) e k f ⇒ listed (s .M) (targetAt (o .program) e) (targetAt (p .program) f)) (edgeCount (p .program))
+        sym (every-of (λ f. oppositeAt (o .program) (p .program) e k f ⇒ listed (s .M) (targetAt (o .program) e) (targetAt (p .program) f)) (edgeCount (p .program))
         (λ f l.
         implies _ _ (λ q.
         walk-end (inv ot on nt nn sets m o p s c i k h) z f l (side-of (o .program) (p .program) e k f (eqb-true _ _ (and-left _ _ q)) (and-right _ _ q)))))
@@ -89,7 +90,7 @@ module _ (ol nl w : List ℕ) (e last : ℕ) where
           (l, ap (sideOf (o .program) (p .program) e k) ef ∙ x .owner pos, et ot on nt nn sets m o p s c i l)
 
       pub opposites-broken : t ≡ false → OppositesListed ol nl w e last false
-      unfolding OppositesListed oppositesListed opposite
+      unfolding OppositesListed oppositesListed oppositeAt
       opposites-broken z ot on nt nn sets m o p s c i k h =
           let x = opposite-place ot on nt nn sets m o p s c i k h in
           let y = side-at (o .program) (p .program) e k f (x .1) in
@@ -97,7 +98,7 @@ module _ (ol nl w : List ℕ) (e last : ℕ) where
           both-ways
           (x .2
           ∙ implied _ _
-          (every-at (λ g. opposite (o .program) (p .program) e k g ⇒ listed (s .M) (targetAt (o .program) e) (targetAt (p .program) g)) (edgeCount (p .program)) a f (x .0))
+          (every-at (λ g. oppositeAt (o .program) (p .program) e k g ⇒ listed (s .M) (targetAt (o .program) e) (targetAt (p .program) g)) (edgeCount (p .program)) a f (x .0))
           (and-both (eq-eqb _ _ (y .0)) (y .1)))
           z))
 
@@ -134,7 +135,7 @@ module _ (ol nl w sets : List ℕ) (e k : ℕ) (t : Bool) (et : t ≡ bitIn sets
     -- The two terms that are left: the new node takes an edge for the word, and the ends are listed for each opposite edge.
     allowed-is : (ot on nt nn : List ℕ) (m : ℕ) (o p : Listing) (s : Sheet) → Claimed (memory ot on ol) (memory nt nn nl) w sets m o p s → e < edgeCount (o .program)
         → edgeAllowed (o .program) (p .program) s k e ≡ (some? (edgeTaken (p .program) k (wordAt (o .program) e)) and oppositesListed (o .program) (p .program) s k e)
-    unfolding edgeAllowed keptBy oppositesListed opposite _or_
+    unfolding edgeAllowed keptBy oppositesListed oppositeAt _or_
     allowed-is ot on nt nn m o p s c i = ap (λ (b : Bool). b or keptBy (o .program) (p .program) (listed (s .M)) e k) (bit-listed ot on nt nn m o p s c i ∙ n)
 
     lost-is : (ot on nt nn : List ℕ) (m : ℕ) (o p : Listing) (s : Sheet) → Claimed (memory ot on ol) (memory nt nn nl) w sets m o p s → e < edgeCount (o .program) → k < nodeCount (p .program)
@@ -156,7 +157,19 @@ module _ (ol nl w sets : List ℕ) (e k : ℕ) (t : Bool) (et : t ≡ bitIn sets
         h ot on nt nn sets m o p s c i k (el ot on nt nn o p (c .old-in) (c .new-in) i j)
         ∙ sym (allowed-is ot on nt nn m o p s c i ∙ yes-and _ (isnt-false _ (lost-is ot on nt nn m o p s c i j ∙ y)))
 
-pub ruleset kept = (kept-listed, kept-lost, kept-ends)
+  -- The only opposite edge decides alone.
+  pub kept-sole : (own f : ℕ) (r : Bool) → t ≡ false → 0 < own → f ≡ own - 1 → SoleOpposite ol nl e k own → EndsListed ol nl w e f r → EdgeKept ol nl w sets e k r
+  unfolding SoleOpposite
+  kept-sole own f r n pos q so h =
+      let s = so pos in
+      let b : OppositeBefore ol nl e f 0 = rw q (s .before) in
+      let all : OppositesListed ol nl w e own r
+      = ⊎-elim
+      (λ y. subst (OppositesListed ol nl w e own) (sym y) (opposites-last ol nl w e own 0 (opposites-on ol nl w e own own (opposites-first ol nl w e own) f r pos q h 0 y b) (omega arith)))
+      (λ y. subst (OppositesListed ol nl w e own) (sym y) (opposites-broken ol nl w e own own (opposites-first ol nl w e own) f r pos q h y)) (passes? r) in
+      kept-ends n own (s .last) false (s .kept) r refl all
+
+pub ruleset kept = (kept-listed, kept-lost, kept-ends, kept-sole)
 
 -- ---- `all_kept`
 

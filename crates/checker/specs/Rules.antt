@@ -14,7 +14,7 @@ use Rattle.rules.specs.Sheet.{Sheet}
 use Rattle.rules.specs.Check.{broken, edgeKept, edgesKept, entered, rule1, rule5}
 use Rattle.coverage.specs.Rows.{Row}
 use Rattle.versions.specs.Memory.{InMemory, Memory, memory}
-use Rattle.versions.specs.Opposite.{opposite, oppositeBelow}
+use Rattle.versions.specs.Opposite.{oppositeAt, oppositeBelow}
 use Rattle.sheet_reader.specs.Claims.{ClaimsHeld}
 
 -- Two programs in memory, and the claims of a sheet in its tables, whose pairs and edges are theirs.
@@ -44,7 +44,7 @@ EndsListed ol nl w e f r =
 
 -- `opposites_listed`: they are for each edge of the new node k that is opposite to the old edge e, where `last` is what `last_opposite` answers for them.
 unfoldable pub oppositesListed : Program → Program → Sheet → ℕ → ℕ → Bool
-oppositesListed old new s k e = every (edgeCount new) (λ f. opposite old new e k f ⇒ listed (s .M) (targetAt old e) (targetAt new f))
+oppositesListed old new s k e = every (edgeCount new) (λ f. oppositeAt old new e k f ⇒ listed (s .M) (targetAt old e) (targetAt new f))
 
 unfoldable pub OppositesListed : List ℕ → List ℕ → List ℕ → ℕ → ℕ → Bool → Type 0
 OppositesListed ol nl w e last r =

@@ -64,6 +64,11 @@ fn edge_kept(ol: &[usize], nl: &[usize], w: &[usize], sets: &[u64], e: usize, k:
     if coverage::in_set(sets, e) {
         return true;
     }
+    let own = versions::sole_opposite(ol, nl, e, k);
+    if 0 < own {
+        let f = own - 1;
+        return ends_listed(ol, nl, w, e, f);
+    }
     let last = versions::last_opposite(ol, nl, e, k);
     if versions::word_lost(ol, nl, e, k, last) {
         return false;

@@ -11,10 +11,10 @@ use lib.ListN.{getD}
 use Rattle.laws.specs.Tests.{_and_, _⇒_, listed, some?}
 use Rattle.laws.specs.TestLaws.{and-both, and-fails, and-left, and-right, both-ways, every-at, every-not, fails, implied, isnt-false, isnt-true, unimplied}
 use Rattle.rules.specs.Graph.{Program, edgeCount, edgeTaken, entry, nodeCount, sourceAt, targetAt, wordAt}
-use Rattle.rules.specs.Closing.{Pair, alike, edge-ends, fitted, keptBy, sameWord}
+use Rattle.rules.specs.Closing.{Pair, alike, edge-ends, fitted, keptBy, opposite}
 use Rattle.rules.specs.ProgramFile.{Listing}
 use Rattle.rules.specs.Proofs.Closure.{danger-of, pair-alike}
-use Rattle.rules.specs.Proofs.ClosingLaws.{fits-ends, fits-word, one-word}
+use Rattle.rules.specs.Proofs.ClosingLaws.{fits-ends, fits-word, opposite-at}
 use Rattle.graph.specs.Table.{edgeBase, procBase}
 use Rattle.pairset.specs.Store.{Appended, DangerMarked, Has, pairsIn}
 use Rattle.versions.specs.Memory.{InMemory, Memory, memory}
@@ -83,7 +83,7 @@ pub ruleset callees = (entries-there, entries-new, callee-done)
 module _ (old new : Program) (e m : ℕ) where
   -- It is done if it is for the word of e and for each opposite edge.
   pub edge-done : (M : List (ℕ × ℕ)) (S : ℕ → Bool) → LostDone old new e m M S
-      → ((f : ℕ) → f < edgeCount new → sourceAt new f ≡ m → sameWord old new e f ≡ true → EndsDone old new e f M S) → EdgeDone old new e m M S
+      → ((f : ℕ) → f < edgeCount new → sourceAt new f ≡ m → opposite old new e f ≡ true → EndsDone old new e f M S) → EdgeDone old new e m M S
   unfolding LostDone fitted keptBy
   edge-done M S lost each =
       record {
@@ -91,7 +91,7 @@ module _ (old new : Program) (e m : ℕ) where
         danger = λ u.
             ⊎-elim lost
             (λ t.
-            let r = every-not (λ f. eqb (sourceAt new f) m and sameWord old new e f ⇒ alike old new (targetAt old e) (targetAt new f)) (edgeCount new) t in
+            let r = every-not (λ f. eqb (sourceAt new f) m and opposite old new e f ⇒ alike old new (targetAt old e) (targetAt new f)) (edgeCount new) t in
             let x = unimplied _ _ (r .2) in
             each (r .0) (r .1) (eqb-true _ _ (and-left _ _ (x .0))) (and-right _ _ (x .0)) .danger (x .1))
             (and-fails _ _ u);
@@ -102,12 +102,12 @@ module _ (old new : Program) (e m : ℕ) where
   unfolding fitted keptBy
   lost-unfitted u = fails _ (λ t. both-ways (and-left _ _ t) u)
 
-  ends-unfitted : (f : ℕ) → f < edgeCount new → sourceAt new f ≡ m → sameWord old new e f ≡ true → alike old new (targetAt old e) (targetAt new f) ≡ false → fitted old new e m ≡ false
+  ends-unfitted : (f : ℕ) → f < edgeCount new → sourceAt new f ≡ m → opposite old new e f ≡ true → alike old new (targetAt old e) (targetAt new f) ≡ false → fitted old new e m ≡ false
   unfolding fitted keptBy
   ends-unfitted f l s x u =
       fails _ (λ t.
       both-ways
-      (implied _ _ (every-at (λ f. eqb (sourceAt new f) m and sameWord old new e f ⇒ alike old new (targetAt old e) (targetAt new f)) (edgeCount new) (and-right _ _ t) f l)
+      (implied _ _ (every-at (λ f. eqb (sourceAt new f) m and opposite old new e f ⇒ alike old new (targetAt old e) (targetAt new f)) (edgeCount new) (and-right _ _ t) f l)
       (and-both (eq-eqb _ _ s) x)) u)
 
 -- ---- `mark_lost`
@@ -174,7 +174,7 @@ module _ (ot on ol nt nn nl groups : List ℕ) (limit : ℕ) (w : List ℕ) (c e
             let fm = formed-in _ _ o p h (g .memory) in
             let m = old-end o h i in
             let n = new-end p (g .memory) j in
-            let word = one-word (o .program) (p .program) (fm .old-formed) (fm .new-formed) e f i j k in
+            let word = opposite-at (o .program) (p .program) (fm .old-formed) (fm .new-formed) e f i j k in
             let alike-ends : c ≤ limit → alike (o .program) (p .program) (targetAt (o .program) e) (targetAt (p .program) f) ≡ true
             = λ l. rw (← m, ← n) (like o p h g s (rw m (fm .old-formed .targets e i)) (rw n (fm .new-formed .targets f j)) l) in
             let grown = q .claim (o .program) (p .program) fm s (λ l. rw (m, n) (edge-ends {e = e} {e′ = f} z x (word .0) (word .1) (word .2) (alike-ends l)))

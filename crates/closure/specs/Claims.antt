@@ -8,7 +8,7 @@ use lib.Dec.{leb}
 use lib.ListN.{length}
 use Rattle.laws.specs.Tests.{choose, has, listed}
 use Rattle.rules.specs.Graph.{Program, edgeCount, entry, procCount, sourceAt}
-use Rattle.rules.specs.Closing.{MayGoOn, Pair, dangers, pairs, sameWord}
+use Rattle.rules.specs.Closing.{MayGoOn, Pair, dangers, pairs, opposite}
 use Rattle.rules.specs.ProgramFile.{Listing}
 use Rattle.pairset.specs.Store.{dangerIn, newAt, oldAt, pairBase, pairsIn}
 use Rattle.versions.specs.Memory.{InMemory, Memory, memory}
@@ -67,7 +67,7 @@ module _ (a b : Memory) (t : List ℕ) (limit : ℕ) (w : List ℕ) where
   unfoldable pub TriesEnds : ℕ → ℕ → ℕ → List ℕ → ℕ → Type 0
   TriesEnds c e f v r =
       (o p : Listing) → InMemory a o → InGroups b t p → State (o .program) (p .program) limit w c → e < edgeCount (o .program) → f < edgeCount (p .program)
-      → sameWord (o .program) (p .program) e f ≡ true → Pair (o .program) (p .program) (sourceAt (o .program) e) (sourceAt (p .program) f)
+      → opposite (o .program) (p .program) e f ≡ true → Pair (o .program) (p .program) (sourceAt (o .program) e) (sourceAt (p .program) f)
       → MayGoOn (o .program) (p .program) (sourceAt (o .program) e) (sourceAt (p .program) f)
       → Step (o .program) (p .program) limit w c (EndsDone (o .program) (p .program) e f) v r
 

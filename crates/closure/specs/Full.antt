@@ -10,7 +10,7 @@ use Rattle.laws.specs.TestLaws.{same-test}
 use Rattle.rules.specs.Graph.{Program, sourceAt}
 use Rattle.rules.specs.Closing.{Dangerous, Pair, dangers, pairs}
 use Rattle.rules.specs.Proofs.Closure.{danger-unfitted, dangers-iff, goesOn-of, least, pairs-ascend, pairs-complete, pairs-sound}
-use Rattle.rules.specs.Proofs.ClosingLaws.{danger-old, fits-of, word-one}
+use Rattle.rules.specs.Proofs.ClosingLaws.{danger-old, fits-of, opposite-of}
 use Rattle.rules.specs.Proofs.GraphLaws.{taken-at}
 use Rattle.pairset.specs.Store.{dangerIn, pairsIn}
 use Rattle.pairset.specs.StoreLaws.{pairs-count}
@@ -27,7 +27,7 @@ module _ {old new : Program} (fm : Formed old new) where
       let u = taken-at old n w e t in
       let u′ = taken-at new m w f t′ in
       d .each n m l .on (goesOn-of old new M n m x) e (u .0) (u .1) .ends f (u′ .0) (u′ .1)
-      (fits-of old new e f (word-one old new (fm .old-formed) (fm .new-formed) n m e f w t t′) a))
+      (fits-of old new e f (opposite-of old new (fm .old-formed) (fm .new-formed) n m e f w t t′) a))
 
   all-marked : {M : List (ℕ × ℕ)} {S : ℕ → Bool} → AllDone old new M S → {e : ℕ} → Dangerous old new e → S e ≡ true
   unfolding EachDone OnDone EdgesDone

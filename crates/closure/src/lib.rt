@@ -200,7 +200,7 @@ fn mark_lost(ol: &[usize], nl: &[usize], w: &mut [usize], e: usize, m: usize, la
 
 // Rule 3 for the old edge e and the new node m, whose pair may go on: if m takes no edge for the word of e, e is dangerous; then each edge of m that
 // is opposite to e. Only `*` has several.
-fn try_edge(
+fn try_opposites(
     ot: &[u8],
     on: &[usize],
     ol: &[usize],
@@ -231,6 +231,36 @@ fn try_edge(
         place = versions::opposite_before(ol, nl, e, f);
     }
     total
+}
+
+// The same, by the short way where there is one.
+fn try_edge(
+    ot: &[u8],
+    on: &[usize],
+    ol: &[usize],
+    nt: &[u8],
+    nn: &[usize],
+    nl: &[usize],
+    groups: &[usize],
+    limit: usize,
+    w: &mut [usize],
+    count: usize,
+    e: usize,
+    m: usize,
+) -> usize
+    requires { ⌜ limit ≤ 4096 ⌝ }
+    ensures { λ r. ⌜ Sized (now (w .entry)) (now (w .exit))
+        (TriesEdge
+        (memory (now (ot .entry)) (now (on .entry)) (now (ol .entry)))
+        (memory (now (nt .entry)) (now (nn .entry)) (now (nl .entry)))
+        (now (groups .entry)) limit (now (w .entry)) count e m (now (w .exit)) r) ⌝ }
+{
+    let own = versions::sole_opposite(ol, nl, e, m);
+    if own == 0 {
+        return try_opposites(ot, on, ol, nt, nn, nl, groups, limit, w, count, e, m);
+    }
+    let f = own - 1;
+    try_ends(ot, on, ol, nt, nn, nl, groups, limit, w, count, e, f)
 }
 
 // Rule 3 for the pair (n, m), which may go on: each edge of the old node.

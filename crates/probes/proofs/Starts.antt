@@ -15,7 +15,7 @@ use Rattle.laws.specs.Bits.{bitIn}
 use Rattle.laws.specs.BitSets.{bit-with, with-size, withBit}
 use Rattle.laws.specs.Those.{any-more}
 use Rattle.rules.specs.Graph.{edgeCount, sourceAt}
-use Rattle.rules.specs.Closing.{dangers, pairs}
+use Rattle.rules.specs.Closing.{dangers}
 use Rattle.rules.specs.ProgramFile.{Listing}
 use Rattle.rules.specs.Proofs.Closure.{dangers-iff, parted-danger}
 use Rattle.graph.specs.Table.{edgeBase}

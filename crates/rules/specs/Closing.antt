@@ -24,14 +24,14 @@ module _ (old new : Program) where
   unfoldable pub alike : ℕ → ℕ → Bool
   alike n n′ = sameKind (kindAt old n) (kindAt new n′) and sameLabel (labelAt old n) (labelAt new n′) and sameCallee (calleeAt old n) (calleeAt new n′)
 
-  -- An old edge and a new one are taken for one word, each at its node. If they are, then for the word of one of them: `*` stands for every word that neither node names
-  -- (`one-word`, `word-one` in Proofs/ClosingLaws).
-  unfoldable pub sameWord : ℕ → ℕ → Bool
-  sameWord e e′ = takes new (wordAt old e) e′ or takes old (wordAt new e′) e
+  -- An old edge and a new one are opposite: some word is taken by both, each at its node. It is enough to try the word of each (`opposite-at`, `opposite-of` in Proofs/ClosingLaws): a word
+  -- that neither node names goes `*` against `*`, and there `*` itself is such a word.
+  unfoldable pub opposite : ℕ → ℕ → Bool
+  opposite e e′ = takes new (wordAt old e) e′ or takes old (wordAt new e′) e
 
-  -- An old edge and a new one are taken for one word, and their ends are alike.
+  -- An old edge and a new one are opposite, and their ends are alike.
   unfoldable pub fits : ℕ → ℕ → Bool
-  fits e e′ = sameWord e e′ and alike (targetAt old e) (targetAt new e′)
+  fits e e′ = opposite e e′ and alike (targetAt old e) (targetAt new e′)
 
   -- The exits of the first i callees of the C nodes n and n′ are, callee by callee, in the relation R.
   abbrev pub ExitsMet : (ℕ → ℕ → Type 0) → ℕ → ℕ → ℕ → Type 0
@@ -90,11 +90,11 @@ module _ (old new : Program) where
   bothCall n n′ = sameKind (kindAt old n) C and sameKind (kindAt new n′) C
 
   -- For every word for which the old edge e is taken, the new node n′ takes an edge, and the ends pass f. It is enough that it takes one for the word of e, and that the ends pass for
-  -- each edge of n′ that is taken with e for one word (`kept-at`, `kept-of` in Proofs/ClosingLaws).
+  -- each edge of n′ that is opposite to e (`kept-at`, `kept-of` in Proofs/ClosingLaws).
   unfoldable pub keptBy : (ℕ → ℕ → Bool) → ℕ → ℕ → Bool
   keptBy f e n′ =
       some? (edgeTaken new n′ (wordAt old e))
-      and every (edgeCount new) (λ e′. eqb (sourceAt new e′) n′ and sameWord e e′ ⇒ f (targetAt old e) (targetAt new e′))
+      and every (edgeCount new) (λ e′. eqb (sourceAt new e′) n′ and opposite e e′ ⇒ f (targetAt old e) (targetAt new e′))
 
   -- For every word for which the old edge e is taken, the new node n′ takes an edge whose end is alike.
   unfoldable pub fitted : ℕ → ℕ → Bool
@@ -140,9 +140,9 @@ module _ (old new : Program) where
     unfoldable pub dangerous : ℕ → Bool
     dangerous e = anyPair (dangerousAt e) M
 
-    -- An old edge and a new one part by the list: they leave a listed pair that may go on, are taken for one word, and their ends are not alike. Some old edge parts from the new edge e′.
+    -- An old edge and a new one part by the list: they leave a listed pair that may go on, are opposite, and their ends are not alike. Some old edge parts from the new edge e′.
     unfoldable pub parted : ℕ → ℕ → Bool
-    parted e e′ = listed M (sourceAt old e) (sourceAt new e′) and goesOn (sourceAt old e) (sourceAt new e′) and sameWord e e′ and isnt (alike (targetAt old e) (targetAt new e′))
+    parted e e′ = listed M (sourceAt old e) (sourceAt new e′) and goesOn (sourceAt old e) (sourceAt new e′) and opposite e e′ and isnt (alike (targetAt old e) (targetAt new e′))
 
     unfoldable pub parting : ℕ → Bool
     parting e′ = any (edgeCount old) (λ e. parted e e′)

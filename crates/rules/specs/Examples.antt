@@ -14,7 +14,7 @@ use Rattle.rules.specs.ProgramFile.{Listing, kindOf, isNode, isEdge, for
 use Rattle.rules.specs.SuiteFile.{testForm, hexByte, hexValue, bitsOf, noneSet, rowFine, tested, takeTest, stepSuite, readTests, readSuite}
 use Rattle.rules.specs.Run.{Meaning, another, crossing, edgeAhead, ended, endedAt, listOf, run, start, step, stepAt, trail}
 use Rattle.rules.specs.After.{edgesAfter, resumesAt, goesOnFrom, leads}
-use Rattle.rules.specs.Closing.{takes, alike, fits, keptBy, bothCall, fitted, exitsMet, goesOn, joined, byStart, byCall, byEdge, follows, grown, dangerousAt, dangerous, closed, pairs, dangers, firstDanger, meets, repeated, carries, carriesOnly, mark, sameCallee, sameWord, parting, parted, probes, afterDangers, carriedMark, endangered}
+use Rattle.rules.specs.Closing.{takes, alike, fits, keptBy, bothCall, fitted, exitsMet, goesOn, joined, byStart, byCall, byEdge, follows, grown, dangerousAt, dangerous, closed, pairs, dangers, firstDanger, meets, repeated, carries, carriesOnly, mark, sameCallee, opposite, parting, parted, probes, afterDangers, carriedMark, endangered}
 use Rattle.rules.specs.Sheet.{selected, mLine, dLine, rLine, endLine, sheetLines, sheetText, markByte, marksOf, crossed, vLine, recordText, qLine, probesText, sheetForm, before, allBelow, testOf, takeSheetLine, stepSheet, finishSheet, readSheet}
 use Rattle.rules.specs.Check.{entered, edgeKept, edgesKept, rule1, rule2, rule3, rule4, rule5, broken}
 use Rattle.rules.specs.Job.{Outcome, wrote, refusal, passed, outcome, readJob, written, writing, sheetBytes, recordBytes, probesBytes, sheetAnswer, recordAnswer, probesAnswer, judged, checkAnswer, labelPart, bySide, writingBack, programAnswer, serving, answering}
@@ -158,7 +158,8 @@ never-back = "P,up\nN,E,,\nN,C,wind,up\nN,S,a,\nN,X,,\nB,0,-,1\nB,1,-,2\nB,2,ok,
 never-back-changed : String
 never-back-changed = "P,up\nN,E,,\nN,C,wind,up\nN,S,b,\nN,X,,\nB,0,-,1\nB,1,-,2\nB,2,ok,3\n"
 
--- A step with a branch for anything else, which stands before the other; with a third branch, to the same end or to another; the same with a name; and that branch alone.
+-- A step with a branch for anything else, which stands before the other; with a third branch, to the same end; to another end, where it stands between them; the same with a name; and that
+-- branch alone.
 switching : String
 switching = "P,up\nN,E,,\nN,S,read layer,\nN,S,hold,\nN,X,,\nB,0,-,1\nB,1,*,3\nB,1,up,2\nB,2,ok,3\n"
 
@@ -166,7 +167,7 @@ switching-stop : String
 switching-stop = "P,up\nN,E,,\nN,S,read layer,\nN,S,hold,\nN,X,,\nB,0,-,1\nB,1,*,3\nB,1,up,2\nB,2,ok,3\nB,1,stop,3\n"
 
 switching-down : String
-switching-down = "P,up\nN,E,,\nN,S,read layer,\nN,S,hold,\nN,X,,\nB,0,-,1\nB,1,*,3\nB,1,up,2\nB,2,ok,3\nB,1,down,2\n"
+switching-down = "P,up\nN,E,,\nN,S,read layer,\nN,S,hold,\nN,X,,\nB,0,-,1\nB,1,up,2\nB,1,*,3\nB,2,ok,3\nB,1,down,2\n"
 
 switching-named : String
 switching-named = "P,up\nN,E,,\nN,S,read layer,\nN,S,hold,\nN,X,,\nB,0,-,1\nB,1,stop,3\nB,1,up,2\nB,2,ok,3\n"
@@ -330,13 +331,17 @@ probings =
 
 -- ---- the branch for anything else (document 02, job 6)
 
--- An old word meets a new `*`; a word that neither names finds no new edge; a new word is compared with the old `*`, which then has two counterparts, or is dangerous: the check asks for it,
--- and the probe starts at that word's edge alone; two old words meet one new `*`, the one is dangerous, and the probe starts there. An entry has no `*`.
+-- An old word meets a new `*`; a word that neither names finds no new edge, so that there is a danger and no start; a new word is compared with the old `*`, which then is not dangerous and
+-- has two counterparts, or is dangerous: the check asks for it, and the probe starts at that word's edge alone; two old words meet one new `*`, the one is dangerous, and the probe starts
+-- there. An entry and a call have no `*`.
 pub switches : List Example
 unfolding writes checks records probing job switching switching-stop switching-down switching-named always
 switches =
     writes (job switching-named switching "") "sheet,1\nM,0,0\nM,1,1\nM,2,2\nM,3,3\nend,4,0,0\n"
     ∷ writes (job switching switching-named "") "sheet,1\nM,0,0\nM,1,1\nM,2,2\nM,3,3\nD,1\nend,4,1,0\n"
+    ∷ probing (job switching switching-named "") maxBytes (wrote [])
+    ∷ writes (job switching switching-stop "") "sheet,1\nM,0,0\nM,1,1\nM,2,2\nM,3,3\nend,4,0,0\n"
+    ∷ probing (job switching switching-stop "") maxBytes (wrote [])
     ∷ records (job switching switching-stop "T,t,c\n") 0 "V,t,2,1?00?\n"
     ∷ writes (job switching switching-down "") "sheet,1\nM,0,0\nM,1,1\nM,2,2\nM,3,3\nD,1\nend,4,1,0\n"
     ∷ checks (job switching switching-down "") "sheet,1\nM,0,0\nM,1,1\nM,2,2\nM,3,3\nend,4,0,0\n" (refusal 12 4)
@@ -345,6 +350,7 @@ switches =
     ∷ records (job switching-named always "T,t,c\n") 0 "V,t,2,11\n"
     ∷ probing (job switching-named always "") maxBytes (wrote (bytes "Q,1\n"))
     ∷ (checkAnswer (bytes "P,up\nN,E,,\nN,X,,\nB,0,*,1\n") [] [] [], refusal 8 1)
+    ∷ (checkAnswer (bytes "P,up\nN,E,,\nN,C,wind,up\nN,X,,\nB,0,-,1\nB,1,*,2\n") [] [] [], refusal 8 1)
     ∷ []
 
 -- ---- refusals
@@ -423,7 +429,7 @@ unfolding answered sameOutcome examples backs blanks severals searches probings 
     sameKind orZero isOf entry exit procOf called leaves edgeWith edgeTaken degree worded
     kindOf isNode isEdge formOf hasEdge named isNodeOf hasWord degreeFine complete lost takeLine stepProgram finishProgram readListing readProgram
     testForm hexByte hexValue bitsOf noneSet rowFine tested takeTest stepSuite readTests readSuite nonEmpty squeezed
-    sameLabel sameCallee takes sameWord alike fits keptBy bothCall fitted exitsMet goesOn joined byStart byCall byEdge follows grown dangerousAt dangerous closed pairs dangers meets firstDanger repeated carries carriesOnly spread spreads reached another resumesAt goesOnFrom leads edgesAfter parted parting probes afterDangers carriedMark endangered mark
+    sameLabel sameCallee takes opposite alike fits keptBy bothCall fitted exitsMet goesOn joined byStart byCall byEdge follows grown dangerousAt dangerous closed pairs dangers meets firstDanger repeated carries carriesOnly spread spreads reached another resumesAt goesOnFrom leads edgesAfter parted parting probes afterDangers carriedMark endangered mark
     selected mLine dLine rLine endLine sheetLines sheetText markByte marksOf crossed vLine recordText qLine probesText sheetForm before allBelow testOf takeSheetLine stepSheet finishSheet readSheet
     entered edgeKept edgesKept rule1 rule2 rule3 rule4 rule5 broken formerAlike formerRule2 formerBroken formerCheckAnswer
     outcome readJob written writing sheetBytes recordBytes probesBytes judged serving answering

@@ -1,4 +1,4 @@
--- The check with labels that match by their bytes, as they did before job 2 of document 02: what a stored sheet has passed.
+-- The check with labels that match by their bytes, as they did before job 2 of document 02, all else being as now; so of sheets that were made since job 6.
 use mathlib.Core.Bool.{Bool}
 use mathlib.Core.List.{List, [], _∷_}
 use Prim.Native.Nat.{ℕ}

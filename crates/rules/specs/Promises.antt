@@ -416,7 +416,7 @@ abbrev pub PassesExactly : Type 0
 PassesExactly = (old new tests sheet : Bytes) → (checkAnswer old new tests sheet ≡ passed) ↔ Passes old new tests sheet
 
 -- The check with labels that match by their bytes, as they did (document 02, job 2), all else being as now, passes exactly the sheets that pass and list no pair whose labels differ in
--- their bytes; so a stored sheet that passed still passes.
+-- their bytes; so a stored sheet that passed still passes, as far as labels are concerned. Sheets from before job 6 of document 02 are made again.
 pub record PassedFormerly (old new tests sheet : Bytes) : Type 0 where
   pub passes : Passes old new tests sheet
   pub labels : (n n′ : ℕ) → listed (passes .claims .M) n n′ ≡ true → labelAt (passes .given .old) n ≡ labelAt (passes .given .new) n′

@@ -2,13 +2,10 @@
 use Rattle.rules.specs.Text.{Bytes}
 use Prim.Native.Nat.{ℕ}
 use mathlib.Core.Path.{sym, _∙_}
-use mathlib.Core.List.{List}
 use Rattle.laws.specs.TestLaws.{same-test}
 use Rattle.rules.specs.Run.{start}
 use Rattle.rules.specs.Graph.{Program}
 use Rattle.rules.specs.SuiteFile.{TestListing}
-use Rattle.rules.specs.Closing.{Coverage}
-use Rattle.rules.specs.Sheet.{Sheet}
 use Rattle.rules.specs.Job.{Request, Version}
 use Rattle.rules.specs.Promises.{
   AlikeExact,
@@ -41,7 +38,6 @@ use Rattle.rules.specs.Promises.{
   ProbesShort,
   RecordUnnamed,
   RequestsNumbered,
-  RulesExact,
   SearchesExact,
   SqueezedExact,
   StoredSheetsPass,

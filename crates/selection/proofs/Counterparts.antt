@@ -8,7 +8,7 @@ use native.Mathlib.Omega.{arith}
 use lib.Dec.{eqb}
 use lib.ListN.{getD}
 use borrow.Author.Tests.{eqb-true, eq-eqb, ne-eqb, lt-ltb, ltb-true}
-use Rattle.laws.specs.Tests.{_and_, any, choose, first, found, listed}
+use Rattle.laws.specs.Tests.{_and_, choose, first, found, listed}
 use Rattle.laws.specs.TestLaws.{and-both, and-left, and-right, any-at, any-of, both-ways, every-at, every-of, first-only, implied, implies, passes?}
 use Rattle.laws.specs.Lists.{choose-yes, choose-no}
 use Rattle.laws.specs.Slices.{below-or, same-or}
@@ -24,9 +24,9 @@ use Rattle.versions.specs.Found.{none-found}
 use Rattle.versions.specs.MemoryLaws.{sound}
 use Rattle.versions.specs.Claims.{GoesOn}
 use Rattle.versions.specs.Opposite.{FindsBefore, LastOpposite, OppositeBefore}
-use Rattle.selection.specs.Compared.{Compared, Fits, Fitting, Joins, JoinsBefore, JoinsDown, hitAt, hits-any, met-joined, partner-below}
+use Rattle.selection.specs.Compared.{Compared, Fits, Fitting, Joins, JoinsBefore, JoinsDown, LastFitting, hitAt, hits-any, met-joined, partner-below}
 use Rattle.selection.specs.Marks.{Only, Sees, seenAt, several, sole, united}
-use Rattle.selection.proofs.Dangers.{goes-is, hit-at, source-of}
+use Rattle.selection.proofs.Dangers.{fit-end, fit-start, goes-is, hit-at, source-of}
 use Rattle.selection.proofs.Hits.{hit-less, hit-next, pair-at}
 
 -- ---- `joins`, `joins_before`
@@ -42,11 +42,11 @@ module _ (on ol nn nl w : List ℕ) (e n m : ℕ) (g met : Bool) (go : GoesOn on
       sym (latest-none _ 0 (edgeCount (p .program)) (λ f l q.
       both-ways (hit-at (o .program) (p .program) (pairsIn w c) met e m f (passing-at _ f q) .1) (goes-on o p c h i en j ∙ z)))
 
-  pub joins-goes : (last r : ℕ) → g ≡ true → LastOpposite ol nl e m last → Fitting ol nl w e last met r → Joins on ol nn nl w e n m met r
+  pub joins-goes : (r : ℕ) → g ≡ true → LastFitting ol nl w e m met r → Joins on ol nn nl w e n m met r
   unfolding Joins Fits LastOpposite
-  joins-goes last r z t f o p c h i en j =
-      f .fits on nn o p c h i m (edgeCount (p .program)) (rw (← en) j) (goes-on o p c h i en j ∙ z) (omega arith)
-      (t (h .old-text) on (h .new-text) nn o p (h .old-in) (h .new-in) i (partner-below h n m j))
+  joins-goes r z f o p c h i en j =
+      f .fitting .fits on nn o p c h i m (edgeCount (p .program)) (rw (← en) j) (goes-on o p c h i en j ∙ z) (omega arith)
+      (f .is-last (h .old-text) on (h .new-text) nn o p (h .old-in) (h .new-in) i (partner-below h n m j))
 
 pub joins-down : (ol nl w : List ℕ) (e f : ℕ) (met : Bool) (before r : ℕ) → OppositeBefore ol nl e f before → Fitting ol nl w e before met r → JoinsBefore ol nl w e f met r
 unfolding JoinsDown Fits FindsBefore
@@ -57,6 +57,9 @@ joins-down ol nl w e f met before r q t =
           t .fits on nn o p c h i m f l (u .1) (omega (arith, u .0)) (q .finds (h .old-text) on (h .new-text) nn o p (h .old-in) (h .new-in) i (u .0) m (u .2));
       below = omega (arith, t .below, q .below);
     }
+
+pub joins-last : (ol nl w : List ℕ) (e f : ℕ) (met : Bool) (before : ℕ) → before ≡ 0 → OppositeBefore ol nl e f before → JoinsBefore ol nl w e f met 0
+joins-last ol nl w e f met before z q = joins-down ol nl w e f met before 0 q (fit-end ol nl w e before met before (fit-start ol nl w e before met) (omega arith))
 
 -- ---- `unite`
 
@@ -286,4 +289,4 @@ module _ (on ol nn nl w : List ℕ) (e n seen place : ℕ) (inv : SeenTo on ol n
             (en ∙ ap (pairBefore w) d),
       )
 
-pub ruleset counterparts = (joins-stays, joins-goes, joins-down, hit-less, unite-none, unite-same, unite-several, see-start, see-end, see-on, only-start, only-several, only-end, only-on)
+pub ruleset counterparts = (joins-stays, joins-goes, joins-down, joins-last, hit-less, unite-none, unite-same, unite-several, see-start, see-end, see-on, only-start, only-several, only-end, only-on)

@@ -21,8 +21,8 @@ use Rattle.pairset.specs.Store.{Has, dangerIn, dangerWord, pairBefore, pairsIn}
 use Rattle.pairset.specs.StoreLaws.{before-le, danger-bit}
 use Rattle.versions.specs.MemoryLaws.{source-is, target-is, well-formed}
 use Rattle.versions.specs.Claims.{GoesOn}
-use Rattle.versions.specs.Opposite.{FindsBefore, OppositeBefore, oppositeBelow, opposites, side-at, side-of, sideOf}
-use Rattle.selection.specs.Compared.{Compared, EndsMeet, Fits, Fitting, ends-pair, endsMet, hitAt, hitBelow, partner-below, sameBool}
+use Rattle.versions.specs.Opposite.{FindsBefore, LastOpposite, OppositeBefore, SoleOpposite, oppositeBelow, opposites, side-at, side-of, sideOf}
+use Rattle.selection.specs.Compared.{Compared, EndsMeet, Fits, Fitting, LastFitting, ends-pair, endsMet, hitAt, hitBelow, partner-below, sameBool}
 use Rattle.selection.specs.Dangers.{Copies, DangersCopied}
 
 -- ---- walks along the pairs of an old node
@@ -152,6 +152,24 @@ module _ (ol nl : List ℕ) (e place f next : ℕ) (pos : 0 < place) (d : f ≡ 
   pub fit-within : (from : ℕ) → place ≤ from → next ≤ from
   fit-within from b = omega (arith, q .below)
 
+-- ---- `last_fitting`
+
+module _ (ol nl w : List ℕ) (e m : ℕ) (met : Bool) where
+  pub last-any : (last r : ℕ) → LastOpposite ol nl e m last → Fitting ol nl w e last met r → LastFitting ol nl w e m met r
+  last-any last r q t = record { last = last; is-last = q; fitting = t }
+
+  module _ (own f : ℕ) (t : Bool) (d : own ≡ 0 → ⊥) (q : f ≡ own - 1) (so : SoleOpposite ol nl e m own) (et : EndsMeet ol nl w e f met t) where
+    pub last-sole : t ≡ true → LastFitting ol nl w e m met own
+    unfolding SoleOpposite
+    last-sole y = last-any own own (so (omega arith) .last) (fit-hit ol nl w e own met own (fit-start ol nl w e own met) f t (omega arith) q et (omega arith) y)
+
+    pub last-none : t ≡ false → LastFitting ol nl w e m met 0
+    unfolding SoleOpposite
+    last-none y =
+        let s = so (omega arith) in
+        let b : OppositeBefore ol nl e f 0 = rw q (s .before) in
+        last-any own 0 (s .last) (fit-end ol nl w e own met 0 (fit-on ol nl w e own met own (fit-start ol nl w e own met) f t (omega arith) q et 0 y b) (omega arith))
+
 -- ---- the pair of the node that an old edge leaves
 
 module _ (on ol nn nl w : List ℕ) (e n m : ℕ) (g : Bool) (go : GoesOn on ol nn nl w n m g) where
@@ -163,7 +181,7 @@ module _ (on ol nn nl w : List ℕ) (e n m : ℕ) (g : Bool) (go : GoesOn on ol 
       let l = well-formed _ o (h .old-in) .sources e i in
       go (h .old-text) (h .new-text) o p c (h .old-in) (h .new-in) (h .held .store) (omega (arith, en)) (partner-below h n m j)
 
-pub ruleset fittings = (bools-true, bools-apart, bools-false, ends-told, fit-start, fit-end, fit-hit, fit-on, fit-less, fit-within)
+pub ruleset fittings = (bools-true, bools-apart, bools-false, ends-told, fit-start, fit-end, fit-hit, fit-on, fit-less, fit-within, last-any, last-sole, last-none)
 
 -- ---- `copy_dangers`
 

@@ -1,5 +1,5 @@
 -- Loops along the edges of a new node that `joins` and `joins_before` find, and along the partners of an old node: what they add to a value that tells of one new edge x.
-use mathlib.Core.Path.{_≡_, refl, sym, ap, ap₂, _∙_}
+use mathlib.Core.Path.{_≡_, sym, ap, ap₂, _∙_}
 use mathlib.Core.Bool.{Bool, true}
 use mathlib.Core.List.{List}
 use Prim.Native.Nat.{ℕ, suc, _-_, _≤_, _<_}

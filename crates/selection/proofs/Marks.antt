@@ -1,5 +1,5 @@
 -- The turns and the returns of the functions that find marks.
-use mathlib.Core.Path.{_≡_, refl, sym, ap, ap₂, _∙_, subst}
+use mathlib.Core.Path.{_≡_, refl, sym, ap, ap₂, _∙_}
 use mathlib.Core.Bool.{Bool, true, false}
 use mathlib.Core.List.{List}
 use Prim.Native.Nat.{ℕ, suc, _+_, _-_, _≤_, _<_}
@@ -24,10 +24,10 @@ use Rattle.graph.specs.Table.{edgeBase}
 use Rattle.pairset.specs.Store.{lastPair, newAt, oldAt, pairBefore, pairsIn}
 use Rattle.coverage.specs.Rows.{Row, edgeBit}
 use Rattle.versions.specs.Found.{found-at, found-none}
-use Rattle.laws.specs.Those.{any-more, any-skip}
+use Rattle.laws.specs.Those.{any-more}
 use Rattle.selection.specs.Compared.{Compared, Joins, JoinsBefore, met-joined}
 use Rattle.selection.specs.Marks.{AllCarried, AllOpened, AllRaised, Carried, Carries, CarriesTo, Finds, MarksFound, Only, Opened, Opens, OpensTo, RaisedAt, Raises, RaisesAt, SetOpened, carried, carriesOnlyTo, carriesTo, lifted, markedOne, opensTo, raised, sole}
-use Rattle.selection.specs.MarkLaws.{carried-lifted, carried-more, carried-none, carried-only, lifted-before, lifted-more, lifted-none, mark-left, mark-open, marks-by}
+use Rattle.selection.specs.MarkLaws.{carried-lifted, carried-more, carried-none, carried-only, lifted-more, lifted-none, mark-left, mark-open, marks-by}
 use Rattle.selection.proofs.Dangers.{source-of}
 use Rattle.selection.proofs.Hits.{EdgesLeft, PairsLeft, edges-end, edges-on, edges-start, pair-at, pairs-end, pairs-on, pairs-start}
 

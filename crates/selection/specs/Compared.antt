@@ -11,7 +11,7 @@ use Rattle.laws.specs.Chain.{latest}
 use Rattle.laws.specs.Fold.{passing}
 use Rattle.rules.specs.Text.{Bytes}
 use Rattle.rules.specs.Graph.{Program, edgeCount, nodeCount, sourceAt, targetAt}
-use Rattle.rules.specs.Closing.{alike, edge-ends, fits, goesOn, joined, pairs, parted, sameWord}
+use Rattle.rules.specs.Closing.{alike, edge-ends, fits, goesOn, joined, pairs, parted, opposite}
 use Rattle.rules.specs.ProgramFile.{Listing}
 use Rattle.rules.specs.Proofs.Closure.{joined-iff, joined-of, pair-alike, pairs-complete, pairs-inside, pairs-sound}
 use Rattle.rules.specs.Proofs.ClosingLaws.{fits-of}
@@ -19,7 +19,7 @@ use Rattle.pairset.specs.Store.{newAt, oldAt, pairsIn}
 use Rattle.pairset.specs.StoreLaws.{listed-at, listed-of}
 use Rattle.versions.specs.Memory.{InMemory, memory}
 use Rattle.versions.specs.MemoryLaws.{well-formed}
-use Rattle.versions.specs.Opposite.{oppositeBelow, sideOf}
+use Rattle.versions.specs.Opposite.{LastOpposite, oppositeBelow, sideOf}
 use Rattle.versions.specs.PairsHeld.{PairsHeld, goesOn-agree}
 
 pub record Compared (on ol nn nl w : List ℕ) (c : ℕ) (o p : Listing) : Type 0 where
@@ -45,7 +45,7 @@ sameBool false b = isnt b
 
 -- The old edge e and the new edge f are opposite, and their ends are alike, or, if `met` is false, are not.
 unfoldable pub endsMet : Program → Program → Bool → ℕ → ℕ → Bool
-endsMet old new met e f = sameWord old new e f and sameBool (alike old new (targetAt old e) (targetAt new f)) met
+endsMet old new met e f = opposite old new e f and sameBool (alike old new (targetAt old e) (targetAt new f)) met
 
 same-true : (b : Bool) → sameBool b true ≡ b
 unfolding sameBool isnt
@@ -60,7 +60,7 @@ same-false false = refl
 -- At a pair that may go on the ends of opposite edges are alike just where they are a pair.
 pub ends-pair : {on ol nn nl w : List ℕ} {c : ℕ} {o p : Listing} → Compared on ol nn nl w c o p → (e f : ℕ) → e < edgeCount (o .program) → f < edgeCount (p .program)
     → listed (pairsIn w c) (sourceAt (o .program) e) (sourceAt (p .program) f) ≡ true → goesOn (o .program) (p .program) (pairsIn w c) (sourceAt (o .program) e) (sourceAt (p .program) f) ≡ true
-    → sameWord (o .program) (p .program) e f ≡ true
+    → opposite (o .program) (p .program) e f ≡ true
     → listed (pairsIn w c) (targetAt (o .program) e) (targetAt (p .program) f) ≡ alike (o .program) (p .program) (targetAt (o .program) e) (targetAt (p .program) f)
 ends-pair {w = w} {c = c} {o = o} {p = p} h e f i j l g s =
     let old = o .program in
@@ -83,11 +83,11 @@ metAt old new M met e f = listed M (sourceAt old e) (sourceAt new f) and (goesOn
 
 pub met-joined : (old new : Program) (M : List (ℕ × ℕ)) (e f : ℕ) → metAt old new M true e f ≡ joined old new M e f
 unfolding metAt joined endsMet fits
-met-joined old new M e f = ap (λ (t : Bool). listed M (sourceAt old e) (sourceAt new f) and (goesOn old new M (sourceAt old e) (sourceAt new f) and (sameWord old new e f and t))) (same-true _)
+met-joined old new M e f = ap (λ (t : Bool). listed M (sourceAt old e) (sourceAt new f) and (goesOn old new M (sourceAt old e) (sourceAt new f) and (opposite old new e f and t))) (same-true _)
 
 pub met-parted : (old new : Program) (M : List (ℕ × ℕ)) (e f : ℕ) → metAt old new M false e f ≡ parted old new M e f
 unfolding metAt parted endsMet
-met-parted old new M e f = ap (λ (t : Bool). listed M (sourceAt old e) (sourceAt new f) and (goesOn old new M (sourceAt old e) (sourceAt new f) and (sameWord old new e f and t))) (same-false _)
+met-parted old new M e f = ap (λ (t : Bool). listed M (sourceAt old e) (sourceAt new f) and (goesOn old new M (sourceAt old e) (sourceAt new f) and (opposite old new e f and t))) (same-false _)
 
 -- The new edge x is such an edge of the node m, where the pair may go on by the list; 1 + the last one below k, or 0.
 unfoldable pub hitAt : Program → Program → List (ℕ × ℕ) → Bool → ℕ → ℕ → ℕ → Bool
@@ -113,6 +113,12 @@ Fits ol nl w e from met r =
 pub record Fitting (ol nl w : List ℕ) (e from : ℕ) (met : Bool) (r : ℕ) : Type 0 where
   pub fits : Fits ol nl w e from met r
   pub below : r ≤ from
+
+-- `last_fitting`: the same from the last opposite edge of m.
+pub record LastFitting (ol nl w : List ℕ) (e m : ℕ) (met : Bool) (r : ℕ) : Type 0 where
+  pub last : ℕ
+  pub is-last : LastOpposite ol nl e m last
+  pub fitting : Fitting ol nl w e last met r
 
 -- `joins`: 1 + the last edge of the new node m that is joined with the old edge e, which leaves the node n, for the pair of n and m, or, if `met` is false, that parts from it; or 0.
 unfoldable pub Joins : List ℕ → List ℕ → List ℕ → List ℕ → List ℕ → ℕ → ℕ → ℕ → Bool → ℕ → Type 0

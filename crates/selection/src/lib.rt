@@ -3,7 +3,7 @@ ghost use mathlib.Core.Path.{_≡_};
 ghost use Prim.Native.Nat.{_≤_};
 ghost use lib.ListN.{replicate};
 ghost use lib.Seq.{sets};
-ghost use Rattle.selection.specs.Compared.{EndsMeet, Fitting, Joins, JoinsBefore, sameBool};
+ghost use Rattle.selection.specs.Compared.{EndsMeet, Fitting, Joins, JoinsBefore, LastFitting, sameBool};
 ghost use Rattle.selection.specs.Dangers.{DangersCopied};
 ghost use Rattle.selection.specs.Marks.{AllCarried, AllOpened, AllRaised, Carried, MarksFound, Only, Opened, RaisedAt, Sees, SetOpened, markedOne, raised, united};
 
@@ -48,6 +48,22 @@ fn fitting(ol: &[usize], nl: &[usize], w: &[usize], e: usize, from: usize, met: 
     0
 }
 
+// 1 + the last such edge of the new node m, or 0; by the short way where there is one.
+fn last_fitting(ol: &[usize], nl: &[usize], w: &[usize], e: usize, m: usize, met: bool) -> usize
+    ensures { λ r. ⌜ LastFitting (now (ol .entry)) (now (nl .entry)) (now (w .entry)) e m met r ⌝ }
+{
+    let own = versions::sole_opposite(ol, nl, e, m);
+    if own == 0 {
+        let last = versions::last_opposite(ol, nl, e, m);
+        return fitting(ol, nl, w, e, last, met);
+    }
+    let f = own - 1;
+    if ends_meet(ol, nl, w, e, f, met) {
+        return own;
+    }
+    0
+}
+
 // For the pair of n, which the old edge e leaves, and m: 1 + the last edge of m that is joined with e, or, if `met` is false, that parts from it: it is
 // opposite to e, and the ends are not alike; or 0. For tables that do not hold two programs and their pairs it is left open.
 pub fn joins(
@@ -64,8 +80,7 @@ pub fn joins(
     ensures { λ r. ⌜ Joins (now (on .entry)) (now (ol .entry)) (now (nn .entry)) (now (nl .entry)) (now (w .entry)) e n m met r ⌝ }
 {
     if versions::goes_on(on, ol, nn, nl, w, n, m) {
-        let last = versions::last_opposite(ol, nl, e, m);
-        return fitting(ol, nl, w, e, last, met);
+        return last_fitting(ol, nl, w, e, m, met);
     }
     0
 }
@@ -75,6 +90,9 @@ pub fn joins_before(ol: &[usize], nl: &[usize], w: &[usize], e: usize, f: usize,
     ensures { λ r. ⌜ JoinsBefore (now (ol .entry)) (now (nl .entry)) (now (w .entry)) e f met r ⌝ }
 {
     let before = versions::opposite_before(ol, nl, e, f);
+    if before == 0 {
+        return 0;
+    }
     fitting(ol, nl, w, e, before, met)
 }
 

@@ -8,13 +8,13 @@ use lib.Dec.{eqb}
 use lib.ListN.{getD, length, length-set, set}
 use lib.Seq.{getD-set-other, getD-set-same, set-out}
 use borrow.Author.Tests.{eqb-true, eq-eqb, ne-eqb}
-use Rattle.laws.specs.Tests.{_and_, _⇒_, choose, every, found}
+use Rattle.laws.specs.Tests.{_and_, _⇒_, choose, every}
 use Rattle.laws.specs.TestLaws.{and-both, and-left, and-right, both-ways, fails}
 use Rattle.laws.specs.Lists.{choose-no, choose-yes}
 use Rattle.laws.specs.Slices.{below-or, same-or}
 use Rattle.laws.specs.Chain.{Walk, walk-start}
 use Rattle.rules.specs.Text.{Bytes, same, sameLabel}
-use Rattle.rules.specs.Graph.{C, Kind, E, S, X, calleeAt, calleeCount, edgeCount, filled, kindAt, kindNumber, labelAt, nodeCount, sameKind, sourceAt, wordAt}
+use Rattle.rules.specs.Graph.{C, Kind, E, S, X, calleeAt, calleeCount, filled, kindAt, kindNumber, labelAt, nodeCount, sameKind}
 use Rattle.rules.specs.Closing.{alike, bothCall, exitsMet, goesOn, sameCallee}
 use Rattle.rules.specs.Check.{enteredAt}
 use Rattle.rules.specs.ProgramFile.{Listing}
@@ -26,7 +26,7 @@ use Rattle.graph.specs.Reads.{partAt, past, part-past}
 use Rattle.pairset.specs.Store.{Has, lastPair, newAt, oldAt, pairsIn}
 use Rattle.pairset.specs.StoreLaws.{listed-of, walked}
 use Rattle.versions.specs.Memory.{InMemory, memory}
-use Rattle.versions.specs.MemoryLaws.{kind-is, label-is, callees-are, key-is, edges-in, sound, well-formed}
+use Rattle.versions.specs.MemoryLaws.{kind-is, label-is, callees-are, sound, well-formed}
 use Rattle.versions.specs.Called.{CalleesAt}
 use Rattle.versions.specs.Claims.{Alike, BothCall, CalleesEntered, Entered, ExitsMet, GoesOn, SameCallees}
 use Rattle.versions.specs.Groups.{Grouped, Groups, Known, OfGroup, Regrouped, Twin}

@@ -7,12 +7,12 @@ use Prim.Native.Nat.{ℕ, suc, _+_, _-_, _≤_, _<_}
 use native.Mathlib.Omega.{arith}
 use lib.Dec.{eqb}
 use lib.ListN.{getD}
-use borrow.Author.Tests.{eq-eqb, eqb-true, ne-eqb}
+use borrow.Author.Tests.{eq-eqb, ne-eqb}
 use Rattle.laws.specs.Tests.{after, found, isnt, some?}
-use Rattle.laws.specs.TestLaws.{both-ways, fails}
-use Rattle.laws.specs.Chain.{Blind, Left, latest, latest-hit, latest-le, latest-miss, latest-none, latest-only, left-at, left-step}
-use Rattle.rules.specs.Graph.{Program, WellFormed, edgeCount, edgeTaken, nodeCount, sourceAt, star, wordAt}
-use Rattle.rules.specs.Closing.{sameWord, takes}
+use Rattle.laws.specs.TestLaws.{both-ways}
+use Rattle.laws.specs.Chain.{Blind, Left, latest, latest-hit, latest-miss, latest-none, latest-only, left-at, left-step}
+use Rattle.rules.specs.Graph.{Program, WellFormed, edgeCount, edgeTaken, sourceAt, star, wordAt}
+use Rattle.rules.specs.Closing.{opposite, takes}
 use Rattle.rules.specs.ProgramFile.{Listing}
 use Rattle.rules.specs.Proofs.ClosingLaws.{named-opposite, star-opposite, taken-opposite}
 use Rattle.rules.specs.Proofs.GraphLaws.{taken-at, taken-star}
@@ -20,10 +20,10 @@ use Rattle.graph.specs.Table.{edgeBase, headBase}
 use Rattle.graph.specs.Keys.{key-star, star-key, star-word, wordKey}
 use Rattle.graph.specs.Lookups.{EdgeTaken, EdgeWith}
 use Rattle.graph.specs.Reads.{upTo, upTo-le}
-use Rattle.graph.proofs.Laws.{before-less}
+use Rattle.graph.proofs.Laws.{before-less, taken-named}
 use Rattle.versions.specs.Memory.{InMemory, memory}
 use Rattle.versions.specs.MemoryLaws.{edges-chained, edges-in, key-is, sound, source-is, well-formed}
-use Rattle.versions.specs.Opposite.{FindsBefore, FindsFrom, LastOpposite, OppositeBefore, OppositeFrom, Takes, WordLost, oppositeBelow, side-at, side-of, sideOf}
+use Rattle.versions.specs.Opposite.{FindsBefore, FindsFrom, LastOpposite, OppositeBefore, OppositeFrom, SoleOpposite, Takes, WordLost, oppositeBelow, side-at, side-of, sideOf}
 
 -- ---- `takes`
 
@@ -78,7 +78,7 @@ module _ (ol nl : List ℕ) (e n from : ℕ) where
 
     module _ (f : ℕ) (t : Bool) (pos : 0 < place) (d : f ≡ place - 1) (et : Takes ol nl e n f t) where
       here : (ot on nt nn : List ℕ) (o p : Listing) (h : InMemory (memory ot on ol) o) (g : InMemory (memory nt nn nl) p) → e < edgeCount (o .program) → n ≡ sourceAt (o .program) e
-          → wordAt (o .program) e ≡ star → f < edgeCount (p .program) → sameWord (o .program) (p .program) e f ≡ t
+          → wordAt (o .program) e ≡ star → f < edgeCount (p .program) → opposite (o .program) (p .program) e f ≡ t
       unfolding Takes
       here ot on nt nn o p h g i en s j = star-opposite (o .program) (p .program) (well-formed _ o h) (well-formed _ p g) e f s i ∙ sym (et ot on nt nn o p h g i en j)
 
@@ -201,4 +201,20 @@ module _ (ol nl : List ℕ) (e f key : ℕ) (ek : key ≡ getD ol (edgeBase e + 
         below = omega arith;
       }
 
-pub ruleset all = (takes-none, takes-one, from-start, from-end, from-hit, from-on, before-less, from-within, last-star, last-named, lost-star, lost-named, before-star, before-named)
+-- ---- `sole_opposite`
+
+module _ (ol nl : List ℕ) (e m key : ℕ) (ek : key ≡ getD ol (edgeBase e + 2) 0) where
+  pub sole-none : SoleOpposite ol nl e m 0
+  unfolding SoleOpposite
+  sole-none pos = absurd (let z : ⊥ = omega arith in z)
+
+  pub sole-named : (r : ℕ) → (key ≡ 42 → ⊥) → EdgeWith nl m key r → SoleOpposite ol nl e m r
+  unfolding SoleOpposite
+  sole-named r d t pos =
+      record {
+        last = last-named ol nl e m key ek r d (taken-named nl m key r t (λ z. let y : ⊥ = omega arith in y));
+        before = before-named ol nl e (r - 1) key ek d;
+        kept = subst (WordLost ol nl e m r) (ne-eqb r 0 (λ z. let y : ⊥ = omega arith in y)) (lost-named ol nl e m key ek r d);
+      }
+
+pub ruleset all = (takes-none, takes-one, from-start, from-end, from-hit, from-on, before-less, from-within, last-star, last-named, lost-star, lost-named, before-star, before-named, sole-none, sole-named)

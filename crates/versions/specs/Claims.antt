@@ -5,7 +5,7 @@ use mathlib.Core.List.{List}
 use Prim.Native.Nat.{ℕ, _≤_, _<_}
 use Rattle.laws.specs.Tests.{_⇒_, every}
 use Rattle.rules.specs.Text.{Bytes, same}
-use Rattle.rules.specs.Graph.{C, calleeAt, calleeCount, calleeName, edgeCount, kindAt, nodeCount}
+use Rattle.rules.specs.Graph.{C, calleeAt, calleeCount, calleeName, kindAt, nodeCount}
 use Rattle.rules.specs.Closing.{alike, bothCall, exitsMet, goesOn, sameCallee}
 use Rattle.rules.specs.Check.{enteredAt}
 use Rattle.rules.specs.ProgramFile.{Listing}

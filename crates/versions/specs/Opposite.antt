@@ -1,48 +1,42 @@
 -- The edges of a new node that are opposite to an old edge: taken with it for one word. What the functions that walk along them answer, and the laws of such a walk.
-use mathlib.Core.Path.{_≡_, refl, sym, ap, _∙_}
+use mathlib.Core.Path.{_≡_}
 use mathlib.Core.Bool.{Bool, true, false}
 use mathlib.Core.List.{List}
-use Prim.Native.Nat.{ℕ, suc, _-_, _≤_, _<_}
-use native.Mathlib.Omega.{arith}
+use Prim.Native.Nat.{ℕ, _-_, _≤_, _<_}
 use lib.Dec.{eqb}
 use borrow.Author.Tests.{eqb-true, eq-eqb}
-use Rattle.laws.specs.Tests.{_and_, choose, isnt, some?}
-use Rattle.laws.specs.TestLaws.{and-both, and-left, and-right, passes?}
-use Rattle.laws.specs.Lists.{choose-yes, choose-no}
+use Rattle.laws.specs.Tests.{_and_, isnt, some?}
+use Rattle.laws.specs.TestLaws.{and-both, and-left, and-right}
 use Rattle.laws.specs.Chain.{Chained, latest}
+use Rattle.laws.specs.Fold.{passing, passing-at, passing-chain, passing-of}
 use Rattle.rules.specs.Graph.{Program, edgeCount, edgeTaken, nodeCount, sourceAt, star, wordAt}
-use Rattle.rules.specs.Closing.{sameWord, takes}
+use Rattle.rules.specs.Closing.{opposite, takes}
 use Rattle.rules.specs.ProgramFile.{Listing}
 use Rattle.versions.specs.Memory.{InMemory, memory}
 
 module _ (old new : Program) (e m : ℕ) where
   -- The new edge f leaves the node m and is opposite to the old edge e.
-  unfoldable pub opposite : ℕ → Bool
-  opposite f = eqb (sourceAt new f) m and sameWord old new e f
+  unfoldable pub oppositeAt : ℕ → Bool
+  oppositeAt f = eqb (sourceAt new f) m and opposite old new e f
 
-  -- As the key of a chain: 0 for these.
-  unfoldable pub sideOf : ℕ → ℕ
-  sideOf f = choose (opposite f) 0 1
+  -- The key of their chain, 0 for these; 1 + the last of them below k, or 0.
+  abbrev pub sideOf : ℕ → ℕ
+  sideOf = passing oppositeAt
 
-  -- 1 + the last of them below k, or 0.
   abbrev pub oppositeBelow : ℕ → ℕ
   oppositeBelow k = latest sideOf 0 k
 
-  pub side-at : (f : ℕ) → sideOf f ≡ 0 → (sourceAt new f ≡ m) × (sameWord old new e f ≡ true)
-  unfolding sideOf opposite choose
-  side-at f h = go (opposite f) refl h
-    where
-      go : (b : Bool) → opposite f ≡ b → _≡_ {A = ℕ} (choose b 0 1) 0 → (sourceAt new f ≡ m) × (sameWord old new e f ≡ true)
-      go true q z = (eqb-true _ _ (and-left _ _ q), and-right _ _ q)
-      go false q z = absurd (let y : ⊥ = omega arith in y)
+  pub side-at : (f : ℕ) → sideOf f ≡ 0 → (sourceAt new f ≡ m) × (opposite old new e f ≡ true)
+  unfolding oppositeAt
+  side-at f h = let t = passing-at oppositeAt f h in (eqb-true _ _ (and-left _ _ t), and-right _ _ t)
 
-  pub side-of : (f : ℕ) → sourceAt new f ≡ m → sameWord old new e f ≡ true → sideOf f ≡ 0
-  unfolding sideOf opposite
-  side-of f a b = choose-yes 0 1 (and-both (eq-eqb _ _ a) b)
+  pub side-of : (f : ℕ) → sourceAt new f ≡ m → opposite old new e f ≡ true → sideOf f ≡ 0
+  unfolding oppositeAt
+  side-of f a b = passing-of oppositeAt f (and-both (eq-eqb _ _ a) b)
 
   -- Their chain, for `walk-start`, `walk-step`, `left-start` and `left-step`.
   pub opposites : Chained sideOf 1 (edgeCount new) (λ a. latest sideOf a (edgeCount new)) (λ f. latest sideOf (sideOf f) f)
-  opposites = record { top = λ a l. refl; link = λ f l. refl }
+  opposites = passing-chain oppositeAt (edgeCount new)
 
 -- ---- what the functions answer
 
@@ -83,3 +77,12 @@ unfoldable pub WordLost : List ℕ → List ℕ → ℕ → ℕ → ℕ → Bool
 WordLost ol nl e m last r =
     (ot on nt nn : List ℕ) (o p : Listing) → InMemory (memory ot on ol) o → InMemory (memory nt nn nl) p → e < edgeCount (o .program) → m < nodeCount (p .program)
     → last ≡ oppositeBelow (o .program) (p .program) e m (edgeCount (p .program)) → r ≡ isnt (some? (edgeTaken (p .program) m (wordAt (o .program) e)))
+
+-- `sole_opposite`: if it is one, r is what the three answer of an edge that is the only opposite one; 0 leaves all open.
+pub record Sole (ol nl : List ℕ) (e m r : ℕ) : Type 0 where
+  pub last : LastOpposite ol nl e m r
+  pub before : OppositeBefore ol nl e (r - 1) 0
+  pub kept : WordLost ol nl e m r false
+
+unfoldable pub SoleOpposite : List ℕ → List ℕ → ℕ → ℕ → ℕ → Type 0
+SoleOpposite ol nl e m r = 0 < r → Sole ol nl e m r

@@ -12,7 +12,7 @@ ghost use Rattle.rules.specs.Closing.{sameCallee};
 ghost use Rattle.pairset.specs.Store.{Has};
 ghost use Rattle.versions.specs.Memory.{memory};
 ghost use Rattle.versions.specs.Claims.{Alike, BothCall, CalleesEntered, Entered, ExitsMet, GoesOn, SameCallees};
-ghost use Rattle.versions.specs.Opposite.{LastOpposite, OppositeBefore, OppositeFrom, Takes, WordLost};
+ghost use Rattle.versions.specs.Opposite.{LastOpposite, OppositeBefore, OppositeFrom, SoleOpposite, Takes, WordLost};
 ghost use Rattle.versions.specs.Groups.{Known, Regrouped, Twin};
 
 // ---- what the tables hold
@@ -253,6 +253,18 @@ pub fn word_lost(ol: &[usize], nl: &[usize], e: usize, m: usize, last: usize) ->
         return star == 0;
     }
     last == 0
+}
+
+// The short way to what these three answer, for the common case: 1 + the edge of the new node m with the word of the old edge e, which is not `*`. Then
+// it is the only opposite one. Otherwise 0, which says nothing.
+pub fn sole_opposite(ol: &[usize], nl: &[usize], e: usize, m: usize) -> usize
+    ensures { λ r. ⌜ SoleOpposite (now (ol .entry)) (now (nl .entry)) e m r ⌝ }
+{
+    let key = graph::word_key(ol, e);
+    if key == 42 {
+        return 0;
+    }
+    graph::edge_with(nl, m, key)
 }
 
 // Whether the old node n and the new node m are calls.

@@ -1,19 +1,19 @@
--- What `alike`, `sameWord` and `fits` give: the only proofs that look behind these names.
+-- What `alike`, `opposite` and `fits` give: the only proofs that look behind these names.
 use mathlib.Core.Path.{_≡_, refl, sym, ap, _∙_}
 use mathlib.Core.Logic.{_↔_, _⊎_, inl, inr, ⊎-elim}
 use mathlib.Core.Bool.{Bool, true, false, false≢true}
-use mathlib.Core.Option.{Option, none, some, Option·none-ne-some, Option·some-injective}
+use mathlib.Core.Option.{Option, none, some, Option·some-injective}
 use mathlib.Core.List.{[]}
 use Prim.Native.Nat.{ℕ, _<_}
 use lib.Dec.{eqb}
 use lib.Seq.{ext-getD}
 use borrow.Author.Tests.{eqb-true, eq-eqb}
-use Rattle.laws.specs.Tests.{_and_, every, _or_, _⇒_, after, isnt, orElse, some?}
-use Rattle.laws.specs.TestLaws.{and-both, and-left, and-right, eqb-self, every-at, every-of, same-test, and-fails, both-ways, every-not, implied, or-cases, or-left, or-right, passes?, fails, implies, isnt-true, some-at, some-none, some-of, true-isnt, unimplied}
+use Rattle.laws.specs.Tests.{_and_, every, _or_, _⇒_, after, some?}
+use Rattle.laws.specs.TestLaws.{and-both, and-left, and-right, eqb-self, every-at, every-of, same-test, and-fails, both-ways, every-not, implied, or-cases, or-left, or-right, passes?, some-at, some-of, unimplied}
 use Rattle.rules.specs.Text.{Bytes, joinBy, nameCount, nameIn, same, sameLabel, split, squeezed}
-use Rattle.rules.specs.Graph.{Program, calleeAt, edgeCount, edgeTaken, edgeWith, kindAt, labelAt, sameKind, sourceAt, targetAt, wordAt, WellFormed, star}
-use Rattle.rules.specs.Closing.{alike, fits, sameCallee, sameWord, keptBy, takes, Counterparts, Dangerous}
-use Rattle.rules.specs.Proofs.GraphLaws.{edge-is, sameKind-of, sameKind-true, star-takes, taken-at, taken-else, taken-star, taken-with, with-at, with-is}
+use Rattle.rules.specs.Graph.{Program, calleeAt, edgeCount, edgeTaken, kindAt, labelAt, sameKind, sourceAt, targetAt, wordAt, WellFormed, star}
+use Rattle.rules.specs.Closing.{alike, fits, sameCallee, opposite, keptBy, takes, Counterparts, Dangerous}
+use Rattle.rules.specs.Proofs.GraphLaws.{edge-is, sameKind-of, sameKind-true, star-takes, taken-at}
 use Rattle.rules.specs.Proofs.TextLaws.{join-split, same-of, same-self, same-true}
 
 -- Labels match by what is left of them.
@@ -108,17 +108,17 @@ module _ (p : Program) (w : Bytes) (e : ℕ) where
   takes-of h = rw h (eqb-self e)
 
 module _ (old new : Program) (wo : WellFormed old) (wn : WellFormed new) where
-  -- Edges that pass `sameWord` are taken for one word; and those that are taken for one word pass it.
-  pub one-word : (e e′ : ℕ) → e < edgeCount old → e′ < edgeCount new → sameWord old new e e′ ≡ true
+  -- Edges that pass `opposite` are taken for one word; and those that are taken for one word pass it.
+  pub opposite-at : (e e′ : ℕ) → e < edgeCount old → e′ < edgeCount new → opposite old new e e′ ≡ true
       → (w : Bytes) × (edgeTaken old (sourceAt old e) w ≡ some e) × (edgeTaken new (sourceAt new e′) w ≡ some e′)
-  unfolding sameWord
-  one-word e e′ h h′ t =
+  unfolding opposite
+  opposite-at e e′ h h′ t =
       ⊎-elim (λ u. (wordAt old e, edge-is old wo e _ _ h refl refl, takes-at new (wordAt old e) e′ u))
       (λ u. (wordAt new e′, takes-at old (wordAt new e′) e u, edge-is new wn e′ _ _ h′ refl refl)) (or-cases _ _ t)
 
-  pub word-one : (n n′ e e′ : ℕ) (w : Bytes) → edgeTaken old n w ≡ some e → edgeTaken new n′ w ≡ some e′ → sameWord old new e e′ ≡ true
-  unfolding sameWord
-  word-one n n′ e e′ w t t′ = go (taken-at old n w e t) (taken-at new n′ w e′ t′)
+  pub opposite-of : (n n′ e e′ : ℕ) (w : Bytes) → edgeTaken old n w ≡ some e → edgeTaken new n′ w ≡ some e′ → opposite old new e e′ ≡ true
+  unfolding opposite
+  opposite-of n n′ e e′ w t t′ = go (taken-at old n w e t) (taken-at new n′ w e′ t′)
     where
       go : (e < edgeCount old) × (sourceAt old e ≡ n) × ((wordAt old e ≡ w) ⊎ (wordAt old e ≡ star))
           → (e′ < edgeCount new) × (sourceAt new e′ ≡ n′) × ((wordAt new e′ ≡ w) ⊎ (wordAt new e′ ≡ star))
@@ -128,20 +128,20 @@ module _ (old new : Program) (wo : WellFormed old) (wn : WellFormed new) where
       go (h, a, inr b) (h′, a′, inr b′) = or-left _ (takes-of new (wordAt old e) e′ (edge-is new wn e′ _ _ h′ refl (b′ ∙ sym b)))
 
   -- By edges. An edge with another word than `*` is opposite to the edge that the new node takes for that word; `*` to each new edge for whose word the old node takes it.
-  pub named-opposite : (e e′ : ℕ) → (wordAt old e ≡ star → ⊥) → e < edgeCount old → e′ < edgeCount new → sameWord old new e e′ ≡ true
+  pub named-opposite : (e e′ : ℕ) → (wordAt old e ≡ star → ⊥) → e < edgeCount old → e′ < edgeCount new → opposite old new e e′ ≡ true
       → edgeTaken new (sourceAt new e′) (wordAt old e) ≡ some e′
-  unfolding sameWord
+  unfolding opposite
   named-opposite e e′ x h h′ t =
       ⊎-elim (λ u. takes-at new (wordAt old e) e′ u)
       (λ u. ⊎-elim (λ q. edge-is new wn e′ _ _ h′ refl (sym q)) (λ q. absurd (x q)) (taken-at old _ (wordAt new e′) e (takes-at old (wordAt new e′) e u) .2))
       (or-cases _ _ t)
 
-  pub taken-opposite : (e e′ : ℕ) → edgeTaken new (sourceAt new e′) (wordAt old e) ≡ some e′ → sameWord old new e e′ ≡ true
-  unfolding sameWord
+  pub taken-opposite : (e e′ : ℕ) → edgeTaken new (sourceAt new e′) (wordAt old e) ≡ some e′ → opposite old new e e′ ≡ true
+  unfolding opposite
   taken-opposite e e′ t = or-left _ (takes-of new (wordAt old e) e′ t)
 
-  pub star-opposite : (e e′ : ℕ) → wordAt old e ≡ star → e < edgeCount old → sameWord old new e e′ ≡ takes old (wordAt new e′) e
-  unfolding sameWord
+  pub star-opposite : (e e′ : ℕ) → wordAt old e ≡ star → e < edgeCount old → opposite old new e e′ ≡ takes old (wordAt new e′) e
+  unfolding opposite
   star-opposite e e′ s h =
       same-test _ _
       (λ t.
@@ -167,7 +167,7 @@ module _ (old new : Program) (wo : WellFormed old) (wn : WellFormed new) where
             let r = taken-at new n′ w e′ t′ in (
               e′,
               t′,
-              implied _ _ (every-at _ (edgeCount new) (and-right _ _ h) e′ (r .0)) (and-both (eq-eqb _ _ (r .1)) (word-one _ n′ e e′ w t t′)),
+              implied _ _ (every-at _ (edgeCount new) (and-right _ _ h) e′ (r .0)) (and-both (eq-eqb _ _ (r .1)) (opposite-of _ n′ e e′ w t t′)),
             )
 
         go : (wordAt old e ≡ w) ⊎ (wordAt old e ≡ star) → (e′ : ℕ) × (edgeTaken new n′ w ≡ some e′) × (f (targetAt old e) (targetAt new e′) ≡ true)
@@ -183,13 +183,13 @@ module _ (old new : Program) (wo : WellFormed old) (wn : WellFormed new) where
             → (w : Bytes) × (edgeTaken old (sourceAt old e) w ≡ some e) × ((e′ : ℕ) → edgeTaken new n′ w ≡ some e′ → f (targetAt old e) (targetAt new e′) ≡ true → ⊥)
         none-taken u = (wordAt old e, edge-is old wo e _ _ h refl refl, λ e′ t g. both-ways (some-of t) u)
 
-        some-ends : every (edgeCount new) (λ e′. eqb (sourceAt new e′) n′ and sameWord old new e e′ ⇒ f (targetAt old e) (targetAt new e′)) ≡ false
+        some-ends : every (edgeCount new) (λ e′. eqb (sourceAt new e′) n′ and opposite old new e e′ ⇒ f (targetAt old e) (targetAt new e′)) ≡ false
             → (w : Bytes) × (edgeTaken old (sourceAt old e) w ≡ some e) × ((e′ : ℕ) → edgeTaken new n′ w ≡ some e′ → f (targetAt old e) (targetAt new e′) ≡ true → ⊥)
         some-ends u =
-            let r = every-not (λ e′. eqb (sourceAt new e′) n′ and sameWord old new e e′ ⇒ f (targetAt old e) (targetAt new e′)) (edgeCount new) u in
+            let r = every-not (λ e′. eqb (sourceAt new e′) n′ and opposite old new e e′ ⇒ f (targetAt old e) (targetAt new e′)) (edgeCount new) u in
             let v = unimplied _ _ (r .2) in
             let s : sourceAt new (r .0) ≡ n′ = eqb-true _ _ (and-left _ _ (v .0)) in
-            let w = one-word e (r .0) h (r .1) (and-right _ _ (v .0)) in (
+            let w = opposite-at e (r .0) h (r .1) (and-right _ _ (v .0)) in (
               w .0,
               w .1,
               λ e′ t g.
@@ -202,7 +202,7 @@ module _ (old new : Program) (wo : WellFormed old) (wn : WellFormed new) where
     kept-of h k = ⊎-elim (λ t. t) (λ u. let r = unkept-at h u in let t = k (r .0) (r .1) in absurd (r .2 (t .0) (t .1) (t .2))) (passes? (keptBy old new f e n′))
 
 module _ (old new : Program) (e e′ : ℕ) where
-  pub fits-word : fits old new e e′ ≡ true → sameWord old new e e′ ≡ true
+  pub fits-word : fits old new e e′ ≡ true → opposite old new e e′ ≡ true
   unfolding fits
   fits-word h = and-left _ _ h
 
@@ -210,7 +210,7 @@ module _ (old new : Program) (e e′ : ℕ) where
   unfolding fits
   fits-ends h = and-right _ _ h
 
-  pub fits-of : sameWord old new e e′ ≡ true → alike old new (targetAt old e) (targetAt new e′) ≡ true → fits old new e e′ ≡ true
+  pub fits-of : opposite old new e e′ ≡ true → alike old new (targetAt old e) (targetAt new e′) ≡ true → fits old new e e′ ≡ true
   unfolding fits
   fits-of w a = and-both w a
 

@@ -1,9 +1,8 @@
 -- The computed pairs are the smallest set with the closing rules (T4), and what the selector writes passes the check (T2).
 use mathlib.Core.Path.{_≡_, refl, sym, ap, _∙_, subst₂, subst}
 use mathlib.Core.Logic.{_⊎_, inl, inr, ⊎-elim, _↔_}
-use mathlib.Core.Option.{Option·some-injective}
+use mathlib.Core.Option.{some, Option·some-injective}
 use mathlib.Core.Bool.{Bool, true, false, false≢true}
-use mathlib.Core.Option.{some}
 use mathlib.Core.List.{List, [], _∷_}
 use Prim.Native.Nat.{ℕ, zero, suc, _+_, _≤_, _<_}
 use native.Mathlib.Omega.{arith}
@@ -21,7 +20,7 @@ use Rattle.rules.specs.Closing.{ExitsMet, MayGoOn, alike, fits, keptBy, 
 use Rattle.rules.specs.Sheet.{selected}
 use Rattle.rules.specs.Check.{entered, edgeKept, edgesKept, rule1, rule2, rule3, rule4, rule5, broken}
 use Rattle.rules.specs.Promises.{Exact}
-use Rattle.rules.specs.Proofs.ClosingLaws.{alike-bare, danger-old, fits-ends, fits-of, fits-word, kept-at, kept-of, one-word, unkept-at, word-one}
+use Rattle.rules.specs.Proofs.ClosingLaws.{alike-bare, danger-old, fits-ends, fits-of, fits-word, kept-at, kept-of, opposite-at, unkept-at, opposite-of}
 use Rattle.rules.specs.Proofs.GraphLaws.{sameKind-true, sameKind-of, entry-is, called-below, taken-at}
 use Rattle.rules.specs.Proofs.AfterLaws.{after-iff}
 use Rattle.rules.specs.Proofs.TextLaws.{empty-true}
@@ -191,7 +190,7 @@ module _ (old new : Program) (wo : WellFormed old) (wn : WellFormed new) where
     unfolding Sound joined
     joined-sound s e e′ h h′ j =
         let f = and-right _ _ (and-right _ _ j) in
-        let w = one-word old new wo wn e e′ h h′ (fits-word old new e e′ f) in
+        let w = opposite-at old new wo wn e e′ h h′ (fits-word old new e e′ f) in
         record {
           pair = s _ _ (and-left _ _ j);
           mayGoOn = λ k i l. s _ _ (goesOn-at old new M _ _ (and-left _ _ (and-right _ _ j)) k i l);
@@ -266,7 +265,7 @@ module _ (old new : Program) (wo : WellFormed old) (wn : WellFormed new) where
       pairs-stable old new _ _ (grid-of _ _ _ _ (wo .targets e (u .0)) (wn .targets e′ (u′ .0)))
       (follows-edge old new (pairs old new) e e′ (u .0) (u′ .0)
       (joined-at n n′ e e′ (u .1) (u′ .1) (pairs-complete p) (goesOn-of old new (pairs old new) n n′ (λ k j l. pairs-complete (x k j l)))
-      (fits-of old new e e′ (word-one old new wo wn n n′ e e′ w t t′) f)))
+      (fits-of old new e e′ (opposite-of old new wo wn n n′ e e′ w t t′) f)))
 
   -- The computed list holds just the pairs.
   pub smallest : (a b : ℕ) → (listed (pairs old new) a b ≡ true) ↔ Pair old new a b
@@ -278,7 +277,7 @@ module _ (old new : Program) (wo : WellFormed old) (wn : WellFormed new) where
   joined-iff e e′ h h′ = (
     joined-sound (pairs old new) pairs-sound e e′ h h′,
     λ c. joined-at _ _ e e′ refl refl (pairs-complete (c .pair)) (goesOn-of old new (pairs old new) _ _ (λ k j l. pairs-complete (c .mayGoOn k j l)))
-        (fits-of old new e e′ (word-one old new wo wn _ _ e e′ (c .word) (c .oldTakes) (c .newTakes)) (c .alikeEnds)),
+        (fits-of old new e e′ (opposite-of old new wo wn _ _ e e′ (c .word) (c .oldTakes) (c .newTakes)) (c .alikeEnds)),
   )
 
   -- An edge is dangerous, by edges: for some pair that may go on it is not fitted. Then it is an old edge.
@@ -319,7 +318,7 @@ module _ (old new : Program) (wo : WellFormed old) (wn : WellFormed new) where
   parted-danger e e′ h h′ t =
       let g = and-right _ _ t in
       let w = and-right _ _ g in
-      let u = one-word old new wo wn e e′ h h′ (and-left _ _ w) in (
+      let u = opposite-at old new wo wn e e′ h h′ (and-left _ _ w) in (
         record {
           partner = sourceAt new e′;
           pair = pairs-sound _ _ (and-left _ _ t);
@@ -342,7 +341,7 @@ module _ (old new : Program) (wo : WellFormed old) (wn : WellFormed new) where
       let f = taken-at new (d .partner) (d .word) e′ (p .taken) in
       rw (f .1)
       (and-both (pairs-complete (d .pair)) (and-both (goesOn-of old new (pairs old new) _ _ (λ k j l. pairs-complete (d .mayGoOn k j l)))
-      (and-both (word-one old new wo wn _ _ (p .cause) e′ (d .word) (d .oldTakes) (p .taken)) (true-isnt (fails _ (λ a. d .unfit e′ (p .taken) a))))))
+      (and-both (opposite-of old new wo wn _ _ (p .cause) e′ (d .word) (d .oldTakes) (p .taken)) (true-isnt (fails _ (λ a. d .unfit e′ (p .taken) a))))))
 
   pub parting-new : {e′ : ℕ} → Parting old new e′ → e′ < edgeCount new
   parting-new {e′} p = taken-at new _ _ e′ (p .taken) .0

@@ -19,7 +19,7 @@ use Rattle.rules.specs.Closing.{alike, bothCall, exitsMet, goesOn, joine
 use Rattle.rules.specs.Sheet.{Sheet}
 use Rattle.rules.specs.Check.{entered, edgeKept, edgesKept, rule1, rule2, rule3, rule4, rule5, broken}
 use Rattle.rules.specs.Promises.{Alongside}
-use Rattle.rules.specs.Proofs.ClosingLaws.{alike-callee, alike-kind, alike-label, fits-of, kept-at, word-one}
+use Rattle.rules.specs.Proofs.ClosingLaws.{alike-callee, alike-kind, alike-label, fits-of, kept-at, opposite-of}
 use Rattle.rules.specs.Proofs.GraphLaws.{sameKind-of, taken-at, entry-is, exit-only, called-below, some-name}
 use Rattle.rules.specs.Proofs.AfterLaws.{Calls, Crossing, no-call, one-call}
 
@@ -207,7 +207,7 @@ module _ (old new : Program) (wo : WellFormed old) (wn : WellFormed new) (M : Li
       let f = taken-at old n w e h in
       let f′ = taken-at new n′ w e′ h′ in
       let s : joined old new M e e′ ≡ true
-      = rw (f .1, f′ .1) (and-both l (and-both g (fits-of old new e e′ (word-one old new wo wn n n′ e e′ w h h′) (r .likes _ _ t)))) in
+      = rw (f .1, f′ .1) (and-both l (and-both g (fits-of old new e e′ (opposite-of old new wo wn n n′ e e′ w h h′) (r .likes _ _ t)))) in
       (record { isOld = f .0; isNew = f′ .0; join = s }, f .1, f′ .1)
 
   -- The ends of joined edges, inside the same procedures.

@@ -6,11 +6,15 @@ use Rattle.selection.proofs.joins_before.Tie as tie
 opposite-before-requires : tie.Need-opposite-before-requires
 opposite-before-requires c κs = search needs
 
-fitting-requires : tie.Need-fitting-requires
-fitting-requires c κs = search needs
-
 returns : tie.Need-returns
 returns c = search (all, needs)
 
+fitting-requires : tie.Need-fitting-requires
+fitting-requires c κs = search needs
+
+returns-2 : tie.Need-returns-2
+returns-2 c = search (all, needs)
+
 pub joins-before-spec : {M : Type 1} → statement M
-joins-before-spec = tie.close (tie.spec opposite-before-requires fitting-requires returns)
+joins-before-spec =
+    tie.close (tie.spec opposite-before-requires returns fitting-requires returns-2)
