@@ -9,7 +9,7 @@ use native.Mathlib.Omega.{arith}
 use lib.ListN.{getD, length}
 use borrow.Author.Tests.{eq-eqb, eqb-true, ne-eqb}
 use Rattle.laws.specs.Tests.{_and_, _or_, _⇒_, allPairs, choose, every, has, isnt, listed, some?}
-use Rattle.laws.specs.TestLaws.{and-both, and-left, and-right, both-ways, every-at, every-of, every-skip, fails, implied, implies, isnt-false, isnt-true, or-left, yes-and}
+use Rattle.laws.specs.TestLaws.{and-both, and-left, and-right, both-ways, every-at, every-of, every-skip, fails, implied, implies, isnt-false, isnt-true, or-left, yes-and, passes?}
 use Rattle.laws.specs.Chain.{Walk, latest, walk-end, walk-start, walk-step}
 use Rattle.laws.specs.Bits.{bitIn}
 use Rattle.rules.specs.Graph.{calleeCount, edgeCount, edgeTaken, nodeCount, sourceAt, targetAt, wordAt}
