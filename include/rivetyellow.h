@@ -25,8 +25,8 @@
  * Branches
  *   At a step a run takes the edge with the chosen word, or else the edge `*`.
  *   The versions are compared so for every word: an old `*` with the new one,
- *   and with each branch that only the new node names. An entry or a call has
- *   no `*`.
+ *   and with each branch that only the new node names; an old branch whose word
+ *   the new node does not name, with its `*`. An entry or a call has no `*`.
  *
  * Texts and outputs
  *   A text or an output is a pointer and a length in bytes. Texts are not

@@ -11,6 +11,7 @@ ghost use Rattle.closure.specs.Claims.{
   EntersCallee,
   EntersCallees,
   Finds,
+  FirstTried,
   Follows,
   Grows,
   MarksLost,
@@ -198,42 +199,22 @@ fn mark_lost(ol: &[usize], nl: &[usize], w: &mut [usize], e: usize, m: usize, la
     }
 }
 
-// Rule 3 for the old edge e and the new node m, whose pair may go on: if m takes no edge for the word of e, e is dangerous; then each edge of m that
-// is opposite to e. Only `*` has several.
-fn try_opposites(
-    ot: &[u8],
-    on: &[usize],
-    ol: &[usize],
-    nt: &[u8],
-    nn: &[usize],
-    nl: &[usize],
-    groups: &[usize],
-    limit: usize,
-    w: &mut [usize],
-    count: usize,
-    e: usize,
-    m: usize,
-) -> usize
-    requires { ⌜ limit ≤ 4096 ⌝ }
-    ensures { λ r. ⌜ Sized (now (w .entry)) (now (w .exit))
-        (TriesEdge
-        (memory (now (ot .entry)) (now (on .entry)) (now (ol .entry)))
-        (memory (now (nt .entry)) (now (nn .entry)) (now (nl .entry)))
-        (now (groups .entry)) limit (now (w .entry)) count e m (now (w .exit)) r) ⌝ }
+// 1 + the last edge of the new node m that is opposite to the old edge e, or 0; by the short way where there is one. If m takes no edge for the word of
+// e, e is marked as dangerous.
+fn first_try(ol: &[usize], nl: &[usize], w: &mut [usize], e: usize, m: usize) -> usize
+    ensures { λ r. ⌜ FirstTried (now (ol .entry)) (now (nl .entry)) (now (w .entry)) e m (now (w .exit)) r ⌝ }
 {
+    let own = versions::sole_opposite(ol, nl, e, m);
+    if 0 < own {
+        return own;
+    }
     let last = versions::last_opposite(ol, nl, e, m);
     mark_lost(ol, nl, w, e, m, last);
-    let mut total = count;
-    let mut place = last;
-    while 0 < place {
-        let f = place - 1;
-        total = try_ends(ot, on, ol, nt, nn, nl, groups, limit, w, total, e, f);
-        place = versions::opposite_before(ol, nl, e, f);
-    }
-    total
+    last
 }
 
-// The same, by the short way where there is one.
+// Rule 3 for the old edge e and the new node m, whose pair may go on: if m takes no edge for the word of e, e is dangerous; then each edge of m that
+// is opposite to e. Only `*` has several.
 fn try_edge(
     ot: &[u8],
     on: &[usize],
@@ -255,12 +236,18 @@ fn try_edge(
         (memory (now (nt .entry)) (now (nn .entry)) (now (nl .entry)))
         (now (groups .entry)) limit (now (w .entry)) count e m (now (w .exit)) r) ⌝ }
 {
-    let own = versions::sole_opposite(ol, nl, e, m);
-    if own == 0 {
-        return try_opposites(ot, on, ol, nt, nn, nl, groups, limit, w, count, e, m);
+    let mut total = count;
+    let mut place = first_try(ol, nl, w, e, m);
+    while 0 < place {
+        let f = place - 1;
+        total = try_ends(ot, on, ol, nt, nn, nl, groups, limit, w, total, e, f);
+        if versions::is_star(ol, e) {
+            place = versions::opposite_before(ol, nl, e, f);
+        } else {
+            place = 0;
+        }
     }
-    let f = own - 1;
-    try_ends(ot, on, ol, nt, nn, nl, groups, limit, w, count, e, f)
+    total
 }
 
 // Rule 3 for the pair (n, m), which may go on: each edge of the old node.

@@ -23,7 +23,7 @@ use Rattle.pairset.specs.StoreLaws.{walked}
 use Rattle.versions.specs.Found.{none-found}
 use Rattle.versions.specs.MemoryLaws.{sound}
 use Rattle.versions.specs.Claims.{GoesOn}
-use Rattle.versions.specs.Opposite.{FindsBefore, LastOpposite, OppositeBefore}
+use Rattle.versions.specs.Opposite.{FindsBefore, IsStar, LastOpposite, OppositeBefore}
 use Rattle.selection.specs.Compared.{Compared, Fits, Fitting, Joins, JoinsBefore, JoinsDown, LastFitting, hitAt, hits-any, met-joined, partner-below}
 use Rattle.selection.specs.Marks.{Only, Sees, seenAt, several, sole, united}
 use Rattle.selection.proofs.Dangers.{fit-end, fit-start, goes-is, hit-at, source-of}
@@ -58,8 +58,9 @@ joins-down ol nl w e f met before r q t =
       below = omega (arith, t .below, q .below);
     }
 
-pub joins-last : (ol nl w : List ℕ) (e f : ℕ) (met : Bool) (before : ℕ) → before ≡ 0 → OppositeBefore ol nl e f before → JoinsBefore ol nl w e f met 0
-joins-last ol nl w e f met before z q = joins-down ol nl w e f met before 0 q (fit-end ol nl w e before met before (fit-start ol nl w e before met) (omega arith))
+pub joins-last : (ol nl w : List ℕ) (e f : ℕ) (met t : Bool) → t ≡ false → IsStar ol e t → JoinsBefore ol nl w e f met 0
+unfolding IsStar
+joins-last ol nl w e f met t y q = joins-down ol nl w e f met 0 0 (q y nl f) (fit-end ol nl w e 0 met 0 (fit-start ol nl w e 0 met) (omega arith))
 
 -- ---- `unite`
 

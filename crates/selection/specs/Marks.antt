@@ -20,15 +20,15 @@ use Rattle.coverage.specs.Rows.{Row}
 use Rattle.selection.specs.Compared.{Compared, hitAt}
 use Rattle.selection.specs.Dangers.{SetOf}
 
--- What is seen of the counterparts of an old edge: 0 for none, 1 + the only one, or a number above all edges for several.
+-- What is seen of the counterparts of an old edge: 0 for none, 1 + the only one, or 2048, above all of the at most 1,024 edges, for several.
 abbrev pub several : ℕ
 several = 2048
 
--- `unite`: with the edge f - 1.
+-- `unite`: what is seen when the edge f - 1 is seen too.
 unfoldable pub united : ℕ → ℕ → ℕ
 united seen f = choose (eqb seen 0) f (choose (eqb seen f) seen several)
 
--- `see`: with the counterparts of the old edge e at its pair with the new node m, the last of them first.
+-- `see`: what is seen when the counterparts of the old edge e at its pair with the new node m are seen too, the last of them first.
 unfoldable pub seenAt : Program → Program → List (ℕ × ℕ) → ℕ → ℕ → ℕ → ℕ → ℕ
 seenAt old new M e m f seen = choose (hitAt old new M true e m f) (united seen (suc f)) seen
 

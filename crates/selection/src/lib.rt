@@ -89,11 +89,11 @@ pub fn joins(
 pub fn joins_before(ol: &[usize], nl: &[usize], w: &[usize], e: usize, f: usize, met: bool) -> usize
     ensures { λ r. ⌜ JoinsBefore (now (ol .entry)) (now (nl .entry)) (now (w .entry)) e f met r ⌝ }
 {
-    let before = versions::opposite_before(ol, nl, e, f);
-    if before == 0 {
-        return 0;
+    if versions::is_star(ol, e) {
+        let before = versions::opposite_before(ol, nl, e, f);
+        return fitting(ol, nl, w, e, before, met);
     }
-    fitting(ol, nl, w, e, before, met)
+    0
 }
 
 // ---- dangerous edges

@@ -7,7 +7,7 @@ use Prim.Native.Nat.{ℕ, suc, _+_, _-_, _≤_, _<_}
 use native.Mathlib.Omega.{arith}
 use lib.Dec.{eqb}
 use lib.ListN.{getD}
-use borrow.Author.Tests.{eq-eqb, ne-eqb}
+use borrow.Author.Tests.{eq-eqb, eqb-false, ne-eqb}
 use Rattle.laws.specs.Tests.{after, found, isnt, some?}
 use Rattle.laws.specs.TestLaws.{both-ways}
 use Rattle.laws.specs.Chain.{Blind, Left, latest, latest-hit, latest-miss, latest-none, latest-only, left-at, left-step}
@@ -23,7 +23,7 @@ use Rattle.graph.specs.Reads.{upTo, upTo-le}
 use Rattle.graph.proofs.Laws.{before-less, taken-named}
 use Rattle.versions.specs.Memory.{InMemory, memory}
 use Rattle.versions.specs.MemoryLaws.{edges-chained, edges-in, key-is, sound, source-is, well-formed}
-use Rattle.versions.specs.Opposite.{FindsBefore, FindsFrom, LastOpposite, OppositeBefore, OppositeFrom, SoleOpposite, Takes, WordLost, oppositeBelow, side-at, side-of, sideOf}
+use Rattle.versions.specs.Opposite.{FindsBefore, FindsFrom, IsStar, LastOpposite, OppositeBefore, OppositeFrom, SoleOpposite, Takes, WordLost, oppositeBelow, side-at, side-of, sideOf}
 
 -- ---- `takes`
 
@@ -201,7 +201,11 @@ module _ (ol nl : List ℕ) (e f key : ℕ) (ek : key ≡ getD ol (edgeBase e + 
         below = omega arith;
       }
 
--- ---- `sole_opposite`
+-- ---- `is_star`, `sole_opposite`
+
+pub star-told : (ol : List ℕ) (e key : ℕ) → key ≡ getD ol (edgeBase e + 2) 0 → IsStar ol e (eqb key 42)
+unfolding IsStar
+star-told ol e key ek z nl f = before-named ol nl e f key ek (eqb-false key 42 z)
 
 module _ (ol nl : List ℕ) (e m key : ℕ) (ek : key ≡ getD ol (edgeBase e + 2) 0) where
   pub sole-none : SoleOpposite ol nl e m 0
@@ -217,4 +221,4 @@ module _ (ol nl : List ℕ) (e m key : ℕ) (ek : key ≡ getD ol (edgeBase e + 
         kept = subst (WordLost ol nl e m r) (ne-eqb r 0 (λ z. let y : ⊥ = omega arith in y)) (lost-named ol nl e m key ek r d);
       }
 
-pub ruleset all = (takes-none, takes-one, from-start, from-end, from-hit, from-on, before-less, from-within, last-star, last-named, lost-star, lost-named, before-star, before-named, sole-none, sole-named)
+pub ruleset all = (takes-none, takes-one, from-start, from-end, from-hit, from-on, before-less, from-within, last-star, last-named, lost-star, lost-named, before-star, before-named, star-told, sole-none, sole-named)

@@ -72,6 +72,10 @@ pub record OppositeBefore (ol nl : List ℕ) (e f r : ℕ) : Type 0 where
   pub finds : FindsBefore ol nl e f r
   pub below : r ≤ f
 
+-- `is_star`: if the word of the old edge e is not `*`, nothing is before an edge that is opposite to it; `*` leaves this open.
+unfoldable pub IsStar : List ℕ → ℕ → Bool → Type 0
+IsStar ol e r = r ≡ false → (nl : List ℕ) (f : ℕ) → OppositeBefore ol nl e f 0
+
 -- `word_lost`: the new node m takes no edge for the word of the old edge e, where `last` is what `last_opposite` answers.
 unfoldable pub WordLost : List ℕ → List ℕ → ℕ → ℕ → ℕ → Bool → Type 0
 WordLost ol nl e m last r =

@@ -12,7 +12,7 @@ ghost use Rattle.rules.specs.Closing.{sameCallee};
 ghost use Rattle.pairset.specs.Store.{Has};
 ghost use Rattle.versions.specs.Memory.{memory};
 ghost use Rattle.versions.specs.Claims.{Alike, BothCall, CalleesEntered, Entered, ExitsMet, GoesOn, SameCallees};
-ghost use Rattle.versions.specs.Opposite.{LastOpposite, OppositeBefore, OppositeFrom, SoleOpposite, Takes, WordLost};
+ghost use Rattle.versions.specs.Opposite.{IsStar, LastOpposite, OppositeBefore, OppositeFrom, SoleOpposite, Takes, WordLost};
 ghost use Rattle.versions.specs.Groups.{Known, Regrouped, Twin};
 
 // ---- what the tables hold
@@ -230,6 +230,13 @@ pub fn last_opposite(ol: &[usize], nl: &[usize], e: usize, m: usize) -> usize
         return opposite_from(ol, nl, e, source(ol, e), graph::head(nl, m));
     }
     graph::edge_taken(nl, m, key)
+}
+
+// Whether the word of the old edge e is `*`: another one has at most one opposite edge.
+pub fn is_star(ol: &[usize], e: usize) -> bool
+    ensures { λ r. ⌜ IsStar (now (ol .entry)) e r ⌝ }
+{
+    graph::word_key(ol, e) == 42
 }
 
 // 1 + the one before f, which is opposite to e, or 0. Only `*` has several.

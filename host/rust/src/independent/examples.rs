@@ -86,7 +86,7 @@ fn p3() {
 fn p4() {
     let new = P2_OLD.replace("B,1,stop,3", "B,1,halt,3");
     assert_eq!(dangers(&sheet_of(P2_OLD, &new, "")), ["D,2"]);
-    // The new node has no edge with its word: nothing to start from.
+    // The new node takes no edge for its word: nothing to start from.
     assert!(probes_of(P2_OLD, &new, "").is_empty());
     let second = record_of(P2_OLD, &new, P2_TESTS, 1);
     assert_eq!(second, text("V,t2,5,11010"));
