@@ -26,12 +26,12 @@ use Rattle.pairset.specs.StoreLaws.{listed-at, listed-of}
 use Rattle.versions.specs.Memory.{InMemory, Memory, memory}
 use Rattle.versions.specs.MemoryLaws.{callees-are, edges-chained, kind-is}
 use Rattle.versions.specs.Called.{CalleesAt, at-end, at-here, at-next, callee-is, fewer-callees}
-use Rattle.versions.specs.Opposite.{FindsBefore, IsStar, LastOpposite, OppositeBefore, SoleOpposite, opposites, side-at, side-of, sideOf}
+use Rattle.versions.specs.Opposite.{FindsBefore, LastOpposite, OppositeBefore, SoleOpposite, opposites, side-at, side-of, sideOf}
 use Rattle.versions.specs.Groups.{Groups, InGroups, Regrouped, grouped-none}
 use Rattle.closure.specs.State.{AllDone, AllEntered, CallDone, CalleeDone, Claim, EachDone, EdgeDone, EdgesDone, EndsDone, Entered, Lasts, MetAt, MetTo, OnDone, PairDone, PairFollowed, State, Step, Turn}
 use Rattle.closure.specs.Step.{done-lasts, edge-lasts, ends-lasts, entered-done, entered-lasts, entries-lasts, followed-lasts, lost-lasts, met-lasts, pair-inside, state-none, step-lasts, step-map, step-none, step-same, step-shows, step-then}
 use Rattle.closure.specs.Full.{all-counted, all-dangers, all-same}
-use Rattle.closure.specs.Claims.{AddsEntries, Closes, Enters, EntersCallee, EntersCallees, Finds, FirstTried, Follows, MarksLost, Passes, Sized, TriesEdge, TriesEnds, Visits}
+use Rattle.closure.specs.Claims.{AddsEntries, Closes, Enters, EntersCallee, EntersCallees, Finds, Follows, MarksLost, Passes, Sized, TriesEdge, TriesEnds, Visits}
 use Rattle.closure.proofs.Laws.{edge-done, formed-in, lost-none}
 
 -- ---- `try_edge`
@@ -90,12 +90,6 @@ module _ (ot on ol nt nn nl groups : List ℕ) (limit : ℕ) (w₀ : List ℕ) (
               };
         }
 
-    -- Another word than `*` has no second one.
-    pub try-stop : (f : ℕ) (v : List ℕ) (r : ℕ) (t : Bool) → 0 < place → f ≡ place - 1 → Sized w v (TriesEnds (memory ot on ol) (memory nt nn nl) groups limit w c e f v r)
-        → t ≡ false → IsStar ol e t → Sized w₀ v (Trying (memory ot on ol) (memory nt nn nl) groups limit w₀ c₀ e m v r 0)
-    unfolding IsStar
-    try-stop f v r t pos d x y q = try-on f v r 0 pos d x (q y nl f)
-
   pub try-end : (u w : List ℕ) (c place last : ℕ) → LastOpposite ol nl e m last → Sized w₀ u (MarksLost ol nl w₀ e m last u)
       → Sized u w (Trying (memory ot on ol) (memory nt nn nl) groups limit u c₀ e m w c place) → place ≤ 0
       → Sized w₀ w (TriesEdge (memory ot on ol) (memory nt nn nl) groups limit w₀ c₀ e m w c)
@@ -113,17 +107,16 @@ module _ (ot on ol nt nn nl groups : List ℕ) (limit : ℕ) (w₀ : List ℕ) (
             (λ t each. edge-done (o .program) (p .program) e m _ _ t (λ f l own k. each f l (side-of (o .program) (p .program) e m f own k)));
       }
 
--- ---- `first_try`
-
-module _ (ol nl w : List ℕ) (e m : ℕ) where
-  pub first-sole : (own : ℕ) → 0 < own → SoleOpposite ol nl e m own → FirstTried ol nl w e m w own
+  -- The only opposite edge is one turn of such a walk.
+  pub try-sole : (own f : ℕ) (v : List ℕ) (r : ℕ) → (own ≡ 0 → ⊥) → f ≡ own - 1 → SoleOpposite ol nl e m own
+      → Sized w₀ v (TriesEnds (memory ot on ol) (memory nt nn nl) groups limit w₀ c₀ e f v r) → Sized w₀ v (TriesEdge (memory ot on ol) (memory nt nn nl) groups limit w₀ c₀ e m v r)
   unfolding SoleOpposite
-  first-sole own pos so = let s = so pos in record { last = s .last; lost = lost-none ol nl w e m own false (s .kept) refl }
+  try-sole own f v r d q so t =
+      let s = so (omega arith) in
+      let b : OppositeBefore ol nl e f 0 = rw q (s .before) in
+      try-end w₀ v r 0 own (s .last) (lost-none ol nl w₀ e m own false (s .kept) refl) (try-on w₀ c₀ own (try-start own (s .last)) f v r 0 (omega arith) q t b) (omega arith)
 
-  pub first-any : (last : ℕ) (v : List ℕ) → LastOpposite ol nl e m last → Sized w v (MarksLost ol nl w e m last v) → FirstTried ol nl w e m v last
-  first-any last v q t = record { last = q; lost = t }
-
-pub ruleset tries = (try-less, try-start, try-on, try-stop, try-end, first-sole, first-any)
+pub ruleset tries = (try-less, try-start, try-on, try-end, try-sole)
 
 -- ---- `follow`
 

@@ -13,7 +13,7 @@ use Rattle.rules.specs.ProgramFile.{Listing}
 use Rattle.pairset.specs.Store.{dangerIn, newAt, oldAt, pairBase, pairsIn}
 use Rattle.versions.specs.Memory.{InMemory, Memory, memory}
 use Rattle.versions.specs.Called.{CalleesAt}
-use Rattle.versions.specs.Opposite.{LastOpposite, oppositeBelow}
+use Rattle.versions.specs.Opposite.{oppositeBelow}
 use Rattle.versions.specs.PairsHeld.{PairsHeld}
 use Rattle.versions.specs.Groups.{InGroups}
 use Rattle.closure.specs.State.{AllDone, CalleeDone, EdgeDone, EdgesDone, EndsDone, Entered, EntriesDone, Formed, LostDone, PairDone, PairFollowed, State, Step, Turn}
@@ -62,13 +62,8 @@ MarksLost ol nl w e m last v =
     → e < edgeCount (o .program) → Pair (o .program) (p .program) (sourceAt (o .program) e) m → MayGoOn (o .program) (p .program) (sourceAt (o .program) e) m
     → last ≡ oppositeBelow (o .program) (p .program) e m (edgeCount (p .program)) → Step (o .program) (p .program) limit w c (LostDone (o .program) (p .program) e m) v c
 
--- `first_try`: what `last_opposite` answers, and the table marked so.
-pub record FirstTried (ol nl w : List ℕ) (e m : ℕ) (v : List ℕ) (r : ℕ) : Type 0 where
-  pub last : LastOpposite ol nl e m r
-  pub lost : Sized w v (MarksLost ol nl w e m r v)
-
 module _ (a b : Memory) (t : List ℕ) (limit : ℕ) (w : List ℕ) where
-  -- `try_ends`: rule 3 for the old edge e and the new edge f, which are opposite and leave a pair that may go on.
+  -- `try_ends`, `try_other`: rule 3 for the old edge e and the new edge f, which are opposite and leave a pair that may go on.
   unfoldable pub TriesEnds : ℕ → ℕ → ℕ → List ℕ → ℕ → Type 0
   TriesEnds c e f v r =
       (o p : Listing) → InMemory a o → InGroups b t p → State (o .program) (p .program) limit w c → e < edgeCount (o .program) → f < edgeCount (p .program)
@@ -76,7 +71,7 @@ module _ (a b : Memory) (t : List ℕ) (limit : ℕ) (w : List ℕ) where
       → MayGoOn (o .program) (p .program) (sourceAt (o .program) e) (sourceAt (p .program) f)
       → Step (o .program) (p .program) limit w c (EndsDone (o .program) (p .program) e f) v r
 
-  -- `try_edge`: rule 3 for the old edge e and the new node m, where their pair may go on.
+  -- `try_edge`, `try_opposites`: rule 3 for the old edge e and the new node m, where their pair may go on.
   unfoldable pub TriesEdge : ℕ → ℕ → ℕ → List ℕ → ℕ → Type 0
   TriesEdge c e m v r =
       (o p : Listing) → InMemory a o → InGroups b t p → State (o .program) (p .program) limit w c → e < edgeCount (o .program)

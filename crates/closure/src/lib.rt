@@ -11,7 +11,6 @@ ghost use Rattle.closure.specs.Claims.{
   EntersCallee,
   EntersCallees,
   Finds,
-  FirstTried,
   Follows,
   Grows,
   MarksLost,
@@ -199,22 +198,77 @@ fn mark_lost(ol: &[usize], nl: &[usize], w: &mut [usize], e: usize, m: usize, la
     }
 }
 
-// 1 + the last edge of the new node m that is opposite to the old edge e, or 0; by the short way where there is one. If m takes no edge for the word of
-// e, e is marked as dangerous.
-fn first_try(ol: &[usize], nl: &[usize], w: &mut [usize], e: usize, m: usize) -> usize
-    ensures { λ r. ⌜ FirstTried (now (ol .entry)) (now (nl .entry)) (now (w .entry)) e m (now (w .exit)) r ⌝ }
+// The same without the groups, for the few edges that are opposite to `*` or that `*` stands for. It is a function of its own so that `try_ends` is called
+// at one place, and the compiler puts it into the search.
+fn try_other(
+    ot: &[u8],
+    on: &[usize],
+    ol: &[usize],
+    nt: &[u8],
+    nn: &[usize],
+    nl: &[usize],
+    groups: &[usize],
+    limit: usize,
+    w: &mut [usize],
+    count: usize,
+    e: usize,
+    f: usize,
+) -> usize
+    requires { ⌜ limit ≤ 4096 ⌝ }
+    ensures { λ r. ⌜ Sized (now (w .entry)) (now (w .exit))
+        (TriesEnds
+        (memory (now (ot .entry)) (now (on .entry)) (now (ol .entry)))
+        (memory (now (nt .entry)) (now (nn .entry)) (now (nl .entry)))
+        (now (groups .entry)) limit (now (w .entry)) count e f (now (w .exit)) r) ⌝ }
 {
-    let own = versions::sole_opposite(ol, nl, e, m);
-    if 0 < own {
-        return own;
+    let a = versions::target(ol, e);
+    let b = versions::target(nl, f);
+    if pairset::has(w, a, b) {
+        return count;
     }
-    let last = versions::last_opposite(ol, nl, e, m);
-    mark_lost(ol, nl, w, e, m, last);
-    last
+    if versions::alike(ot, on, ol, nt, nn, nl, a, b) {
+        return grow(limit, w, count, a, b);
+    }
+    pairset::mark_danger(w, e);
+    count
 }
 
 // Rule 3 for the old edge e and the new node m, whose pair may go on: if m takes no edge for the word of e, e is dangerous; then each edge of m that
 // is opposite to e. Only `*` has several.
+fn try_opposites(
+    ot: &[u8],
+    on: &[usize],
+    ol: &[usize],
+    nt: &[u8],
+    nn: &[usize],
+    nl: &[usize],
+    groups: &[usize],
+    limit: usize,
+    w: &mut [usize],
+    count: usize,
+    e: usize,
+    m: usize,
+) -> usize
+    requires { ⌜ limit ≤ 4096 ⌝ }
+    ensures { λ r. ⌜ Sized (now (w .entry)) (now (w .exit))
+        (TriesEdge
+        (memory (now (ot .entry)) (now (on .entry)) (now (ol .entry)))
+        (memory (now (nt .entry)) (now (nn .entry)) (now (nl .entry)))
+        (now (groups .entry)) limit (now (w .entry)) count e m (now (w .exit)) r) ⌝ }
+{
+    let last = versions::last_opposite(ol, nl, e, m);
+    mark_lost(ol, nl, w, e, m, last);
+    let mut total = count;
+    let mut place = last;
+    while 0 < place {
+        let f = place - 1;
+        total = try_other(ot, on, ol, nt, nn, nl, groups, limit, w, total, e, f);
+        place = versions::opposite_before(ol, nl, e, f);
+    }
+    total
+}
+
+// The same, by the short way where there is one.
 fn try_edge(
     ot: &[u8],
     on: &[usize],
@@ -236,18 +290,12 @@ fn try_edge(
         (memory (now (nt .entry)) (now (nn .entry)) (now (nl .entry)))
         (now (groups .entry)) limit (now (w .entry)) count e m (now (w .exit)) r) ⌝ }
 {
-    let mut total = count;
-    let mut place = first_try(ol, nl, w, e, m);
-    while 0 < place {
-        let f = place - 1;
-        total = try_ends(ot, on, ol, nt, nn, nl, groups, limit, w, total, e, f);
-        if versions::is_star(ol, e) {
-            place = versions::opposite_before(ol, nl, e, f);
-        } else {
-            place = 0;
-        }
+    let own = versions::sole_opposite(ol, nl, e, m);
+    if own == 0 {
+        return try_opposites(ot, on, ol, nt, nn, nl, groups, limit, w, count, e, m);
     }
-    total
+    let f = own - 1;
+    try_ends(ot, on, ol, nt, nn, nl, groups, limit, w, count, e, f)
 }
 
 // Rule 3 for the pair (n, m), which may go on: each edge of the old node.
