@@ -47,7 +47,7 @@
  * Stack
  *   A call that runs a whole job has its tables on its stack while it runs, a
  *   call of the lent job some work tables. They have fixed lengths, so the need
- *   does not grow with the texts. Measured on x86-64 it is at most 305,560
+ *   does not grow with the texts. Measured on x86-64 it is at most 305,592
  *   bytes (298 KiB). Give the calling thread a stack of 512 KiB
  *   (RY_STACK_ROOM): the rest is margin, also for the caller's own frames. No
  *   call tests how much is left; without the room the process faults.
