@@ -17,7 +17,7 @@ use Rattle.rules.specs.Promises.{AnswersPlain, NumbersGiven, Plain, TooLong, req
 use Rattle.rules.specs.Proofs.BackLaws.{back_short}
 use Rattle.rules.specs.Proofs.Closure.{probes_few, probes_inside}
 use Rattle.rules.specs.Proofs.JobLaws.{known, marks_length, outcome_wrote, record_wrote, writing_wrote, wrote_choose, wrote_same}
-use Rattle.rules.specs.Proofs.Numbers.{Any, Good, Refusal, all_of, big, good_number, job_good, passes_of, program_good, program_long, program_numbers, sheet_good, sheet_long, sheet_numbers, suite_good, suite_long, suite_numbers}
+use Rattle.rules.specs.Proofs.Numbers.{Any, Good, Refusal, all_of, big, good_number, job_good, job_numbers, passes_of, program_good, program_long, program_numbers, sheet_good, sheet_long, sheet_numbers, suite_good, suite_long, suite_numbers}
 use Rattle.rules.specs.Proofs.ReadBack.{ended_q, name_short, written_passes}
 use Rattle.rules.specs.Proofs.TextLaws.{decimal_most}
 
@@ -189,13 +189,13 @@ pub plain_answers : (old new tests : Bytes) → AnswersPlain old new tests
 unfolding read_old_answer read_new_answer read_tests_answer answering all_of has ◌or◌ ◌and◌
 plain_answers old new tests =
     record {
-      of_old = plain _ (outcome_told _ all_numbers _ _ refl (program_good old) (λ p. tt)) (unwritten _ (success_only _ _ (λ p. nothing_wrote)));
-      of_new = plain _ (outcome_told _ all_numbers _ _ refl (program_good old) (λ p. outcome_told _ all_numbers _ _ refl (program_good new) (λ r. tt)))
+      of_old = plain _ (outcome_told (1 ∷ program_numbers) all_numbers _ _ refl (program_good old) (λ p. tt)) (unwritten _ (success_only _ _ (λ p. nothing_wrote)));
+      of_new = plain _ (outcome_told (1 ∷ program_numbers) all_numbers _ _ refl (program_good old) (λ p. outcome_told (1 ∷ program_numbers) all_numbers _ _ refl (program_good new) (λ r. tt)))
           (unwritten _ (success_only _ _ (λ p. success_only _ _ (λ r. nothing_wrote))));
-      of_tests = plain _ (outcome_told _ all_numbers _ _ refl (job_good old new tests) (λ g. tt)) (unwritten _ (success_only _ _ (λ g. nothing_wrote)));
+      of_tests = plain _ (outcome_told job_numbers all_numbers _ _ refl (job_good old new tests) (λ g. tt)) (unwritten _ (success_only _ _ (λ g. nothing_wrote)));
       of_request = λ q input room.
           plain _
-          (outcome_told _ all_numbers _ _ refl (job_good old new tests) (λ g. more_told (request_numbers q) all_numbers (serving q g input room) (numbers_few q) (serving_told q g input room)))
+          (outcome_told job_numbers all_numbers _ _ refl (job_good old new tests) (λ g. more_told (request_numbers q) all_numbers (serving q g input room) (numbers_few q) (serving_told q g input room)))
           (λ b e. answering_short q old new tests input room b e);
     }
 

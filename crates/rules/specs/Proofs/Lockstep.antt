@@ -291,6 +291,8 @@ module _ (old new : Program) (wo : WellFormed old) (wn : WellFormed new) (M : Li
         calls_next c c.node n' 0 n' ks ks' ks'
         (record { here = t.here; there = t.there; old_calls = a; new_calls = a'; pair = t.pair; within = some_name (callee_at old c.node); met = refl }) o
     step_together X w c n' [] [] a a' t bottom = tt
+    step_together X w c n' [] (k' ∷ ks') a a' t o = elim o [ ]
+    step_together X w c n' (k ∷ ks) [] a a' t o = elim o [ ]
     step_together X w c n' (k ∷ ks) (k' ∷ ks') a a' t (inner {k = j} {k' = j'} {i = i} b s s' o) =
         let x : c.node ≡ exit old (called old j i) = exit_only old wo (called old j i) c.node (called_below old wo j i) t.here s a in
         let x' : n' ≡ exit new (called new j' i) = exit_only new wn (called new j' i) n' (called_below new wn j' i) t.there s' a' in
