@@ -1,6 +1,8 @@
 // Edges after others in one version: where a run may go on that has crossed one of a set. A second set has the edges that are left to go on from. A table
 // of returns has, in a row of 512 bits for each procedure, the nodes from which a run goes on that has come to its exit: those behind the callees of calls.
 // It is made in one pass over the calls, and a node that is gone on from is taken out, so that this happens once.
+#![tactic(auto)]
+
 ghost use Rattle.std.specs.Prelude.{◌≡◌, ◌<◌};
 ghost use Rattle.coverage.specs.Rows.{edge_found, first_common};
 ghost use Rattle.after.specs.State.{BothSized, Sized, Worked};

@@ -1,4 +1,6 @@
 // What a call answers: a refusal by number and place, or 0 and how many bytes were written.
+#![tactic(auto)]
+
 ghost use Rattle.std.specs.Prelude.{◌≡◌};
 ghost use Rattle.answer.specs.Outcomes.{packing};
 

@@ -1,4 +1,6 @@
 // The check of a sheet: its claims are read, and judged by the five rules. No pair is computed: the rules are tested within the sheet's own list.
+#![tactic(auto)]
+
 ghost use Rattle.std.specs.Prelude.{◌≤◌, ◌<◌, ◌+◌, ◌*◌, length};
 ghost use Rattle.versions.specs.Memory.{memory};
 ghost use Rattle.pairset.specs.Store.{pair_base};

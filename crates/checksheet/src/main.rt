@@ -1,4 +1,6 @@
 // checksheet OLD NEW TESTS SHEET: checks a sheet, and prints `passed` or `refused,NUMBER,PLACE`.
+#![tactic(auto)]
+
 fn check(old: &[u8], new: &[u8], tests: &[u8], sheet: &[u8]) {
     let answer = rivetyellow::ry_check(old, new, tests, sheet);
     let number = (answer / 4294967296) as usize;

@@ -2,6 +2,8 @@
 // no pair has to wait in it. A visit of a pair that may go on also finds the old edges that are dangerous for it.
 // A count above the limit says that there are more pairs than the limit; every function passes such a count on. What the table holds then is left
 // open, and what it holds behind its pairs always.
+#![tactic(auto)]
+
 ghost use Rattle.std.specs.Prelude.{◌≤◌};
 ghost use Rattle.versions.specs.Memory.{memory};
 ghost use Rattle.closure.specs.Claims.{

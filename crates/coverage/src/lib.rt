@@ -1,4 +1,6 @@
 // Coverage in memory: the row of a test as words of 64 bits, lowest edge first. Which edges it has, how many, and the lowest dangerous one.
+#![tactic(auto)]
+
 ghost use Rattle.std.specs.Prelude.{◌≡◌, ◌≤◌, get_or};
 ghost use Rattle.std.specs.Int.Bits.{bit_and};
 ghost use Rattle.std.specs.Int.Count.{ones as ones_of, count_trailing_zeros};

@@ -1,4 +1,6 @@
 // What the programs share: files that arguments name, cases in a file, outputs, and numbers in print.
+#![tactic(auto)]
+
 ghost use Rattle.std.specs.Prelude.{◌≡◌, [], drop, get_or};
 ghost use Rattle.rules.specs.Text.{all_bytes, split};
 ghost use Rattle.files.specs.Marks.{is_mark};

@@ -1,5 +1,7 @@
 // Look-ups in the tables of a program, and the keys of words. Every function takes any slice and any number: what stands past the end of the
 // links is 0, and a walk goes on only downwards.
+#![tactic(auto)]
+
 ghost use Rattle.std.specs.Prelude.{◌≡◌, ◌+◌, ◌<◌, get_or, take};
 ghost use Rattle.rules.specs.Text.{same as same_bytes};
 ghost use Rattle.graph.specs.Table.{edge_base, head_base, proc_base};

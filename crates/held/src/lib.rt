@@ -1,4 +1,6 @@
 // Testing whether lent tables are what reading these texts leaves, with the lengths that they must have.
+#![tactic(auto)]
+
 ghost use Rattle.std.specs.Prelude.{◌≡◌, ◌≤◌, length};
 ghost use Rattle.held.specs.Left.{count_left, read_left};
 ghost use Rattle.lent_job.specs.Held.{numbers, suite_left, version_left};

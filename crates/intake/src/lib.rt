@@ -1,4 +1,6 @@
 // Reading the three texts of a job: the old program, the new one and the tests, in this order. The first refusal is the answer.
+#![tactic(auto)]
+
 ghost use Rattle.std.specs.Prelude.{◌≡◌, ◌≤◌, length};
 ghost use Rattle.intake.specs.Ready.{JobRead, refused_counts};
 

@@ -1,5 +1,7 @@
 // Reading at the stages 0 to 2 of a job, on values and tables of numbers. The exported calls take the job and the nodes out of what is lent
 // and put them back.
+#![tactic(auto)]
+
 ghost use Rattle.std.specs.Prelude.{◌≡◌, length};
 ghost use Rattle.lent_job.specs.Held.{numbers};
 ghost use Rattle.job.specs.Taken.{OldTaken, refused_taken, with_old, NewTaken, new_part, old_part, TestsTaken, moved_by};

@@ -1,5 +1,7 @@
 // The calls of a job at stage 3, on values: one for every request, and one that finds a label. The scratch `w` holds the numbers of the nodes
 // before, and is zero afterwards. `label_shown` takes job and nodes out of what is lent.
+#![tactic(auto)]
+
 ghost use Rattle.std.specs.Prelude.{◌≡◌, ◌≤◌, min, length, replicate};
 ghost use Rattle.answer.specs.Outcomes.{Told};
 ghost use Rattle.rules.specs.Job.{request_by};

@@ -5,6 +5,8 @@
 //
 // A case is a head of 64 bytes and four texts: the old program, the new one, the tests and a sheet. The head has the lengths of the texts, of
 // six digits and a blank each, and a name of at most 32 bytes without blanks, with blanks up to 63 bytes, and byte 10.
+#![tactic(auto)]
+
 use libc::STDOUT_FILENO;
 
 // The number and the place of an answer.

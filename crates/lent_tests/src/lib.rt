@@ -1,5 +1,7 @@
 // Reading a test file into lent tables, and testing whether lent tables are what reading a text leaves. A refusal changes nothing but the
 // work tables: `work`, for where the names stand, and `words`, for the rows. What these hold afterwards is left open.
+#![tactic(auto)]
+
 ghost use Rattle.std.specs.Prelude.{◌≡◌, ◌≤◌, length};
 ghost use Rattle.rules.specs.Text.{same as same_numbers};
 ghost use Rattle.lent_tests.specs.Lent.{ReadLent, TestsLeft, copied_rows, copied_tests};

@@ -1,4 +1,6 @@
 // What the fields of an N line say: `N,kind,label,callee`. Every function takes any bytes.
+#![tactic(auto)]
+
 ghost use Rattle.std.specs.Prelude.{◌≡◌};
 ghost use Rattle.laws.specs.Tests.{choose};
 ghost use Rattle.rules.specs.Text.{is_callees, names_in};

@@ -1,5 +1,7 @@
 // A set of pairs of nodes in one table, to which pairs are added at the end, and a set of old edges. Every public function takes any slice and
 // any number: what stands past the end is 0, a store past the end does nothing, and a link leads only downwards.
+#![tactic(auto)]
+
 ghost use Rattle.std.specs.Prelude.{◌≡◌, ◌∷◌, [], ◌+◌, ◌*◌, ◌^◌, ◌<◌};
 ghost use Rattle.std.specs.Int.Count.{count_trailing_zeros};
 ghost use Rattle.std.proofs.lemmas.List.Edits.{sets};

@@ -1,4 +1,6 @@
 // The new edges that need a probe, and the old edges after a dangerous one, as sets of bits, lowest edge first.
+#![tactic(auto)]
+
 ghost use Rattle.probes.specs.Starts.{AllStart, Parts, PartsAt, Starts};
 ghost use Rattle.probes.specs.Sets.{AfterFound, OpenFound, ProbesFound};
 

@@ -1,4 +1,6 @@
 // Copying the links of a program that was read to lent tables, and testing whether lent tables are what reading a text leaves.
+#![tactic(auto)]
+
 ghost use Rattle.std.specs.Prelude.{◌≡◌, ◌≤◌, length};
 ghost use Rattle.reader.specs.Result.{Small};
 ghost use Rattle.rules.specs.Text.{same as same_numbers};

@@ -4,6 +4,8 @@
 //
 // A case is a head of 48 bytes, the bytes of the old text and the bytes of the new one. The head is `OLD NEW NAME`, blanks up to 47 bytes, and
 // byte 10: the lengths of the two texts, of six digits each, and a name of at most 32 bytes without blanks.
+#![tactic(auto)]
+
 use libc::STDOUT_FILENO;
 
 fn refused(name: &[u8], file: &[u8], r: reader::Count) {

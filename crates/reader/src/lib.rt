@@ -1,4 +1,6 @@
 // Reads a program file into a work table: the nodes from 0, the links (procedures, edges, heads of chains) from 2,048.
+#![tactic(auto)]
+
 ghost use Rattle.std.specs.Prelude.{◌≡◌, ◌∷◌, [], ◌+◌, ◌-◌, ◌*◌, ◌≤◌, ◌<◌, length};
 ghost use Rattle.std.proofs.lemmas.List.Edits.{sets};
 ghost use Rattle.rules.specs.Text.{bytes, fields_of, split};

@@ -1,5 +1,7 @@
 // What callers lend beside texts and tables: the nodes of a program, one record after another, and the job. Only here are node
 // records read and written: `load` and `save` carry them to and from a table of numbers, and all other work is done on numbers and on values.
+#![tactic(auto)]
+
 ghost use Rattle.std.specs.Prelude.{◌≡◌, ◌+◌, ◌*◌, min, length, take, replicate};
 ghost use Rattle.std.proofs.lemmas.List.Edits.{sets};
 ghost use Rattle.records.specs.Nodes.{flat, node_at, nodes_of, row};

@@ -1,6 +1,8 @@
 // What is asked of a job that was read, and the one function that does it, over programs and tests in memory. The exported calls and the
 // calls of the lent job all go through it. A new request is a variant here, a line of `serving` in the rules, an arm of `serve`, and what it
 // asks of lent texts (docs/ARCHITECTURE.md).
+#![tactic(auto)]
+
 ghost use Rattle.std.specs.Prelude.{◌≡◌, ◌≤◌, length};
 ghost use Rattle.intake.specs.Ready.{Few};
 ghost use Rattle.versions.specs.Memory.{memory};

@@ -2,6 +2,8 @@
 // place is then how many bytes were written. Those of the first part take texts, numbers and an output and run a whole job in their own frames.
 // Those of the second part are the calls of a lent job: they work over a job record, nodes, tables and scratch that the caller lends. They answer
 // for every text, number and lent memory; a refusal leaves the output as it was.
+#![tactic(auto)]
+
 ghost use Rattle.std.specs.Prelude.{◌≡◌, length};
 ghost use Rattle.rules.specs.Job.{answering, check_answer, output_after, packed, probes_answer, program_answer, read_new_answer, read_old_answer, read_tests_answer, record_answer, request_by, sheet_answer};
 ghost use Rattle.answer.specs.Outcomes.{Told};

@@ -1,4 +1,6 @@
 // The search for a dangerous edge in a row, exported alone: for the benchmark and for outside vectors. It is no call for makers.
+#![tactic(auto)]
+
 ghost use Rattle.std.specs.Prelude.{◌≡◌};
 ghost use Rattle.coverage.specs.Rows.{first_common};
 ghost use Rattle.row_search.specs.Numbers.{edge_number};

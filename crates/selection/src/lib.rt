@@ -1,4 +1,6 @@
 // What the pairs of two versions say: the set of the dangerous old edges, and the marks of a test.
+#![tactic(auto)]
+
 ghost use Rattle.std.specs.Prelude.{◌≡◌, ◌≤◌, replicate};
 ghost use Rattle.std.proofs.lemmas.List.Edits.{sets};
 ghost use Rattle.selection.specs.Compared.{EndsMeet, Fitting, Joins, JoinsBefore, LastFitting, same_bool};

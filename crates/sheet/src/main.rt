@@ -1,5 +1,7 @@
 // sheet OLD NEW TESTS: prints the sheet that the selector gives, then the record lines of all tests in order, or only `refused,NUMBER,PLACE`.
 // The pairs are found once for all lines.
+#![tactic(auto)]
+
 ghost use Rattle.std.specs.Prelude.{◌≤◌};
 ghost use Rattle.intake.specs.Ready.{Few};
 

@@ -1,4 +1,6 @@
 // Sheets, read for the check: the pairs go into a table of pairs, the D edges and the R tests into a set of bits.
+#![tactic(auto)]
+
 ghost use Rattle.std.specs.Prelude.{◌≡◌, ◌∷◌, [], ◌≤◌, ◌+◌, ◌*◌, length, replicate};
 ghost use Rattle.rules.specs.Text.{split};
 ghost use Rattle.pairset.specs.Store.{pair_base};

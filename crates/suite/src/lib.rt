@@ -1,4 +1,6 @@
 // Test files, `T,name,row` lines, read into two tables: where each name stands in the text, and the rows as words of 64 bits.
+#![tactic(auto)]
+
 ghost use Rattle.std.specs.Prelude.{◌≡◌, true, ◌∷◌, [], ◌+◌, ◌*◌, ◌/◌, ◌%◌, ◌≤◌, ◌<◌, drop, length, set as set_at, take};
 ghost use Rattle.laws.specs.Digits.{itself, number};
 ghost use Rattle.laws.specs.Bits.{word_of};

@@ -3,6 +3,8 @@
 //
 // A case is a head of 48 bytes and the bytes of the text. The head is `EDGES LENGTH NAME`, blanks up to 47 bytes, and byte 10: the number of
 // edges of the old program and the length of the text, of six digits each, and a name of at most 32 bytes without blanks.
+#![tactic(auto)]
+
 use libc::STDOUT_FILENO;
 
 // How many edges each of the first `count` tests covers. No test file that is read has more than 200.

@@ -1,6 +1,8 @@
 // Texts as slices of bytes, and tables as slices of numbers: scans, parts, fields, numbers, and writing. Every function takes any slice and
 // any place: a part that goes past the end is cut there, a read past the end is 0, and a store past the end does nothing. A writer requires
 // only that the next place can be counted.
+#![tactic(auto)]
+
 ghost use Rattle.std.specs.Prelude.{◌≡◌, ◌∷◌, [], ◌+◌, ◌-◌, ◌*◌, ◌%◌, ◌^◌, ◌≤◌, ◌<◌, min, leb, take, drop, get_or, set, length, replicate};
 ghost use Rattle.std.proofs.lemmas.List.Edits.{sets};
 ghost use Rattle.rules.specs.Text.{

@@ -1,5 +1,7 @@
 // Two versions of a program in memory: the old text, nodes and links, and the new ones. Every function takes any slice and any number: what
 // stands past the end of a table is 0.
+#![tactic(auto)]
+
 ghost use Rattle.std.specs.Prelude.{◌≡◌, ◌+◌, ◌-◌, ◌*◌, ◌%◌, ◌^◌, ◌<◌, ◌≤◌, eqb, get_or};
 ghost use Rattle.laws.specs.Tests.{choose};
 ghost use Rattle.graph.specs.Table.{edge_base, head_base, node_base, proc_base};

@@ -1,6 +1,8 @@
 // The work of a job whose texts were read: the selection, the sheet, the list of probes, the record lines. Programs and tests are in memory, as reading them
 // leaves them; `w` is the table of the pairs, with room for `limit` of them: the answer is `over` where more exist. What a call that writes
 // leaves in it is left open.
+#![tactic(auto)]
+
 ghost use Rattle.std.specs.Prelude.{◌≤◌};
 ghost use Rattle.intake.specs.Ready.{Few};
 ghost use Rattle.versions.specs.Memory.{memory};

@@ -1,6 +1,8 @@
 // A program written back: from the tables of a version and a text, the program file that they hold; and whether two texts have the same names,
 // labels, callees and words where the tables say. Every function takes tables of any numbers. A writer stores only inside its output and answers
 // the place behind what it writes, so that writing into no bytes measures.
+#![tactic(auto)]
+
 ghost use Rattle.std.specs.Prelude.{◌≡◌, ◌∷◌, [], ◌+◌, ◌-◌, ◌^◌, ◌≤◌, get_or, length};
 ghost use Rattle.laws.specs.Tests.{every};
 ghost use Rattle.rules.specs.Layout.{kind_field};

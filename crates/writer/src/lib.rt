@@ -1,6 +1,8 @@
 // Sheets, lists of probes, record lines and texts, written into a lent output. A writer stores only inside its output and answers the place behind what it writes, so
 // that writing into no bytes measures. What is written for tables that hold no selection, or no test and marks, is left open, the output's length
 // excepted.
+#![tactic(auto)]
+
 ghost use Rattle.std.specs.Prelude.{◌≡◌, ◌∷◌, [], ◌≤◌, ◌*◌, ◌^◌, length};
 ghost use Rattle.laws.specs.Bits.{bit_in};
 ghost use Rattle.laws.specs.Tests.{count as count_of};

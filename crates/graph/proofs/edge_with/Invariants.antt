@@ -1,0 +1,8 @@
+use Rattle.graph.proofs.Laws.{all, WithBelow}
+use Rattle.graph.proofs.edge_with.Given as goal
+
+abbrev pub invariant-loop-place : goal.invariant-loop-place
+invariant-loop-place l = WithBelow l.links l.n l.key l.place
+
+abbrev pub decreases-loop-place : goal.decreases-loop-place
+decreases-loop-place l = l.place

@@ -1,0 +1,46 @@
+use borrow.Author.Rules.{rules}
+use Rattle.text.proofs.Laws.{all, stores}
+use Prim.Native.Nat.{◌≤◌, ◌-◌}
+use mathlib.Core.Path.{◌≡◌}
+use lib.ListN.{length, drop}
+use lib.Seq.{sets}
+use Rattle.text.proofs.copy_words.Goals as goal
+
+pub loop-i-init : goal.loop-i-init
+loop-i-init c = search (all, rules)
+
+pub shape_of-d-then-d-k : goal.shape_of-d-then-d-k
+shape_of-d-then-d-k c = search (all, rules)
+
+pub returns-then-d-k : goal.returns-then-d-k
+returns-then-d-k c = search (all, rules)
+
+pub offset_bounds-s-i : goal.offset_bounds-s-i
+offset_bounds-s-i c = search (all, rules)
+
+pub bounds-s-i : goal.bounds-s-i
+bounds-s-i c = search (all, rules)
+
+pub offset_bounds-d-k : goal.offset_bounds-d-k
+offset_bounds-d-k c = search (all, rules)
+
+pub bounds-d-k : goal.bounds-d-k
+bounds-d-k c = search (all, rules)
+
+pub overflow_add-k : goal.overflow_add-k
+overflow_add-k c = search (all, rules)
+
+pub overflow_add-i : goal.overflow_add-i
+overflow_add-i c = search (all, rules)
+
+pub loop-i-smaller : goal.loop-i-smaller
+loop-i-smaller c = search (all, rules)
+
+pub loop-i-preserved : goal.loop-i-preserved
+loop-i-preserved c = search (stores, rules)
+
+pub shape_of-d : goal.shape_of-d
+shape_of-d c = search (all, rules)
+
+pub returns : goal.returns
+returns c = search (all, rules)

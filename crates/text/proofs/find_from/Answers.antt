@@ -1,0 +1,28 @@
+use borrow.Author.Rules.{rules}
+use Rattle.text.proofs.Laws.{all}
+use Prim.Native.Nat.{◌+◌, ◌≤◌, ◌-◌}
+use mathlib.Core.Path.{◌≡◌}
+use lib.ListN.{length, drop}
+use Rattle.text.specs.Scans.{span}
+use Rattle.text.proofs.find_from.Goals as goal
+
+pub loop-i-init : goal.loop-i-init
+loop-i-init c = search (all, rules)
+
+pub bounds-s-i : goal.bounds-s-i
+bounds-s-i c = search (all, rules)
+
+pub returns-then-s-i : goal.returns-then-s-i
+returns-then-s-i c = search (all, rules)
+
+pub overflow_add-i : goal.overflow_add-i
+overflow_add-i c = search (all, rules)
+
+pub loop-i-smaller : goal.loop-i-smaller
+loop-i-smaller c = search (all, rules)
+
+pub loop-i-preserved : goal.loop-i-preserved
+loop-i-preserved c = search (all, rules)
+
+pub returns : goal.returns
+returns c = search (all, rules)

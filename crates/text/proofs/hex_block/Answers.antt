@@ -1,0 +1,30 @@
+use borrow.Author.Rules.{rules}
+use Rattle.text.proofs.Laws.{all}
+use Prim.Native.Nat.{◌≤◌, ◌-◌}
+use mathlib.Core.Path.{◌≡◌}
+use lib.ListN.{drop}
+use Rattle.laws.specs.Tests.{◌and◌}
+use Rattle.rules.specs.Text.{all_bytes}
+use Rattle.rules.specs.SuiteFile.{hex_byte}
+use Rattle.text.proofs.hex_block.Goals as goal
+
+pub loop-i-init : goal.loop-i-init
+loop-i-init c = search (all, rules)
+
+pub bounds-block-i : goal.bounds-block-i
+bounds-block-i c = search (all, rules)
+
+pub hex_byte-all-requires : goal.hex_byte-all-requires
+hex_byte-all-requires c = search (all, rules)
+
+pub overflow_add-i : goal.overflow_add-i
+overflow_add-i c = search (all, rules)
+
+pub loop-i-smaller : goal.loop-i-smaller
+loop-i-smaller c = search (all, rules)
+
+pub loop-i-preserved : goal.loop-i-preserved
+loop-i-preserved c = search (all, rules)
+
+pub returns : goal.returns
+returns c = search (all, rules)

@@ -1,0 +1,13 @@
+use Rattle.text.proofs.Laws.{all}
+use Prim.Native.Nat.{◌≤◌, ◌-◌, min}
+use mathlib.Core.Path.{◌≡◌}
+use lib.ListN.{length, drop}
+use Rattle.laws.specs.Tests.{choose}
+use Rattle.rules.specs.Text.{all_bytes, digit_byte, is_number, value_from}
+use Rattle.text.proofs.number.Given as goal
+
+abbrev pub invariant-loop-i : goal.invariant-loop-i
+invariant-loop-i l = (l.i ≤ length l.s) × (l.v ≤ 65536) × (choose (is_number l.s) (min (value_from 0 l.s) 65536) 65537 ≡ choose (all_bytes digit_byte (drop l.i l.s)) (min (value_from l.v (drop l.i l.s)) 65536) 65537)
+
+abbrev pub decreases-loop-i : goal.decreases-loop-i
+decreases-loop-i l = length l.s - l.i

@@ -1,0 +1,29 @@
+use borrow.Author.Rules.{rules}
+use Rattle.text.proofs.Laws.{all}
+use Prim.Native.Nat.{◌≤◌, ◌-◌}
+use mathlib.Core.Path.{◌≡◌}
+use lib.ListN.{drop}
+use Rattle.laws.specs.Tests.{◌and◌}
+use Rattle.rules.specs.Text.{same as same_bytes}
+use Rattle.text.proofs.same_half.Goals as goal
+
+pub loop-i-init : goal.loop-i-init
+loop-i-init c = search (all, rules)
+
+pub bounds-a-i : goal.bounds-a-i
+bounds-a-i c = search (all, rules)
+
+pub bounds-b-i : goal.bounds-b-i
+bounds-b-i c = search (all, rules)
+
+pub overflow_add-i : goal.overflow_add-i
+overflow_add-i c = search (all, rules)
+
+pub loop-i-smaller : goal.loop-i-smaller
+loop-i-smaller c = search (all, rules)
+
+pub loop-i-preserved : goal.loop-i-preserved
+loop-i-preserved c = search (all, rules)
+
+pub returns : goal.returns
+returns c = search (all, rules)
