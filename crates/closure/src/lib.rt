@@ -24,7 +24,7 @@ ghost use Rattle.closure.specs.Claims.{
 };
 
 // What a pass, or a step of it, came to: how many pairs there are, and whether it is settled: no pair had to wait in it for the exits of its callees.
-#[derive(Drop)]
+#[derive(Clone, Copy)]
 pub struct Growth {
     pub count: usize,
     pub settled: bool,

@@ -9,7 +9,7 @@ ghost use Rattle.laws.specs.BitSets.{with_bit, without_bit};
 ghost use Rattle.coverage.specs.Rows.{edge_bit, edge_found, first_common, row_meets, row_ones};
 
 // What a search for an edge answers: the edge, or that there is none.
-#[derive(Drop)]
+#[derive(Clone, Copy)]
 pub enum Found {
     At(usize),
     Nothing,

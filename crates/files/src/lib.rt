@@ -6,7 +6,7 @@ ghost use Rattle.rules.specs.Text.{all_bytes, split};
 ghost use Rattle.files.specs.Marks.{is_mark};
 
 // What came of a file: whether it could be read, and how many bytes stand at the start of the buffer.
-#[derive(Drop)]
+#[derive(Clone, Copy)]
 pub struct Loaded {
     pub came: bool,
     pub size: usize,

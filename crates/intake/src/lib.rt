@@ -5,7 +5,7 @@ ghost use Rattle.std.specs.Prelude.{◌≡◌, ◌≤◌, length};
 ghost use Rattle.intake.specs.Ready.{JobRead, refused_counts};
 
 // What was read: a refusal by number and place, where the number is not 0, or how many nodes, edges and tests there are.
-#[derive(Drop)]
+#[derive(Clone, Copy)]
 pub struct Counts {
     pub number: usize,
     pub place: usize,

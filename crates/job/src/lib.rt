@@ -15,7 +15,7 @@ use suite::Read;
 use text::run;
 
 // What reading a program leaves on values: the job, the answer, and how many nodes stand in the scratch.
-#[derive(Drop)]
+#[derive(Clone, Copy)]
 pub struct Taken {
     pub job: Job,
     pub number: usize,
@@ -206,7 +206,7 @@ pub fn take_new(
 // ---- reading the tests
 
 // What reading the tests leaves on values: the job and the answer.
-#[derive(Drop)]
+#[derive(Clone, Copy)]
 pub struct Moved {
     pub job: Job,
     pub number: usize,

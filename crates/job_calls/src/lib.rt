@@ -330,7 +330,7 @@ pub fn call_on(
 // ---- labels
 
 // Where a label stands in its text: 0 and 0 when refused.
-#[derive(Drop)]
+#[derive(Clone, Copy)]
 pub struct Label {
     pub start: usize,
     pub len: usize,

@@ -35,7 +35,7 @@ ghost use Rattle.reader.specs.Result.{DegreesOf, ReadInto, Small, links_of};
 use text::{after, find, front, get, put};
 
 // What was read so far: a refusal by number and place, where the number is not 0, and the counts of procedures, nodes and edges.
-#[derive(Drop)]
+#[derive(Clone, Copy)]
 pub struct Count {
     pub number: usize,
     pub place: usize,
@@ -45,7 +45,7 @@ pub struct Count {
 }
 
 // The fewest and the most edges that leave a node.
-#[derive(Drop)]
+#[derive(Clone, Copy)]
 pub struct Degrees {
     pub fewest: usize,
     pub most: usize,

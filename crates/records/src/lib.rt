@@ -13,7 +13,7 @@ use text::{clear, get, part, put};
 // A node: its kind, where its label stands in the text and how long it is, and the procedures that it calls, as digits to the base 256: 1 + the
 // first one's number is the lowest, and so on; 0 if it calls none.
 #[repr(C)]
-#[derive(Drop)]
+#[derive(Clone, Copy)]
 pub struct Node {
     pub kind: usize,
     pub start: usize,
@@ -23,7 +23,7 @@ pub struct Node {
 
 // The job: its stage, and how many procedures, nodes and edges each version has, and how many tests there are.
 #[repr(C)]
-#[derive(Drop)]
+#[derive(Clone, Copy)]
 pub struct Job {
     pub stage: usize,
     pub old_procs: usize,

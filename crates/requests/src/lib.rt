@@ -17,7 +17,7 @@ use intake::Counts;
 
 // What is asked: the sheet; the record line of a test; the check of the sheet that the request comes with; the label of a node, by side and
 // node number; the program of a side, written back; the list of probes; no request that there is.
-#[derive(Drop)]
+#[derive(Clone, Copy)]
 pub enum Request {
     Sheet,
     Record(usize),

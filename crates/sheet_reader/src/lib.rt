@@ -28,7 +28,7 @@ ghost use Rattle.sheet_reader.specs.Reading.{
 };
 
 // What was read: a refusal by number and place, where the number is not 0, or how many pairs there are.
-#[derive(Drop)]
+#[derive(Clone, Copy)]
 pub struct SheetRead {
     pub number: usize,
     pub place: usize,
@@ -36,7 +36,7 @@ pub struct SheetRead {
 }
 
 // What a sheet may list: at most `limit` pairs, of so many old and new nodes, and of so many old edges and tests.
-#[derive(Drop)]
+#[derive(Clone, Copy)]
 pub struct Bounds {
     pub limit: usize,
     pub olds: usize,
@@ -47,7 +47,7 @@ pub struct Bounds {
 
 // What was read so far: a refusal by number and place, where the number is not 0; whether the first line and the last were read; how many
 // pairs, edges and tests there are; and of each the least number that may come next, where the pair (a, b) counts as 512 * a + b.
-#[derive(Drop)]
+#[derive(Clone, Copy)]
 pub struct State {
     pub number: usize,
     pub place: usize,

@@ -12,7 +12,7 @@ ghost use Rattle.suite.specs.Reading.{Added, LinesRead, Stepped, TestsRead, begi
 ghost use Rattle.suite.specs.Tables.{stored_row, stored_test, turn};
 
 // What was read: a refusal by number and place, where the number is not 0, or how many tests there are.
-#[derive(Drop)]
+#[derive(Clone, Copy)]
 pub struct Read {
     pub number: usize,
     pub place: usize,

@@ -232,7 +232,7 @@ fn put_repeats(
 // ---- the sheet
 
 // How many pairs, old nodes, new nodes, old edges and tests there are.
-#[derive(Drop)]
+#[derive(Clone, Copy)]
 struct Sizes {
     pairs: usize,
     olds: usize,
