@@ -17,7 +17,7 @@ use Rattle.laws.specs.BitSets.{bit_with, with_size, with_bit}
 use Rattle.rules.specs.Graph.{C, E, Kind, Program, S, X, called, edge_count, entry, kind_at, kind_number, node_count, same_kind, source_at}
 use Rattle.rules.specs.After.{goes_on_from}
 use Rattle.rules.specs.ProgramFile.{Listing}
-use Rattle.rules.specs.Proofs.GraphLaws.{called_below, entry_is, same_kind_true}
+use Rattle.rules.proofs.GraphLaws.{called_below, entry_is, same_kind_true}
 use Rattle.graph.specs.Table.{edge_base, head_base, node_base, proc_base}
 use Rattle.graph.specs.Reads.{up_to, up_to_le}
 use Rattle.versions.specs.Memory.{InMemory, memory}

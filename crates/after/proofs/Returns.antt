@@ -19,7 +19,7 @@ use Rattle.rules.specs.Graph.{C, Program, WellFormed, callee_count, called, entr
 use Rattle.rules.specs.Run.{another}
 use Rattle.rules.specs.After.{resumes_at}
 use Rattle.rules.specs.ProgramFile.{Listing}
-use Rattle.rules.specs.Proofs.GraphLaws.{called_below, entry_is, exit_only, exit_owner, same_kind_of, same_kind_true}
+use Rattle.rules.proofs.GraphLaws.{called_below, entry_is, exit_only, exit_owner, same_kind_of, same_kind_true}
 use Rattle.graph.specs.Table.{callees_from, node_base, proc_base}
 use Rattle.versions.specs.Memory.{InMemory, memory}
 use Rattle.versions.specs.MemoryLaws.{callees_are, exit_is, kind_is, sound, well_formed}

@@ -15,7 +15,7 @@ use Rattle.rules.specs.SuiteFile.{TestListing, read_tests}
 use Rattle.rules.specs.Sheet.{Sheet, read_sheet}
 use Rattle.rules.specs.Check.{broken, rule2, rule3, rule4}
 use Rattle.rules.specs.Job.{judged, outcome, passed, refusal}
-use Rattle.rules.specs.Proofs.SheetLayout.{accepted_orderly}
+use Rattle.rules.proofs.SheetLayout.{accepted_orderly}
 use Rattle.answer.specs.declared.Answer.{Answer}
 use Rattle.answer.specs.Outcomes.{Answered}
 use Rattle.suite.specs.Tables.{Holds}

@@ -13,8 +13,8 @@ use Rattle.laws.specs.TestLaws.{and_both, and_fails, and_left, and_right, both_w
 use Rattle.rules.specs.Graph.{Program, edge_count, edge_taken, entry, node_count, source_at, target_at, word_at}
 use Rattle.rules.specs.Closing.{Pair, alike, edge_ends, fitted, kept_by, opposite}
 use Rattle.rules.specs.ProgramFile.{Listing}
-use Rattle.rules.specs.Proofs.Closure.{danger_of, pair_alike}
-use Rattle.rules.specs.Proofs.ClosingLaws.{fits_ends, fits_word, opposite_at}
+use Rattle.rules.proofs.Closure.{danger_of, pair_alike}
+use Rattle.rules.proofs.ClosingLaws.{fits_ends, fits_word, opposite_at}
 use Rattle.graph.specs.Table.{edge_base, proc_base}
 use Rattle.pairset.specs.Store.{Appended, DangerMarked, Has, pairs_in}
 use Rattle.versions.specs.Memory.{InMemory, Memory, memory}

@@ -16,9 +16,9 @@ use Rattle.laws.specs.Chain.{Walk, latest, walk_start, walk_step, walk_end}
 use Rattle.rules.specs.Graph.{C, Program, called, edge_count, entry, exit, kind_at, kind_number, same_kind, source_at}
 use Rattle.rules.specs.Closing.{MayGoOn, Pair, callee_entries, first_entries, pairs}
 use Rattle.rules.specs.ProgramFile.{Listing}
-use Rattle.rules.specs.Proofs.ClosingLaws.{alike_kind}
-use Rattle.rules.specs.Proofs.Closure.{goes_on_at, goes_on_of, pair_alike}
-use Rattle.rules.specs.Proofs.GraphLaws.{called_below, same_kind_true}
+use Rattle.rules.proofs.ClosingLaws.{alike_kind}
+use Rattle.rules.proofs.Closure.{goes_on_at, goes_on_of, pair_alike}
+use Rattle.rules.proofs.GraphLaws.{called_below, same_kind_true}
 use Rattle.graph.specs.Table.{edge_base, head_base, node_base}
 use Rattle.graph.specs.Reads.{up_to, up_to_le}
 use Rattle.pairset.specs.Store.{Emptied, Empties, danger_in, new_at, old_at, pairs_in}

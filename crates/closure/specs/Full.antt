@@ -6,9 +6,9 @@ use Rattle.laws.specs.Tests.{has, listed}
 use Rattle.laws.specs.TestLaws.{same_test}
 use Rattle.rules.specs.Graph.{Program, source_at}
 use Rattle.rules.specs.Closing.{Dangerous, Pair, dangers, pairs}
-use Rattle.rules.specs.Proofs.Closure.{danger_unfitted, dangers_iff, goes_on_of, least, pairs_ascend, pairs_complete, pairs_sound}
-use Rattle.rules.specs.Proofs.ClosingLaws.{danger_old, fits_of, opposite_of}
-use Rattle.rules.specs.Proofs.GraphLaws.{taken_at}
+use Rattle.rules.proofs.Closure.{danger_unfitted, dangers_iff, goes_on_of, least, pairs_ascend, pairs_complete, pairs_sound}
+use Rattle.rules.proofs.ClosingLaws.{danger_old, fits_of, opposite_of}
+use Rattle.rules.proofs.GraphLaws.{taken_at}
 use Rattle.pairset.specs.Store.{danger_in, pairs_in}
 use Rattle.pairset.specs.StoreLaws.{pairs_count}
 use Rattle.closure.specs.Once.{once_ascending, pigeonhole}

@@ -10,8 +10,8 @@ use Rattle.laws.specs.Lists.{none_listed, snoc_length, snoc_new, snoc_old}
 use Rattle.laws.specs.Slices.{below_or, same_or}
 use Rattle.rules.specs.Graph.{Program, node_count}
 use Rattle.rules.specs.Closing.{Dangerous, Pair, pairs}
-use Rattle.rules.specs.Proofs.Closure.{pairs_complete, pairs_inside}
-use Rattle.rules.specs.Proofs.ClosingLaws.{danger_old}
+use Rattle.rules.proofs.Closure.{pairs_complete, pairs_inside}
+use Rattle.rules.proofs.ClosingLaws.{danger_old}
 use Rattle.pairset.specs.Store.{Appended, Appends, DangerMarked, MarksDanger, Store, danger_in, new_at, old_at, pair_base, pairs_in}
 use Rattle.pairset.specs.StoreLaws.{listed_at, listed_of, listed_snoc, no_pairs, pairs_agree, pairs_count}
 use Rattle.closure.specs.Once.{once_none, once_snoc, pigeonhole}

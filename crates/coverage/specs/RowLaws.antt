@@ -11,7 +11,7 @@ use Rattle.laws.specs.Counting.{first_agree}
 use Rattle.laws.specs.Slices.{get_d_part}
 use Rattle.laws.specs.Bits.{bit_at, bit_in, count_within, first_within}
 use Rattle.rules.specs.Closing.{Coverage, first_danger, holds, meets}
-use Rattle.rules.specs.Proofs.Search.{search_meets}
+use Rattle.rules.proofs.Search.{search_meets}
 use Rattle.coverage.specs.declared.Found.{Found}
 use Rattle.coverage.specs.declared.Found.TheVariants.{At, Nothing}
 use Rattle.coverage.specs.Rows.{Row, edge_bit, edge_found, first_common, row_meets, row_ones, row_words}

@@ -20,8 +20,8 @@ use Rattle.laws.specs.Chain.{Chained, Blind, Left, left_start, left_step, link_l
 use Rattle.rules.specs.Text.{Bytes, same, between, all_bytes, word_byte, is_word}
 use Rattle.rules.specs.Graph.{Program, name_at, source_at, word_at, proc_count, node_count, edge_count, dash, star, leaves, edge_taken, edge_with, degree}
 use Rattle.rules.specs.ProgramFile.{Listing}
-use Rattle.rules.specs.Proofs.Places.{part_is}
-use Rattle.rules.specs.Proofs.GraphLaws.{leaves_true, leaves_of}
+use Rattle.rules.proofs.Places.{part_is}
+use Rattle.rules.proofs.GraphLaws.{leaves_true, leaves_of}
 use Rattle.graph.specs.Table.{proc_base, edge_base, head_base}
 use Rattle.graph.specs.Keys.{word_key, key_spells, same_keys, star_key, star_word}
 use Rattle.graph.specs.Lookups.{in_table, Procs, Edges, ProcNamed, EdgeTaken, EdgeWith, Degree, Dashed}

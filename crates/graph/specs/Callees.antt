@@ -10,8 +10,8 @@ use Rattle.laws.specs.Tests.{first, found}
 use Rattle.laws.specs.TestLaws.{first_at, first_none}
 use Rattle.rules.specs.Text.{Bytes, is_name, name_count, name_in, names_in, same}
 use Rattle.rules.specs.Graph.{C, Program, WellFormed, callee_at, callee_count, called, kind_at, name_at, node_count, or_zero, proc_count, proc_of}
-use Rattle.rules.specs.Proofs.GraphLaws.{called_none}
-use Rattle.rules.specs.Proofs.TextLaws.{same_of}
+use Rattle.rules.proofs.GraphLaws.{called_none}
+use Rattle.rules.proofs.TextLaws.{same_of}
 use Rattle.graph.specs.Table.{callees_from, proc_digit}
 
 -- ---- a digit

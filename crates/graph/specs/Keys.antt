@@ -6,7 +6,7 @@ use Rattle.laws.specs.Tests.{◌and◌, isnt}
 use Rattle.laws.specs.TestLaws.{and_left, and_right, same_test}
 use Rattle.rules.specs.Text.{Bytes, same, between, all_bytes, word_byte, is_word}
 use Rattle.rules.specs.Graph.{star}
-use Rattle.rules.specs.Proofs.TextLaws.{same_true, same_of}
+use Rattle.rules.proofs.TextLaws.{same_true, same_of}
 
 -- Its bytes as digits to the base 256, the first the lowest.
 abbrev pub word_key : Bytes → ℕ

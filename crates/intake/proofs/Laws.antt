@@ -8,7 +8,7 @@ use Rattle.rules.specs.Graph.{edge_count}
 use Rattle.rules.specs.ProgramFile.{Listing, read_listing, read_program}
 use Rattle.rules.specs.SuiteFile.{read_suite, read_tests}
 use Rattle.rules.specs.Job.{Given, read_job}
-use Rattle.rules.specs.Proofs.TextLaws.{then_passes}
+use Rattle.rules.proofs.TextLaws.{then_passes}
 use Rattle.reader.specs.declared.Count.{Count}
 use Rattle.reader.specs.Result.{InTable, ReadInto, Told}
 use Rattle.suite.specs.declared.Read.{Read}

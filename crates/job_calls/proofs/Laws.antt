@@ -18,7 +18,7 @@ use Rattle.rules.specs.ProgramFile.{Listing, read_listing}
 use Rattle.rules.specs.WriteBack.{other_alone}
 use Rattle.rules.specs.SuiteFile.{TestListing, test_count}
 use Rattle.rules.specs.Job.{Outcome, Request as Asked, Span, Version, by_side, has_node, label_part, label_shown, label_span, call_request, nowhere, of_stage, outcome, packed_span, call_tests, refusal, serving, span_shown, stage_after}
-use Rattle.rules.specs.Proofs.ProgramLaws.{Sound}
+use Rattle.rules.proofs.ProgramLaws.{Sound}
 use Rattle.answer.specs.declared.Answer.{Answer}
 use Rattle.answer.specs.Outcomes.{Told, packing, packing_fits, packs, refusal_told, told_as}
 use Rattle.reader.specs.declared.Count.{Count}

@@ -15,10 +15,10 @@ use Rattle.rules.specs.Closing.{repeated}
 use Rattle.rules.specs.Sheet.{crossed, left_off, v_text}
 use Rattle.rules.specs.Job.{Given, Request, Span, Version, answering, by_side, check_sheet, has_node, label_answer, label_part, label_shown, label_span, labelling, nowhere, outcome, packed, packed_span, passed, read_job, read_new_answer, read_old_answer, read_tests_answer, refusal, request_by, serving, show_label, span_shown, success, write_record, write_sheet, wrote}
 use Rattle.rules.specs.Promises.{MarksHold, MarksTrue, Plain, RunsAlike, comes_with_text, writes}
-use Rattle.rules.specs.Theorems.{answers_plain, demand3, label_shown_lem, program_placed, too_long}
-use Rattle.rules.specs.Proofs.Exported.{written, zero_passed}
-use Rattle.rules.specs.Proofs.JobLaws.{known, outcome_wrote}
-use Rattle.rules.specs.Proofs.Refused.{outcome_same, room_unused, text_unused}
+use Rattle.rules.proofs.Theorems.{answers_plain, demand3, label_shown_lem, program_placed, too_long}
+use Rattle.rules.proofs.Exported.{written, zero_passed}
+use Rattle.rules.proofs.JobLaws.{known, outcome_wrote}
+use Rattle.rules.proofs.Refused.{outcome_same, room_unused, text_unused}
 use Rattle.records.specs.declared.Job.{Job}
 use Rattle.lent_job.specs.Held.{AllRead, Lent, held_new, held_old}
 use Rattle.lent_job.specs.HeldLaws.{after_some, chosen_some, held_new_parts, held_tests_parts, texts_accepted, version_read}

@@ -7,7 +7,7 @@ use Rattle.std.proofs.Math.Option.{Option, none, some}
 use Rattle.laws.specs.Tests.{choose}
 use Rattle.rules.specs.Text.{refused, accepted}
 use Rattle.rules.specs.Job.{of_stage, stage_after}
-use Rattle.rules.specs.Proofs.TextLaws.{accepted_same}
+use Rattle.rules.proofs.TextLaws.{accepted_same}
 use Rattle.records.specs.declared.Job.{Job}
 use Rattle.lent_job.specs.Held.{AllRead, job_tests}
 use Rattle.lent_job.specs.HeldLaws.{held_tests_parts}

@@ -15,9 +15,9 @@ use Rattle.rules.specs.ProgramFile.{Listing}
 use Rattle.rules.specs.Layout.{write_program}
 use Rattle.rules.specs.Job.{Given, Request, answering, by_side, outcome, refusal, request_by, serving, write_back, writing_back, written, wrote}
 use Rattle.rules.specs.WriteBack.{other_alone}
-use Rattle.rules.specs.Theorems.{other_bytes_alone, written_unchanged}
-use Rattle.rules.specs.Proofs.BackLaws.{by_side_lem, other_self, other_side}
-use Rattle.rules.specs.Proofs.JobLaws.{outcome_wrote}
+use Rattle.rules.proofs.Theorems.{other_bytes_alone, written_unchanged}
+use Rattle.rules.proofs.BackLaws.{by_side_lem, other_self, other_side}
+use Rattle.rules.proofs.JobLaws.{outcome_wrote}
 use Rattle.records.specs.declared.Job.{Job}
 use Rattle.records.specs.declared.Node.{Node}
 use Rattle.records.specs.NodeLaws.{flat_length}

@@ -9,9 +9,9 @@ use Rattle.rules.specs.Graph.{Program, edge_count}
 use Rattle.rules.specs.ProgramFile.{Listing, read_listing, read_program}
 use Rattle.rules.specs.SuiteFile.{TestListing, read_tests, read_suite}
 use Rattle.rules.specs.Job.{Given, given_of, number_of, of_stage, outcome, packed, call_new, call_tests, read_job, read_old_answer, read_tests_answer, stage_after}
-use Rattle.rules.specs.Theorems.{answers_plain}
-use Rattle.rules.specs.Proofs.TextLaws.{accepted_same, then_accepted, then_passes}
-use Rattle.rules.specs.Proofs.JobLaws.{known, outcome_wrote}
+use Rattle.rules.proofs.Theorems.{answers_plain}
+use Rattle.rules.proofs.TextLaws.{accepted_same, then_accepted, then_passes}
+use Rattle.rules.proofs.JobLaws.{known, outcome_wrote}
 use Rattle.records.specs.declared.Job.{Job}
 use Rattle.records.specs.declared.Node.{Node}
 use Rattle.records.specs.Jobs.{fresh}

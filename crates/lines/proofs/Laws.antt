@@ -13,7 +13,7 @@ use Rattle.laws.specs.TestLaws.{and_ends}
 use Rattle.rules.specs.Text.{Bytes, same, split, empty, is_name, is_callees, is_label}
 use Rattle.rules.specs.Graph.{Kind, E, S, C, X, kind_number}
 use Rattle.rules.specs.ProgramFile.{kind_of, is_node}
-use Rattle.rules.specs.Proofs.TextLaws.{name_free, split_cons, split_free}
+use Rattle.rules.proofs.TextLaws.{name_free, split_cons, split_free}
 use Rattle.text.specs.Scans.{span}
 use Rattle.text.specs.SplitLaws.{first_last, first_more}
 use Rattle.lines.specs.Callees.{names_up_to, up_to_four}

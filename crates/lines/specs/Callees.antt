@@ -5,8 +5,8 @@ use Rattle.std.proofs.lemmas.Bool.{false≢true}
 use Rattle.laws.specs.Tests.{◌and◌}
 use Rattle.laws.specs.TestLaws.{and_left, and_right, and_both, every_at, every_of, same_test}
 use Rattle.rules.specs.Text.{Bytes, between, is_callees, is_name, join_by, name_count, name_in, split}
-use Rattle.rules.specs.Proofs.GraphLaws.{some_name}
-use Rattle.rules.specs.Proofs.TextLaws.{between_at, join_split, name_sized, split_cons}
+use Rattle.rules.proofs.GraphLaws.{some_name}
+use Rattle.rules.proofs.TextLaws.{between_at, join_split, name_sized, split_cons}
 
 -- The pieces are at most k, and each is a name.
 unfoldable pub names_up_to : ℕ → List Bytes → Bool

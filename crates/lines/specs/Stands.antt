@@ -8,9 +8,9 @@ use Rattle.rules.specs.Text.{Bytes, bytes, fields_of, commas, join_by}
 use Rattle.rules.specs.ProgramFile.{Line, proc_line, node_line, edge_line, malformed, form_of}
 use Rattle.rules.specs.Layout.{kind_field}
 use Rattle.rules.specs.Places.{Part}
-use Rattle.rules.specs.Proofs.Places.{kind_long}
-use Rattle.rules.specs.Proofs.ProgramLaws.{Formed, formed}
-use Rattle.rules.specs.Proofs.TextLaws.{join_split}
+use Rattle.rules.proofs.Places.{kind_long}
+use Rattle.rules.proofs.ProgramLaws.{Formed, formed}
+use Rattle.rules.proofs.TextLaws.{join_split}
 
 -- The parts of a line that begins at the offset `at` stand in the text. Of a B line none is sought there again.
 abbrev pub Stands : Bytes → ℕ → Line → Type 0

@@ -17,7 +17,7 @@ use Rattle.laws.specs.Reach.{reached_agree}
 use Rattle.rules.specs.Graph.{Program, edge_count}
 use Rattle.rules.specs.After.{edges_after, leads}
 use Rattle.rules.specs.Closing.{after_dangers, dangerous, dangers, pairs, parted, parting, probes}
-use Rattle.rules.specs.Proofs.Closure.{dangers_inside}
+use Rattle.rules.proofs.Closure.{dangers_inside}
 use Rattle.versions.specs.MemoryLaws.{sound}
 use Rattle.after.specs.Claims.{Spread, Spreads}
 use Rattle.probes.specs.Starts.{AddsAll, AllStart, parts_to}

@@ -17,7 +17,7 @@ use Rattle.laws.specs.Those.{any_more}
 use Rattle.rules.specs.Graph.{edge_count, source_at}
 use Rattle.rules.specs.Closing.{dangers}
 use Rattle.rules.specs.ProgramFile.{Listing}
-use Rattle.rules.specs.Proofs.Closure.{dangers_iff, parted_danger}
+use Rattle.rules.proofs.Closure.{dangers_iff, parted_danger}
 use Rattle.graph.specs.Table.{edge_base}
 use Rattle.pairset.specs.Store.{last_pair, new_at, old_at, pair_before, pairs_in}
 use Rattle.versions.specs.MemoryLaws.{sound, well_formed}

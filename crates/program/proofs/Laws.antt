@@ -11,7 +11,7 @@ use Rattle.laws.specs.TestLaws.{both_ways, fails}
 use Rattle.laws.specs.Tables.{rows, rows_window}
 use Rattle.laws.specs.Slices.{below_or, part_short, get_d_sets_before, get_d_sets_after}
 use Rattle.rules.specs.Text.{same, Reading, refused, accepted}
-use Rattle.rules.specs.Proofs.TextLaws.{same_true, same_of, accepted_same}
+use Rattle.rules.proofs.TextLaws.{same_true, same_of, accepted_same}
 use Rattle.rules.specs.Graph.{node_count, edge_count, proc_count}
 use Rattle.rules.specs.ProgramFile.{Listing, read_listing}
 use Rattle.graph.specs.Table.{At, node_row, proc_row, edge_row, head_of, nodes_after, links_after}

@@ -11,8 +11,8 @@ use Rattle.laws.specs.TestLaws.{and_left, and_right, and_both, fails, both_ways,
 use Rattle.rules.specs.Text.{Bytes, same, split, names_in, name_count, name_in, is_callees}
 use Rattle.rules.specs.Graph.{Kind, E, S, C, X, Program, name_at, kind_at, label_at, callee_at, callee_count, callee_name, proc_count, node_count, kind_number}
 use Rattle.rules.specs.ProgramFile.{Listing, is_node, named, lost}
-use Rattle.rules.specs.Proofs.TextLaws.{empty_true}
-use Rattle.rules.specs.Proofs.GraphLaws.{nameless, same_kind_of, same_kind_true, some_name}
+use Rattle.rules.proofs.TextLaws.{empty_true}
+use Rattle.rules.proofs.GraphLaws.{nameless, same_kind_of, same_kind_true, some_name}
 use Rattle.text.specs.Scans.{span}
 use Rattle.text.specs.SplitLaws.{first_last, first_more}
 use Rattle.graph.specs.Table.{proc_digit, callees_from}

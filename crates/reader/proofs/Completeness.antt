@@ -16,7 +16,7 @@ use Rattle.laws.specs.Counting.{count_zero, every_agree}
 use Rattle.rules.specs.Text.{Bytes, same}
 use Rattle.rules.specs.Graph.{Kind, E, S, C, X, Program, degrees, fewest, most, owner_at, kind_at, source_at, word_at, proc_count, node_count, edge_count, kind_number, same_kind, is_of, degree, dash, worded}
 use Rattle.rules.specs.ProgramFile.{Listing, current, degree_fine, complete}
-use Rattle.rules.specs.Proofs.ProgramLaws.{Sound}
+use Rattle.rules.proofs.ProgramLaws.{Sound}
 use Rattle.graph.specs.Table.{proc_head, first_node}
 use Rattle.graph.specs.Lookups.{in_table, Edges, Procs, Degree, Dashed}
 use Rattle.lines.specs.Known.{Known}

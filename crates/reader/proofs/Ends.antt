@@ -15,9 +15,9 @@ use Rattle.laws.specs.Slices.{drop_sets_after, same_or}
 use Rattle.rules.specs.Text.{Bytes, names_in, is_callees, max_bytes, Reading, refused, accepted, read_text}
 use Rattle.rules.specs.Graph.{name_at, kind_at, label_at, callee_at, proc_count, node_count, kind_number, entry, exit}
 use Rattle.rules.specs.ProgramFile.{Listing, current, begun, lost, complete, finish_program, read_listing}
-use Rattle.rules.specs.Proofs.TextLaws.{unless_passes, unless_refuses}
-use Rattle.rules.specs.Proofs.ProgramLaws.{Complete, complete_says}
-use Rattle.rules.specs.Proofs.Places.{part_is}
+use Rattle.rules.proofs.TextLaws.{unless_passes, unless_refuses}
+use Rattle.rules.proofs.ProgramLaws.{Complete, complete_says}
+use Rattle.rules.proofs.Places.{part_is}
 use Rattle.graph.specs.Table.{At, first_node, first_edge, node_row, proc_row, edge_row, proc_digit, callees_from}
 use Rattle.graph.specs.Lookups.{in_table, Procs}
 use Rattle.lines.specs.Callees.{callees_few, callees_short}

@@ -14,7 +14,7 @@ use Rattle.laws.specs.Counting.{count_all, count_missing, count_prefix, first_ag
 use Rattle.rules.specs.Text.{Bytes}
 use Rattle.rules.specs.Graph.{Kind, Node, Edge, Program, no_node, no_edge, owner_at, source_at, proc_count, node_count, edge_count, same_kind, is_of}
 use Rattle.rules.specs.ProgramFile.{add_proc, add_node, add_edge, current, has_edge, is_node_of}
-use Rattle.rules.specs.Proofs.ProgramLaws.{Sound}
+use Rattle.rules.proofs.ProgramLaws.{Sound}
 use Rattle.graph.specs.Table.{first_node, first_edge}
 
 -- ---- the procedure that is being read

@@ -15,7 +15,7 @@ use Rattle.laws.specs.Lists.{choose_yes, choose_no}
 use Rattle.rules.specs.Text.{Bytes, same, is_word, value, max_procs, max_edges, Reading, refused}
 use Rattle.rules.specs.Graph.{name_at, owner_at, proc_count, node_count, edge_count, leaves, edge_with}
 use Rattle.rules.specs.ProgramFile.{proc_line, Listing, current, begun, named, has_edge, has_word, is_node_of, with_proc, with_node, with_edge, take_line}
-use Rattle.rules.specs.Proofs.TextLaws.{unless_passes, unless_refuses}
+use Rattle.rules.proofs.TextLaws.{unless_passes, unless_refuses}
 use Rattle.graph.specs.Table.{first_node, first_edge}
 use Rattle.graph.specs.Keys.{word_key, word_short}
 use Rattle.graph.specs.Lookups.{in_table, Procs, Edges, ProcNamed, EdgeWith}

@@ -11,7 +11,7 @@ use lib.Seq.{sets, length-sets, get_or-set_same, get_or-set_other, get_or-drop}
 use borrow.Author.Tests.{eqb-true, eq-eqb, ne_eqb}
 use Rattle.laws.specs.Tests.{◌and◌, first, count, choose}
 use Rattle.laws.specs.TestLaws.{and_left, and_right, and_both, fails, both_ways, passes?}
-use Rattle.rules.specs.Proofs.GraphLaws.{same_kind_true}
+use Rattle.rules.proofs.GraphLaws.{same_kind_true}
 use Rattle.laws.specs.Lists.{snoc_length, snoc_cases, snoc_old, snoc_new}
 use Rattle.laws.specs.Counting.{count_zero}
 use Rattle.laws.specs.Slices.{same_or, drop_sets_after, drop_sets_add, get_d_sets_before, get_d_sets_after, get_d_sets_in}

@@ -10,7 +10,7 @@ use Rattle.laws.specs.Slices.{drop_end, drop_next}
 use Rattle.laws.specs.TestLaws.{none_below}
 use Rattle.rules.specs.Text.{Bytes, empty, split, fields_of, Reading, refused, accepted, then, unless, read_lines}
 use Rattle.rules.specs.ProgramFile.{form_of, Listing, nothing_read, take_line, step_program, finish_program}
-use Rattle.rules.specs.Proofs.TextLaws.{split_cons}
+use Rattle.rules.proofs.TextLaws.{split_cons}
 use Rattle.text.specs.Scans.{span}
 use Rattle.text.specs.SplitLaws.{uncut, cut}
 use Rattle.lines.specs.Stands.{Stands, line_stands}

@@ -11,7 +11,7 @@ use Rattle.laws.specs.Tests.{◌and◌, choose}
 use Rattle.laws.specs.TestLaws.{fails}
 use Rattle.laws.specs.Slices.{sets_out}
 use Rattle.rules.specs.Text.{Bytes, same}
-use Rattle.rules.specs.Proofs.TextLaws.{same_true}
+use Rattle.rules.proofs.TextLaws.{same_true}
 use Rattle.records.specs.declared.Job.{Job}
 use Rattle.records.specs.declared.Node.{Node}
 use Rattle.records.specs.Nodes.{row, node_at}

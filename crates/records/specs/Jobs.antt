@@ -2,7 +2,7 @@
 use Rattle.std.specs.Prelude.{◌≡◌, Bool, true, List, [], ◌∷◌, ℕ, get_or}
 use Rattle.std.proofs.Common.{ap}
 use Rattle.rules.specs.Text.{same}
-use Rattle.rules.specs.Proofs.TextLaws.{same_true, same_self}
+use Rattle.rules.proofs.TextLaws.{same_true, same_self}
 use Rattle.records.specs.declared.Job.{Job}
 
 -- A fresh job.

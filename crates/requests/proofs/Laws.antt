@@ -14,7 +14,7 @@ use Rattle.rules.specs.Graph.{node_count}
 use Rattle.rules.specs.Sheet.{Sheet as Claims, read_sheet}
 use Rattle.rules.specs.Check.{broken}
 use Rattle.rules.specs.Layout.{write_program}
-use Rattle.rules.specs.Theorems.{written_unchanged}
+use Rattle.rules.proofs.Theorems.{written_unchanged}
 use Rattle.rules.specs.Job.{Given, Outcome, by_side, checking, has_node, judged, labelling, outcome, output_after, refusal, request_by, serving, success, writing_back, written}
 use Rattle.answer.specs.declared.Answer.{Answer}
 use Rattle.answer.specs.Outcomes.{Answered, Told, answered_as, refusal_told, told_as}

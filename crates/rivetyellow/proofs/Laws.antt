@@ -8,7 +8,7 @@ use Rattle.rules.specs.Text.{Reading, Bytes, accepted, refused}
 use Rattle.rules.specs.ProgramFile.{Listing, read_listing, read_program}
 use Rattle.rules.specs.Graph.{Program}
 use Rattle.rules.specs.Job.{Given, Outcome, Request as Asked, answering, check_sheet, check_answer, outcome, output_after, packed, probes_answer, program_answer, read_job, read_new_answer, read_old_answer, read_tests_answer, record_answer, refusal, serving, sheet_answer, success, write_probes, write_back, write_record, write_sheet}
-use Rattle.rules.specs.Proofs.Answers.{plain_answers}
+use Rattle.rules.proofs.Answers.{plain_answers}
 use Rattle.answer.specs.declared.Answer.{Answer}
 use Rattle.answer.specs.Outcomes.{Answered, Told, answered_as, packing, packs, refusal_told, told_as}
 use Rattle.reader.specs.declared.Count.{Count}

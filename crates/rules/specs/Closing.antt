@@ -19,7 +19,7 @@ module _ (old new : Program) where
   unfoldable pub alike : ℕ → ℕ → Bool
   alike n n' = same_kind (kind_at old n) (kind_at new n') and same_label (label_at old n) (label_at new n') and same_callee (callee_at old n) (callee_at new n')
 
-  -- An old edge and a new one are opposite: some word is taken by both, each at its node. It is enough to try the word of each (`opposite_at`, `opposite_of` in Proofs/ClosingLaws): a word
+  -- An old edge and a new one are opposite: some word is taken by both, each at its node. It is enough to try the word of each (`opposite_at`, `opposite_of` in proofs/ClosingLaws): a word
   -- that neither node names goes `*` against `*`, and there `*` itself is such a word.
   unfoldable pub opposite : ℕ → ℕ → Bool
   opposite e e' = takes new (word_at old e) e' or takes old (word_at new e') e
@@ -85,7 +85,7 @@ module _ (old new : Program) where
   both_call n n' = same_kind (kind_at old n) C and same_kind (kind_at new n') C
 
   -- For every word for which the old edge e is taken, the new node n' takes an edge, and the ends pass f. It is enough that it takes one for the word of e, and that the ends pass for
-  -- each edge of n' that is opposite to e (`kept_at`, `kept_of` in Proofs/ClosingLaws).
+  -- each edge of n' that is opposite to e (`kept_at`, `kept_of` in proofs/ClosingLaws).
   unfoldable pub kept_by : (ℕ → ℕ → Bool) → ℕ → ℕ → Bool
   kept_by f e n' =
       some? (edge_taken new n' (word_at old e))

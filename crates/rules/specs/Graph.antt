@@ -136,7 +136,7 @@ edge_with p n w = first (edge_count p) (leaves p n w)
 unfoldable pub edge_taken : Program → ℕ → Bytes → Option ℕ
 edge_taken p n w = or_else (edge_with p n w) (edge_with p n star)
 
--- The edge of an E or C: the one that it has, whose word is `-` (`its_edge` in Proofs/GraphLaws).
+-- The edge of an E or C: the one that it has, whose word is `-` (`its_edge` in proofs/GraphLaws).
 abbrev pub its_edge : Program → ℕ → Option ℕ
 its_edge p n = edge_taken p n dash
 

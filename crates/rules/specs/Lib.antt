@@ -15,8 +15,5 @@ pub mod Places
 -- What the change requests of document 02 add beside requests, in their order.
 pub mod WriteBack
 pub mod Former
--- What is promised, as statements; their proofs; P1 to P8, computed.
+-- What is promised, as statements. The theorems, and P1 to P8, computed, are in proofs/.
 pub mod Promises
-pub mod Theorems
-pub mod Examples
-pub mod Proofs

@@ -13,8 +13,8 @@ use Rattle.rules.specs.Text.{Bytes}
 use Rattle.rules.specs.Graph.{Program, edge_count, node_count, source_at, target_at}
 use Rattle.rules.specs.Closing.{alike, edge_ends, fits, goes_on, joined, pairs, parted, opposite}
 use Rattle.rules.specs.ProgramFile.{Listing}
-use Rattle.rules.specs.Proofs.Closure.{joined_iff, joined_of, pair_alike, pairs_complete, pairs_inside, pairs_sound}
-use Rattle.rules.specs.Proofs.ClosingLaws.{fits_of}
+use Rattle.rules.proofs.Closure.{joined_iff, joined_of, pair_alike, pairs_complete, pairs_inside, pairs_sound}
+use Rattle.rules.proofs.ClosingLaws.{fits_of}
 use Rattle.pairset.specs.Store.{new_at, old_at, pairs_in}
 use Rattle.pairset.specs.StoreLaws.{listed_at, listed_of}
 use Rattle.versions.specs.Memory.{InMemory, memory}

@@ -6,8 +6,8 @@ use Rattle.laws.specs.Bits.{bit_in}
 use Rattle.rules.specs.Graph.{Program, edge_count}
 use Rattle.rules.specs.Closing.{Coverage, Dangerous, dangers, first_danger, holds, meets}
 use Rattle.rules.specs.Promises.{Exact, Repeated}
-use Rattle.rules.specs.Proofs.Closure.{dangers_inside}
-use Rattle.rules.specs.Proofs.Search.{search_exact}
+use Rattle.rules.proofs.Closure.{dangers_inside}
+use Rattle.rules.proofs.Search.{search_exact}
 use Rattle.coverage.specs.declared.Found.{Found}
 use Rattle.coverage.specs.declared.Found.TheVariants.{At, Nothing}
 use Rattle.coverage.specs.Rows.{Row, edge_found, first_common, row_meets, row_words}

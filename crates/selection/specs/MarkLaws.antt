@@ -11,7 +11,7 @@ use Rattle.laws.specs.Slices.{below_or, take_sets_end, get_d_sets_after, get_d_s
 use Rattle.rules.specs.Graph.{Program, edge_count}
 use Rattle.rules.specs.Closing.{Coverage, carried_mark, carries, carries_only, dangers, endangered, mark, mark_0, mark_1, mark_?, meets, probes}
 use Rattle.rules.specs.Sheet.{mark_byte, marks_of}
-use Rattle.rules.specs.Proofs.JobLaws.{marks_at, marks_length}
+use Rattle.rules.proofs.JobLaws.{marks_at, marks_length}
 use Rattle.selection.specs.Marks.{carried, lifted}
 
 -- ---- raised to `?`

@@ -9,8 +9,8 @@ use Rattle.laws.specs.Tests.{◌and◌, choose}
 use Rattle.laws.specs.TestLaws.{and_not, both_ways, passes?}
 use Rattle.rules.specs.Text.{Bytes, bytes, is_name, is_number, join_by, onto, same, split}
 use Rattle.rules.specs.Sheet.{SheetLine, d_line, end_line, head_line, head_text, m_line, no_form, r_line, sheet_form}
-use Rattle.rules.specs.Proofs.SheetLayout.{SheetFormed, sheet_formed}
-use Rattle.rules.specs.Proofs.TextLaws.{join_split, name_free, number_free, same_of, split_free}
+use Rattle.rules.proofs.SheetLayout.{SheetFormed, sheet_formed}
+use Rattle.rules.proofs.TextLaws.{join_split, name_free, number_free, same_of, split_free}
 use Rattle.text.specs.SplitLaws.{begins, pieces}
 
 -- ---- the fields of each form

@@ -18,7 +18,7 @@ use Rattle.rules.specs.Text.{Reading, Bytes, accepted, bytes, is_name, is_number
 use Rattle.rules.specs.Graph.{Program, edge_count, node_count}
 use Rattle.rules.specs.SuiteFile.{Suite, test_count, test_name}
 use Rattle.rules.specs.Sheet.{SheetRead, add_d, add_m, add_r, all_below, d_line, end_line, going, m_line, open_sheet, pairs_before, r_line, sheet_form, take_sheet_line, test_of}
-use Rattle.rules.specs.Proofs.TextLaws.{same_true}
+use Rattle.rules.proofs.TextLaws.{same_true}
 use Rattle.pairset.specs.Store.{Appended, Appends, pair_base}
 use Rattle.suite.specs.Reading.{name_at}
 use Rattle.text.specs.NumberLaws.{a_number, no_number, number_kept}

@@ -17,7 +17,7 @@ use Rattle.rules.specs.Text.{Reading, Bytes, accepted, bytes, empty, read_lines,
 use Rattle.rules.specs.Graph.{Program}
 use Rattle.rules.specs.SuiteFile.{Suite}
 use Rattle.rules.specs.Sheet.{Sheet, SheetRead, finish_sheet, head_text, no_sheet, read_sheet, sheet_form, step_sheet, take_sheet_line}
-use Rattle.rules.specs.Proofs.TextLaws.{empty_not, same_true, split_cons}
+use Rattle.rules.proofs.TextLaws.{empty_not, same_true, split_cons}
 use Rattle.text.specs.Scans.{span}
 use Rattle.text.specs.SplitLaws.{cut_at, letter, uncut_at}
 use Rattle.pairset.specs.Store.{Emptied, Empties, pair_base}

@@ -17,7 +17,7 @@ use Rattle.laws.specs.Slices.{below_or, get_d_sets_before, get_d_sets_in}
 use Rattle.laws.specs.Bits.{bit_at, bit_in, word_of, words_of, bit_none, bit_word, bits_words, words_agree, words_length}
 use Rattle.laws.specs.BitSets.{bit_with, with_bit}
 use Rattle.rules.specs.Text.{Bytes, accepted, all_bytes, refused, same, split, unless}
-use Rattle.rules.specs.Proofs.TextLaws.{accepted_same, same_true}
+use Rattle.rules.proofs.TextLaws.{accepted_same, same_true}
 use Rattle.rules.specs.Closing.{Coverage}
 use Rattle.rules.specs.SuiteFile.{TestListing, bits_of, hex_byte, row_fine, step_suite, take_test, no_test, test_count, test_form, test_name, tested, with_test}
 use Rattle.text.specs.Scans.{span}

@@ -14,8 +14,8 @@ use Rattle.laws.specs.Slices.{drop_end, part_part}
 use Rattle.laws.specs.TestLaws.{none_below}
 use Rattle.rules.specs.Text.{Reading, Bytes, accepted, empty, join_by, read_lines, read_text, refused, split, then, unless}
 use Rattle.rules.specs.SuiteFile.{TestLine, TestListing, finish_suite, no_test, no_tests, read_tests, step_suite, take_test, test_line, test_form}
-use Rattle.rules.specs.Proofs.TextLaws.{accepted_same, join_split, split_cons, unless_accepted, empty_not}
-use Rattle.rules.specs.Proofs.SuiteLaws.{TestFormed, test_formed}
+use Rattle.rules.proofs.TextLaws.{accepted_same, join_split, split_cons, unless_accepted, empty_not}
+use Rattle.rules.proofs.SuiteLaws.{TestFormed, test_formed}
 use Rattle.text.specs.Scans.{span}
 use Rattle.text.specs.SplitLaws.{cut_at, uncut_at}
 use Rattle.suite.specs.declared.Read.{Read}

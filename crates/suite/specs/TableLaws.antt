@@ -3,9 +3,9 @@ use Rattle.std.specs.Prelude.{◌≡◌, List, ℕ, ◌<◌, take, drop}
 use Rattle.std.proofs.Common.{ap₂, ◌∙◌}
 use Rattle.rules.specs.Text.{Bytes, accepted}
 use Rattle.rules.specs.SuiteFile.{TestListing, read_suite, read_tests, test_count, test_name}
-use Rattle.rules.specs.Proofs.SuiteLaws.{SoundSuite, suite_sound}
-use Rattle.rules.specs.Proofs.TextLaws.{then_passes}
-use Rattle.rules.specs.Proofs.Places.{part_is, tests_placed}
+use Rattle.rules.proofs.SuiteLaws.{SoundSuite, suite_sound}
+use Rattle.rules.proofs.TextLaws.{then_passes}
+use Rattle.rules.proofs.Places.{part_is, tests_placed}
 use Rattle.suite.specs.Tables.{Holds}
 use Rattle.suite.specs.Reading.{name_at}
 

@@ -13,9 +13,9 @@ use Rattle.laws.specs.Tests.{◌and◌, choose, isnt}
 use Rattle.laws.specs.TestLaws.{and_both, and_left, and_right, eqb_self, fails, isnt_true, passes?, true_isnt}
 use Rattle.laws.specs.Slices.{below_or, drop_at, drop_end}
 use Rattle.rules.specs.Text.{Bytes, empty, same, same_label, squeezed}
-use Rattle.rules.specs.Proofs.ClosingLaws.{same_label_is, same_label_of, same_label_true}
-use Rattle.rules.specs.Proofs.LabelLaws.{behind, behind_bare, behind_left, behind_right, behind_same, behind_spaced, blank_first, spaced, squeezed_blank, squeezed_byte, squeezed_none}
-use Rattle.rules.specs.Proofs.TextLaws.{same_true}
+use Rattle.rules.proofs.ClosingLaws.{same_label_is, same_label_of, same_label_true}
+use Rattle.rules.proofs.LabelLaws.{behind, behind_bare, behind_left, behind_right, behind_same, behind_spaced, blank_first, spaced, squeezed_blank, squeezed_byte, squeezed_none}
+use Rattle.rules.proofs.TextLaws.{same_true}
 use Rattle.text.specs.Scans.{blanks, ends_differ, in_common, last_byte}
 
 -- ---- `past_blanks`

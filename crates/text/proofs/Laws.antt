@@ -17,7 +17,7 @@ use Rattle.laws.specs.Bits.{bit_at, bit_in}
 use Rattle.laws.specs.BitSets.{bit_in_lem, bit_out}
 use Rattle.rules.specs.Text.{Bytes, same, between, all_bytes, name_byte, label_byte, word_byte, digit_byte, is_name, is_label, is_word, is_number, value_from, decimal}
 use Rattle.rules.specs.SuiteFile.{hex_byte}
-use Rattle.rules.specs.Proofs.TextLaws.{decimal_small, decimal_more, same_of, same_self, same_true}
+use Rattle.rules.proofs.TextLaws.{decimal_small, decimal_more, same_of, same_self, same_true}
 use Rattle.text.specs.Scans.{span, plain_byte, class_byte, sized}
 use Rattle.text.specs.SplitLaws.{span_hit, span_miss, span_end}
 use Rattle.text.specs.Puts.{Puts, puts_none, puts_then, puts_length}

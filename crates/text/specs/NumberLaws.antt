@@ -5,7 +5,7 @@ use Rattle.laws.specs.Tests.{choose}
 use Rattle.laws.specs.TestLaws.{fails, passes?}
 use Rattle.laws.specs.Lists.{choose_no, choose_yes}
 use Rattle.rules.specs.Text.{Bytes, is_number, split, value}
-use Rattle.rules.specs.Proofs.TextLaws.{number_free, split_free}
+use Rattle.rules.proofs.TextLaws.{number_free, split_free}
 
 module _ (a : Bytes) (v : ℕ) (e : v ≡ choose (is_number a) (min (value a) 65536) 65537) where
   pub no_number : 65536 < v → is_number a ≡ false

@@ -5,7 +5,7 @@ use borrow.Author.Tests.{eq-eqb, ne_eqb}
 use Rattle.laws.specs.Tests.{choose}
 use Rattle.laws.specs.Slices.{drop_at, drop_end, drop_next, below_or}
 use Rattle.rules.specs.Text.{Bytes, onto, same, split}
-use Rattle.rules.specs.Proofs.TextLaws.{same_true, split_cons}
+use Rattle.rules.proofs.TextLaws.{same_true, split_cons}
 use Rattle.text.specs.Scans.{span}
 
 -- ---- the place of the first b, by what stands at i

@@ -18,9 +18,9 @@ use Rattle.rules.specs.Graph.{C, Kind, E, S, X, callee_at, callee_count, filled,
 use Rattle.rules.specs.Closing.{alike, both_call, exits_met, goes_on, same_callee}
 use Rattle.rules.specs.Check.{entered_at}
 use Rattle.rules.specs.ProgramFile.{Listing}
-use Rattle.rules.specs.Proofs.ClosingLaws.{alike_back, alike_parts, alike_self, alike_then, bare_callees, same_callee_is}
-use Rattle.rules.specs.Proofs.GraphLaws.{same_kind_true}
-use Rattle.rules.specs.Proofs.TextLaws.{empty_true}
+use Rattle.rules.proofs.ClosingLaws.{alike_back, alike_parts, alike_self, alike_then, bare_callees, same_callee_is}
+use Rattle.rules.proofs.GraphLaws.{same_kind_true}
+use Rattle.rules.proofs.TextLaws.{empty_true}
 use Rattle.graph.specs.Table.{edge_base, node_base, proc_base}
 use Rattle.graph.specs.Reads.{part_at, past, part_past}
 use Rattle.pairset.specs.Store.{Has, last_pair, new_at, old_at, pairs_in}

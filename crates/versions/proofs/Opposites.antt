@@ -14,8 +14,8 @@ use Rattle.laws.specs.Chain.{Blind, Left, latest, latest_hit, latest_miss, lates
 use Rattle.rules.specs.Graph.{Program, WellFormed, edge_count, edge_taken, source_at, star, word_at}
 use Rattle.rules.specs.Closing.{opposite, takes}
 use Rattle.rules.specs.ProgramFile.{Listing}
-use Rattle.rules.specs.Proofs.ClosingLaws.{named_opposite, star_opposite, taken_opposite}
-use Rattle.rules.specs.Proofs.GraphLaws.{taken_at, taken_star}
+use Rattle.rules.proofs.ClosingLaws.{named_opposite, star_opposite, taken_opposite}
+use Rattle.rules.proofs.GraphLaws.{taken_at, taken_star}
 use Rattle.graph.specs.Table.{edge_base, head_base}
 use Rattle.graph.specs.Keys.{key_star, star_key, star_word, word_key}
 use Rattle.graph.specs.Lookups.{EdgeTaken, EdgeWith}

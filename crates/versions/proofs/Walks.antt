@@ -16,7 +16,7 @@ use Rattle.rules.specs.Graph.{C, callee_count, callee_name, called, entry, kind_
 use Rattle.rules.specs.Closing.{exits_met, same_callee}
 use Rattle.rules.specs.Check.{entered_at}
 use Rattle.rules.specs.ProgramFile.{Listing}
-use Rattle.rules.specs.Proofs.ClosingLaws.{same_callee_is, same_callee_names}
+use Rattle.rules.proofs.ClosingLaws.{same_callee_is, same_callee_names}
 use Rattle.graph.specs.Table.{proc_base}
 use Rattle.graph.specs.Reads.{part_at}
 use Rattle.pairset.specs.Store.{Has, pairs_in}

@@ -6,7 +6,7 @@ use Rattle.laws.specs.Slices.{below_or}
 use Rattle.laws.specs.Tests.{listed}
 use Rattle.rules.specs.Graph.{C, callee_count, callee_name, called, entry, exit, kind_at, node_count}
 use Rattle.rules.specs.ProgramFile.{Listing}
-use Rattle.rules.specs.Proofs.GraphLaws.{called_below, called_name}
+use Rattle.rules.proofs.GraphLaws.{called_below, called_name}
 use Rattle.graph.specs.Table.{callees_from, proc_base}
 use Rattle.graph.specs.Callees.{first_callee, none_from, other_callees, some_from}
 use Rattle.graph.specs.Reads.{part_at}

@@ -13,7 +13,7 @@ use Rattle.rules.specs.Graph.{C, E, Kind, S, X, edge_at, edge_count, kind_at, ki
 use Rattle.rules.specs.ProgramFile.{Listing}
 use Rattle.rules.specs.Layout.{Follows, line_of_edge, kind_field, line_of_node, line_of_proc, proc_lines, program_lines, write_program}
 use Rattle.rules.specs.WriteBack.{SameParts}
-use Rattle.rules.specs.Proofs.WriteProgram.{accepted_follows}
+use Rattle.rules.proofs.WriteProgram.{accepted_follows}
 use Rattle.graph.specs.Table.{edge_base, first_edge, first_node, node_base, proc_base}
 use Rattle.graph.specs.Reads.{part_at}
 use Rattle.reader.specs.declared.Count.{Count}

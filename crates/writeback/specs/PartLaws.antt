@@ -15,9 +15,9 @@ use Rattle.rules.specs.Text.{Bytes, all_bytes, between, is_callees, is_label, is
 use Rattle.rules.specs.Graph.{C, E, Kind, S, X, callee_at, callee_count, callee_name, called, edge_count, kind_at, kind_number, label_at, name_at, node_count, proc_count, same_kind, word_at}
 use Rattle.rules.specs.ProgramFile.{Listing, is_node}
 use Rattle.rules.specs.WriteBack.{SameParts, callee_start, label_start, name_start, other_alone, word_start}
-use Rattle.rules.specs.Proofs.TextLaws.{empty_true, join_split, name_sized, same_of, same_true, split_cons}
-use Rattle.rules.specs.Proofs.GraphLaws.{called_below, called_name, same_kind_true}
-use Rattle.rules.specs.Proofs.BackLaws.{alone_by_parts, other_self}
+use Rattle.rules.proofs.TextLaws.{empty_true, join_split, name_sized, same_of, same_true, split_cons}
+use Rattle.rules.proofs.GraphLaws.{called_below, called_name, same_kind_true}
+use Rattle.rules.proofs.BackLaws.{alone_by_parts, other_self}
 use Rattle.graph.specs.Keys.{digit_of, word_key}
 use Rattle.graph.specs.Callees.{none_from, some_from}
 use Rattle.graph.specs.Table.{callees_from, node_base, proc_base}

@@ -4,7 +4,7 @@ use Prim.Native.Nat.{ℕ, ◌+◌, ◌^◌, ◌≤◌, ◌<◌}
 use native.Mathlib.Omega.{arith}
 use lib.ListN.{length}
 use Rattle.rules.specs.Text.{Bytes, decimal, join_by, text_of}
-use Rattle.rules.specs.Proofs.TextLaws.{decimal_most}
+use Rattle.rules.proofs.TextLaws.{decimal_most}
 use Rattle.rules.specs.Sheet.{end_text, head_text, m_text, r_text, v_text}
 use Rattle.text.specs.Puts.{Puts, puts_then, puts_length}
 use Rattle.writer.specs.Texts.{edge_line}

@@ -18,7 +18,7 @@ use Rattle.rules.specs.Closing.{dangers, dangerous, holds, meets, pairs, repeate
 use Rattle.rules.specs.SuiteFile.{TestListing, coverage_at, read_tests, test_count, test_name}
 use Rattle.rules.specs.Sheet.{Sheet, crossed, d_text, end_text, head_text, m_text, r_text, record_text, selected, sheet_lines, sheet_text, v_text}
 use Rattle.rules.specs.Job.{output_after, refusal, written, wrote}
-use Rattle.rules.specs.Proofs.Closure.{dangers_inside, pairs_ascend, pairs_inside}
+use Rattle.rules.proofs.Closure.{dangers_inside, pairs_ascend, pairs_inside}
 use Rattle.answer.specs.declared.Answer.{Answer}
 use Rattle.answer.specs.Outcomes.{Told, refusal_told, told_as}
 use Rattle.text.specs.Puts.{Puts, puts_front, puts_length, puts_measure, puts_then}

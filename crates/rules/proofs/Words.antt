@@ -12,11 +12,11 @@ use Rattle.rules.specs.Closing.{Coverage, both_call, exits_met, goes_on, holds, 
 use Rattle.rules.specs.Sheet.{Sheet, among, left_off, r_text}
 use Rattle.rules.specs.Check.{entered, entered_at, edge_kept, edges_kept, rule1, rule2, rule3, rule4, rule5}
 use Rattle.rules.specs.Promises.{AlikeExact, CalleesExact, LeftOffExact, Lookups, MeaningsFree, RulesExact, Takes}
-use Rattle.rules.specs.Proofs.ClosingLaws.{alike_is, kept_at, kept_of, same_label_true}
-use Rattle.rules.specs.Proofs.GraphLaws.{called_below, called_name, edge_is, entry_is, first_found, is_of_true, its_edge, same_kind_of, same_kind_true, taken_at, taken_else, taken_with, with_at, with_is}
-use Rattle.rules.specs.Proofs.SheetLaws.{among_here, among_later}
-use Rattle.rules.specs.Proofs.TextLaws.{between_at, join_split, names_free, same_true, split_join}
-use Rattle.rules.specs.Proofs.WriteProgram.{reads_layout}
+use Rattle.rules.proofs.ClosingLaws.{alike_is, kept_at, kept_of, same_label_true}
+use Rattle.rules.proofs.GraphLaws.{called_below, called_name, edge_is, entry_is, first_found, is_of_true, its_edge, same_kind_of, same_kind_true, taken_at, taken_else, taken_with, with_at, with_is}
+use Rattle.rules.proofs.SheetLaws.{among_here, among_later}
+use Rattle.rules.proofs.TextLaws.{between_at, join_split, names_free, same_true, split_join}
+use Rattle.rules.proofs.WriteProgram.{reads_layout}
 
 -- ---- look-ups
 

@@ -1,4 +1,6 @@
--- The proofs behind Theorems.
+-- The theorems that Promises states, P1 to P8 computed, and the proofs behind both.
+pub mod Theorems
+pub mod Examples
 pub mod TextLaws
 pub mod GraphLaws
 pub mod LabelLaws

@@ -12,9 +12,9 @@ use Rattle.rules.specs.Layout.{write_program}
 use Rattle.rules.specs.Places.{Part}
 use Rattle.rules.specs.WriteBack.{SameParts, callee_start, in_part, label_start, name_start, of_parts, other_alone, word_start}
 use Rattle.rules.specs.Promises.{BackExactly}
-use Rattle.rules.specs.Proofs.JobLaws.{known, outcome_wrote, written_wrote}
-use Rattle.rules.specs.Proofs.Places.{listing_placed, part_is}
-use Rattle.rules.specs.Proofs.WriteProgram.{accepted_follows}
+use Rattle.rules.proofs.JobLaws.{known, outcome_wrote, written_wrote}
+use Rattle.rules.proofs.Places.{listing_placed, part_is}
+use Rattle.rules.proofs.WriteProgram.{accepted_follows}
 
 -- An accepted text, read and written back, is unchanged.
 pub back_unchanged : (text : Bytes) (p : Program) → read_program text ≡ accepted p → write_program p ≡ text

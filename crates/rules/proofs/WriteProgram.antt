@@ -19,9 +19,9 @@ use Rattle.rules.specs.Text.{Bytes, same, empty, bytes, max_bytes, max_procs, ma
 use Rattle.rules.specs.Graph.{Kind, E, S, C, X, Node, Edge, Program, no_node, no_edge, node_at, edge_at, name_at, owner_at, kind_at, label_at, callee_at, callee_count, callee_name, source_at, word_at, target_at, proc_count, node_count, edge_count, same_kind, is_of, degree, fewest, most, worded}
 use Rattle.rules.specs.ProgramFile.{Line, proc_line, node_line, edge_line, malformed, kind_of, is_node, is_edge, form_of, Places, Listing, nothing_read, add_proc, add_node, add_edge, current, begun, has_edge, named, is_node_of, has_word, degree_fine, complete, lost, with_proc, with_node, with_edge, take_proc, take_line, step_program, finish_program, read_listing, read_program}
 use Rattle.rules.specs.Layout.{kind_field, line_of_proc, line_of_node, line_of_edge, lines_of_those, proc_lines, program_lines, write_program, Follows}
-use Rattle.rules.specs.Proofs.GraphLaws.{same_kind_true, leaves_true}
-use Rattle.rules.specs.Proofs.ProgramLaws.{Complete, Sound, Ended, Formed, formed, Taken, taken, finished, sound_none, sound_step, well_formed}
-use Rattle.rules.specs.Proofs.TextLaws.{same_true, same_of, same_self, empty_true, decimal_free, letter_free, unless_passes, accepted_same, then_accepted, then_passes, join_split, lines_ended, Free, AllFree, split_join, split_ended, free_commas, all_free_append, name_free, callees_free, other, label_free_ten, label_free_comma, word_free_ten, word_free_comma, decimal_number, value_decimal, decimal_value, text_holds, text_short}
+use Rattle.rules.proofs.GraphLaws.{same_kind_true, leaves_true}
+use Rattle.rules.proofs.ProgramLaws.{Complete, Sound, Ended, Formed, formed, Taken, taken, finished, sound_none, sound_step, well_formed}
+use Rattle.rules.proofs.TextLaws.{same_true, same_of, same_self, empty_true, decimal_free, letter_free, unless_passes, accepted_same, then_accepted, then_passes, join_split, lines_ended, Free, AllFree, split_join, split_ended, free_commas, all_free_append, name_free, callees_free, other, label_free_ten, label_free_comma, word_free_ten, word_free_comma, decimal_number, value_decimal, decimal_value, text_holds, text_short}
 
 -- ---- the lines of those that pass
 

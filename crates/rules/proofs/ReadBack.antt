@@ -17,12 +17,12 @@ use Rattle.rules.specs.Closing.{pairs, dangers, dangerous, meets, repeated}
 use Rattle.rules.specs.Sheet.{Sheet, selected, head_text, m_text, d_text, q_text, r_text, end_text, sheet_lines, sheet_text, head_line, m_line, d_line, r_line, end_line, sheet_form, SheetRead, no_sheet, before, all_below, test_of, shut_sheet, take_sheet_line, step_sheet, finish_sheet, read_sheet}
 use Rattle.rules.specs.Job.{Given, wrote, passed, sheet_bytes, sheet_answer, check_answer}
 use Rattle.rules.specs.Layout.{SheetFollows}
-use Rattle.rules.specs.Proofs.Closure.{pairs_inside, pairs_ascend, selected_passes}
-use Rattle.rules.specs.Proofs.JobLaws.{known, passed_check, sheet_wrote}
-use Rattle.rules.specs.Proofs.ProgramLaws.{Sound}
-use Rattle.rules.specs.Proofs.SheetLaws.{sheet_lines_lem}
-use Rattle.rules.specs.Proofs.SuiteLaws.{SoundSuite}
-use Rattle.rules.specs.Proofs.TextLaws.{same_true, same_self, decimal_free, nothing_ended, unless_passes, then_passes, other, split_join, name_free, name_sized, value_decimal, decimal_number, decimal_most}
+use Rattle.rules.proofs.Closure.{pairs_inside, pairs_ascend, selected_passes}
+use Rattle.rules.proofs.JobLaws.{known, passed_check, sheet_wrote}
+use Rattle.rules.proofs.ProgramLaws.{Sound}
+use Rattle.rules.proofs.SheetLaws.{sheet_lines_lem}
+use Rattle.rules.proofs.SuiteLaws.{SoundSuite}
+use Rattle.rules.proofs.TextLaws.{same_true, same_self, decimal_free, nothing_ended, unless_passes, then_passes, other, split_join, name_free, name_sized, value_decimal, decimal_number, decimal_most}
 
 -- ---- the forms of written lines
 

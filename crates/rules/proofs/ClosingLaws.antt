@@ -12,8 +12,8 @@ use Rattle.laws.specs.TestLaws.{and_both, and_left, and_right, eqb_self, every_a
 use Rattle.rules.specs.Text.{Bytes, join_by, name_count, name_in, same, same_label, split, squeezed}
 use Rattle.rules.specs.Graph.{Program, callee_at, edge_count, edge_taken, kind_at, label_at, same_kind, source_at, target_at, word_at, WellFormed, star}
 use Rattle.rules.specs.Closing.{alike, fits, same_callee, opposite, kept_by, takes, Counterparts, Dangerous}
-use Rattle.rules.specs.Proofs.GraphLaws.{edge_is, same_kind_of, same_kind_true, star_takes, taken_at}
-use Rattle.rules.specs.Proofs.TextLaws.{join_split, same_of, same_self, same_true}
+use Rattle.rules.proofs.GraphLaws.{edge_is, same_kind_of, same_kind_true, star_takes, taken_at}
+use Rattle.rules.proofs.TextLaws.{join_split, same_of, same_self, same_true}
 
 -- Labels match by what is left of them.
 pub same_label_is : (l l' : Bytes) → same_label l l' ≡ same (squeezed l) (squeezed l')

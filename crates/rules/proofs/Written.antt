@@ -13,7 +13,7 @@ use Rattle.rules.specs.SuiteFile.{test_count}
 use Rattle.rules.specs.Closing.{pairs}
 use Rattle.rules.specs.Job.{Given, Outcome, answering, outcome, probes_bytes, record_bytes, recording, refusal, serving, sheet_bytes, writing, written, wrote}
 use Rattle.rules.specs.Promises.{Writes, WritesExactly}
-use Rattle.rules.specs.Proofs.JobLaws.{never_wrote, writing_wrote}
+use Rattle.rules.proofs.JobLaws.{never_wrote, writing_wrote}
 
 other : {k j : ℕ} → refusal k 0 ≡ refusal j 0 → k ≡ j
 other e = cc

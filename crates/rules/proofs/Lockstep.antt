@@ -19,9 +19,9 @@ use Rattle.rules.specs.Closing.{alike, both_call, exits_met, goes_on, joined, Co
 use Rattle.rules.specs.Sheet.{Sheet}
 use Rattle.rules.specs.Check.{entered, edge_kept, edges_kept, rule1, rule2, rule3, rule4, rule5, broken}
 use Rattle.rules.specs.Promises.{Alongside}
-use Rattle.rules.specs.Proofs.ClosingLaws.{alike_callee, alike_kind, alike_label, fits_of, kept_at, opposite_of}
-use Rattle.rules.specs.Proofs.GraphLaws.{same_kind_of, taken_at, entry_is, exit_only, called_below, some_name}
-use Rattle.rules.specs.Proofs.AfterLaws.{Calls, Crossing, no_call, one_call}
+use Rattle.rules.proofs.ClosingLaws.{alike_callee, alike_kind, alike_label, fits_of, kept_at, opposite_of}
+use Rattle.rules.proofs.GraphLaws.{same_kind_of, taken_at, entry_is, exit_only, called_below, some_name}
+use Rattle.rules.proofs.AfterLaws.{Calls, Crossing, no_call, one_call}
 
 -- ---- the rules as facts
 

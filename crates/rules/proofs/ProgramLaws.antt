@@ -15,8 +15,8 @@ use Rattle.rules.specs.Text.{Bytes, same, empty, bytes, max_procs, max_nodes, ma
 use Rattle.rules.specs.Graph.{Kind, E, S, C, X, Node, Edge, Program, WellFormed, no_node, no_edge, node_at, edge_at, name_at, owner_at, kind_at, label_at, callee_at, callee_count, callee_name, source_at, word_at, target_at, proc_count, node_count, edge_count, same_kind, is_of, leaves, degree, fewest, most, filled, worded}
 use Rattle.rules.specs.ProgramFile.{Line, proc_line, node_line, edge_line, malformed, kind_of, is_node, is_edge, form_of, Listing, nothing_read, add_proc, add_node, add_edge, current, begun, has_edge, named, is_node_of, has_word, degree_fine, complete, lost, closing, take_proc, take_line, step_program, finish_program, read_listing, read_program}
 use Rattle.rules.specs.Layout.{kind_field}
-use Rattle.rules.specs.Proofs.GraphLaws.{same_kind_of, leaves_of}
-use Rattle.rules.specs.Proofs.TextLaws.{same_true, same_of, unless_accepted, accepted_same, then_accepted, text_holds}
+use Rattle.rules.proofs.GraphLaws.{same_kind_of, leaves_of}
+use Rattle.rules.proofs.TextLaws.{same_true, same_of, unless_accepted, accepted_same, then_accepted, text_holds}
 
 -- ---- a complete procedure, as facts
 

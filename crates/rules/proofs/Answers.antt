@@ -14,12 +14,12 @@ use Rattle.rules.specs.Check.{broken, rule1, rule2, rule3, rule4, rule5}
 use Rattle.rules.specs.Job.{Given, Outcome, Request, answering, by_side, check_sheet, check_answer, checking, judged, labelling, last_number, no_request, outcome, passed, probes_answer, probes_bytes, read_job, read_new_answer, read_old_answer, read_tests_answer, record_answer, record_bytes, refusal, serving, sheet_bytes, show_label, success, write_probes, write_back, write_record, write_sheet, writing, writing_back, written, wrote}
 use Rattle.rules.specs.Layout.{write_program}
 use Rattle.rules.specs.Promises.{AnswersPlain, NumbersGiven, Plain, TooLong, request_numbers}
-use Rattle.rules.specs.Proofs.BackLaws.{back_short}
-use Rattle.rules.specs.Proofs.Closure.{probes_few, probes_inside}
-use Rattle.rules.specs.Proofs.JobLaws.{known, marks_length, outcome_wrote, record_wrote, writing_wrote, wrote_choose, wrote_same}
-use Rattle.rules.specs.Proofs.Numbers.{Any, Good, Refusal, all_of, big, good_number, job_good, job_numbers, passes_of, program_good, program_long, program_numbers, sheet_good, sheet_long, sheet_numbers, suite_good, suite_long, suite_numbers}
-use Rattle.rules.specs.Proofs.ReadBack.{ended_q, name_short, written_passes}
-use Rattle.rules.specs.Proofs.TextLaws.{decimal_most}
+use Rattle.rules.proofs.BackLaws.{back_short}
+use Rattle.rules.proofs.Closure.{probes_few, probes_inside}
+use Rattle.rules.proofs.JobLaws.{known, marks_length, outcome_wrote, record_wrote, writing_wrote, wrote_choose, wrote_same}
+use Rattle.rules.proofs.Numbers.{Any, Good, Refusal, all_of, big, good_number, job_good, job_numbers, passes_of, program_good, program_long, program_numbers, sheet_good, sheet_long, sheet_numbers, suite_good, suite_long, suite_numbers}
+use Rattle.rules.proofs.ReadBack.{ended_q, name_short, written_passes}
+use Rattle.rules.proofs.TextLaws.{decimal_most}
 
 -- ---- outcomes
 

@@ -17,7 +17,7 @@ use Rattle.rules.specs.ProgramFile.{Line, Listing, current, edge_line, finish_pr
 use Rattle.rules.specs.SuiteFile.{Suite, TestLine, TestListing, finish_suite, no_test, no_tests, read_suite, read_tests, step_suite, take_test, test_line, test_form}
 use Rattle.rules.specs.Sheet.{SheetLine, SheetRead, d_line, end_line, finish_sheet, head_line, m_line, no_form, no_sheet, r_line, read_sheet, sheet_form, step_sheet, take_sheet_line, test_of}
 use Rattle.rules.specs.Job.{read_job}
-use Rattle.rules.specs.Proofs.TextLaws.{split_cons, unless_refuses}
+use Rattle.rules.proofs.TextLaws.{split_cons, unless_refuses}
 
 -- What is above every place.
 abbrev pub big : ℕ

@@ -17,12 +17,12 @@ use Rattle.rules.specs.Sheet.{Sheet, selected, r_text, sheet_text, mark_byte, ma
 use Rattle.rules.specs.Check.{broken}
 use Rattle.rules.specs.Job.{Given, read_job, Outcome, wrote, refusal, passed, outcome, writing, written, sheet_bytes, record_bytes, sheet_answer, record_answer, judged, check_answer, serving, answering}
 use Rattle.rules.specs.Promises.{MarksHold, MarksTrue, RunsAlike}
-use Rattle.rules.specs.Proofs.Lockstep.{checked}
-use Rattle.rules.specs.Proofs.Marks.{marks_hold, marks_true}
-use Rattle.rules.specs.Proofs.ProgramLaws.{Sound, read_sound, read_well_formed}
-use Rattle.rules.specs.Proofs.SheetLaws.{among_append, among_later, among_here, sheet_lines_lem, r_written}
-use Rattle.rules.specs.Proofs.SuiteLaws.{SoundSuite, suite_sound}
-use Rattle.rules.specs.Proofs.TextLaws.{same_true, unless_accepted, accepted_same, then_accepted, join_split, text_holds}
+use Rattle.rules.proofs.Lockstep.{checked}
+use Rattle.rules.proofs.Marks.{marks_hold, marks_true}
+use Rattle.rules.proofs.ProgramLaws.{Sound, read_sound, read_well_formed}
+use Rattle.rules.proofs.SheetLaws.{among_append, among_later, among_here, sheet_lines_lem, r_written}
+use Rattle.rules.proofs.SuiteLaws.{SoundSuite, suite_sound}
+use Rattle.rules.proofs.TextLaws.{same_true, unless_accepted, accepted_same, then_accepted, join_split, text_holds}
 
 -- ---- what a job's texts give
 

@@ -17,7 +17,7 @@ use Rattle.rules.specs.Job.{Outcome, wrote, refusal, passed, outcome, read_job, 
 use Rattle.rules.specs.Layout.{line_of_edge, lines_of_those, line_of_node, line_of_proc, proc_lines, program_lines, write_program}
 use Rattle.rules.specs.WriteBack.{in_part, of_parts, other_alone}
 use Rattle.rules.specs.Former.{former_alike, former_rule2, former_broken, former_check_answer}
-use Rattle.rules.specs.Proofs.Words.{meaning_by}
+use Rattle.rules.proofs.Words.{meaning_by}
 
 -- A job: the texts of the old program, the new one and the tests.
 record Job : Type 0 where

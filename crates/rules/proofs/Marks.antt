@@ -16,12 +16,12 @@ use Rattle.rules.specs.Graph.{Kind, Program, WellFormed, edge_count, edge_taken,
 use Rattle.rules.specs.Run.{Config, Crosses, Ends, Meaning, crossing, ended, run, start, trail}
 use Rattle.rules.specs.Closing.{AfterDanger, Coverage, Parting, Probe, after_dangers, callee_entries, carried_mark, carries, carries_only, dangers, endangered, first_entries, holds, mark, mark_0, mark_1, mark_?, meets, pairs, probes, repeated, Dangerous, MayGoOn, Pair, alike, edge_ends}
 use Rattle.rules.specs.Promises.{Alongside, ExactFor}
-use Rattle.rules.specs.Proofs.AfterLaws.{Crossing, crosses_within, crossing_ahead}
-use Rattle.rules.specs.Proofs.Closure.{after_dangers_iff, dangers_iff, dangers_inside, exits_met_at, goes_on_at, pair_alike, pairs_complete, pairs_sound, probes_iff}
-use Rattle.rules.specs.Proofs.ClosingLaws.{alike_kind}
-use Rattle.rules.specs.Proofs.Ends.{ended_crosses, later}
-use Rattle.rules.specs.Proofs.GraphLaws.{taken_at}
-use Rattle.rules.specs.Proofs.Lockstep.{Abreast, Apart, Joined, Matched, Rules, alongside, done, from_start, more, moved, open_crossing, open_new, open_old}
+use Rattle.rules.proofs.AfterLaws.{Crossing, crosses_within, crossing_ahead}
+use Rattle.rules.proofs.Closure.{after_dangers_iff, dangers_iff, dangers_inside, exits_met_at, goes_on_at, pair_alike, pairs_complete, pairs_sound, probes_iff}
+use Rattle.rules.proofs.ClosingLaws.{alike_kind}
+use Rattle.rules.proofs.Ends.{ended_crosses, later}
+use Rattle.rules.proofs.GraphLaws.{taken_at}
+use Rattle.rules.proofs.Lockstep.{Abreast, Apart, Joined, Matched, Rules, alongside, done, from_start, more, moved, open_crossing, open_new, open_old}
 
 module _ (old new : Program) (M : List (ℕ × ℕ)) where
   -- Each edge that one run crosses has a joined one that the other crosses.

@@ -15,10 +15,10 @@ use Rattle.rules.specs.Closing.{Counterparts, Coverage, carries, carries_only, d
 use Rattle.rules.specs.Sheet.{crossed, mark_byte, marks_of, record_text, selected, probes_text}
 use Rattle.rules.specs.Job.{Given, answering, probes_answer, probes_bytes, read_job, record_bytes, serving, sheet_answer, sheet_bytes, wrote}
 use Rattle.rules.specs.Promises.{Demand2, Exact, LineExact, Repeated, SheetExact, LeftOpen, ProbesExact}
-use Rattle.rules.specs.Proofs.Closure.{exact}
-use Rattle.rules.specs.Proofs.JobLaws.{known, marks_at, marks_length, record_wrote, sheet_wrote, outcome_wrote, writing_wrote}
-use Rattle.rules.specs.Proofs.ReadBack.{chosen_orderly}
-use Rattle.rules.specs.Proofs.ClosingLaws.{counterpart_new, counterpart_old}
+use Rattle.rules.proofs.Closure.{exact}
+use Rattle.rules.proofs.JobLaws.{known, marks_at, marks_length, record_wrote, sheet_wrote, outcome_wrote, writing_wrote}
+use Rattle.rules.proofs.ReadBack.{chosen_orderly}
+use Rattle.rules.proofs.ClosingLaws.{counterpart_new, counterpart_old}
 
 -- ---- the sheet
 

@@ -14,10 +14,10 @@ use Rattle.rules.specs.Check.{broken, rule1, rule2, rule3, rule4, rule5}
 use Rattle.rules.specs.Job.{outcome, passed}
 use Rattle.rules.specs.Former.{former_alike, former_broken, former_check_answer, former_rule2}
 use Rattle.rules.specs.Promises.{PassedFormerly}
-use Rattle.rules.specs.Proofs.ClosingLaws.{alike_parts, same_label_of}
-use Rattle.rules.specs.Proofs.JobLaws.{Passed, outcome_wrote, wrote_choose}
-use Rattle.rules.specs.Proofs.SheetLayout.{passes_from, passing_read, unbroken_of}
-use Rattle.rules.specs.Proofs.TextLaws.{same_of, same_true}
+use Rattle.rules.proofs.ClosingLaws.{alike_parts, same_label_of}
+use Rattle.rules.proofs.JobLaws.{Passed, outcome_wrote, wrote_choose}
+use Rattle.rules.proofs.SheetLayout.{passes_from, passing_read, unbroken_of}
+use Rattle.rules.proofs.TextLaws.{same_of, same_true}
 
 module _ (old new : Program) where
   -- Nodes that were alike are alike, and have labels of equal bytes; and the other way.

@@ -9,7 +9,7 @@ use Rattle.laws.specs.TestLaws.{and_left, and_right, and_both, any_of_at, any_of
 use Rattle.rules.specs.Graph.{Program, edge_count}
 use Rattle.rules.specs.Closing.{Coverage, dangers, first_danger, holds, meets}
 use Rattle.rules.specs.Promises.{Exact, SearchExact}
-use Rattle.rules.specs.Proofs.ClosingLaws.{danger_old}
+use Rattle.rules.proofs.ClosingLaws.{danger_old}
 
 module _ (D : List ℕ) (coverage : Coverage) where
   -- The coverage holds the edge e, and the list has it.

@@ -7,7 +7,7 @@ use Rattle.laws.specs.TestLaws.{eqb_self, passes?}
 use Rattle.laws.specs.Lists.{choose_no, choose_yes}
 use Rattle.rules.specs.Text.{Bytes, empty, join_by, non_empty, onto, same, split, squeezed}
 use Rattle.rules.specs.Promises.{NoSpareBlanks, SqueezedExact}
-use Rattle.rules.specs.Proofs.TextLaws.{split_cons}
+use Rattle.rules.proofs.TextLaws.{split_cons}
 
 -- ---- the pieces of two parts with a separator between them
 

@@ -19,13 +19,13 @@ use Rattle.rules.specs.Sheet.{Sheet, SheetLine, SheetRead, d_line, end_line, fin
 use Rattle.rules.specs.Check.{broken}
 use Rattle.rules.specs.Job.{Given, Outcome, answering, check_answer, checking, judged, number_of, outcome, passed, read_job, refusal, serving}
 use Rattle.rules.specs.Promises.{Breaks, ClaimsFalse, LineAbove, LineMissing, five_rules, is_m, m_count}
-use Rattle.rules.specs.Proofs.Numbers.{Any, Good, job_good, job_numbers, sheet_good, sheet_numbers}
-use Rattle.rules.specs.Proofs.Answers.{checked}
-use Rattle.rules.specs.Proofs.JobLaws.{known, never_wrote}
-use Rattle.rules.specs.Proofs.ReadBack.{Goes, ended_append, goes_all, sheet_short}
-use Rattle.rules.specs.Proofs.SheetLaws.{sheet_free}
-use Rattle.rules.specs.Proofs.SheetLayout.{accepted_orderly, cut_sheet, few_of, sheet_layout}
-use Rattle.rules.specs.Proofs.TextLaws.{AllFree, lines_next, split_ended, unless_passes, unless_refuses}
+use Rattle.rules.proofs.Numbers.{Any, Good, job_good, job_numbers, sheet_good, sheet_numbers}
+use Rattle.rules.proofs.Answers.{checked}
+use Rattle.rules.proofs.JobLaws.{known, never_wrote}
+use Rattle.rules.proofs.ReadBack.{Goes, ended_append, goes_all, sheet_short}
+use Rattle.rules.proofs.SheetLaws.{sheet_free}
+use Rattle.rules.proofs.SheetLayout.{accepted_orderly, cut_sheet, few_of, sheet_layout}
+use Rattle.rules.proofs.TextLaws.{AllFree, lines_next, split_ended, unless_passes, unless_refuses}
 
 -- ---- 12
 

@@ -51,27 +51,27 @@ use Rattle.rules.specs.Promises.{
   WritesExactly,
   WrittenUnchanged,
 }
-use Rattle.rules.specs.Proofs.Ends.{ended_crosses}
-use Rattle.rules.specs.Proofs.Answers as Answers
-use Rattle.rules.specs.Proofs.BackLaws.{alone_by_parts, back_unchanged, programs_back}
-use Rattle.rules.specs.Proofs.Checked as Checked
-use Rattle.rules.specs.Proofs.ClosingLaws.{same_label_of, same_label_true}
-use Rattle.rules.specs.Proofs.Closure.{exact}
-use Rattle.rules.specs.Proofs.Exported.{exported, returned}
-use Rattle.rules.specs.Proofs.JobLaws.{checked_texts, marked_texts, unlisted_texts}
-use Rattle.rules.specs.Proofs.LabelLaws as LabelLaws
-use Rattle.rules.specs.Proofs.Places.{listing_placed, label_part_lem, tests_placed}
-use Rattle.rules.specs.Proofs.ProgramLaws.{read_well_formed}
-use Rattle.rules.specs.Proofs.ReadBack.{written_passes}
-use Rattle.rules.specs.Proofs.Refused as Refused
-use Rattle.rules.specs.Proofs.Search.{search_exact}
-use Rattle.rules.specs.Proofs.Selection.{selection_exact}
-use Rattle.rules.specs.Proofs.SheetLayout.{check_exact}
-use Rattle.rules.specs.Proofs.StoredSheets.{former_is}
-use Rattle.rules.specs.Proofs.Words as Words
-use Rattle.rules.specs.Proofs.WriteProgram.{reads_layout}
-use Rattle.rules.specs.Proofs.WriteSuite.{reads_suite_layout}
-use Rattle.rules.specs.Proofs.Written.{written_exactly}
+use Rattle.rules.proofs.Ends.{ended_crosses}
+use Rattle.rules.proofs.Answers as Answers
+use Rattle.rules.proofs.BackLaws.{alone_by_parts, back_unchanged, programs_back}
+use Rattle.rules.proofs.Checked as Checked
+use Rattle.rules.proofs.ClosingLaws.{same_label_of, same_label_true}
+use Rattle.rules.proofs.Closure.{exact}
+use Rattle.rules.proofs.Exported.{exported, returned}
+use Rattle.rules.proofs.JobLaws.{checked_texts, marked_texts, unlisted_texts}
+use Rattle.rules.proofs.LabelLaws as LabelLaws
+use Rattle.rules.proofs.Places.{listing_placed, label_part_lem, tests_placed}
+use Rattle.rules.proofs.ProgramLaws.{read_well_formed}
+use Rattle.rules.proofs.ReadBack.{written_passes}
+use Rattle.rules.proofs.Refused as Refused
+use Rattle.rules.proofs.Search.{search_exact}
+use Rattle.rules.proofs.Selection.{selection_exact}
+use Rattle.rules.proofs.SheetLayout.{check_exact}
+use Rattle.rules.proofs.StoredSheets.{former_is}
+use Rattle.rules.proofs.Words as Words
+use Rattle.rules.proofs.WriteProgram.{reads_layout}
+use Rattle.rules.proofs.WriteSuite.{reads_suite_layout}
+use Rattle.rules.proofs.Written.{written_exactly}
 
 -- ---- demand 1
 

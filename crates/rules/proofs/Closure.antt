@@ -23,10 +23,10 @@ use Rattle.rules.specs.Closing.{ExitsMet, MayGoOn, alike, fits, kept_by, Pair, f
 use Rattle.rules.specs.Sheet.{selected}
 use Rattle.rules.specs.Check.{entered, edge_kept, edges_kept, rule1, rule2, rule3, rule4, rule5, broken}
 use Rattle.rules.specs.Promises.{Exact}
-use Rattle.rules.specs.Proofs.ClosingLaws.{alike_bare, danger_old, fits_ends, fits_of, fits_word, kept_at, kept_of, opposite_at, unkept_at, opposite_of}
-use Rattle.rules.specs.Proofs.GraphLaws.{same_kind_true, same_kind_of, entry_is, called_below, taken_at}
-use Rattle.rules.specs.Proofs.AfterLaws.{after_iff}
-use Rattle.rules.specs.Proofs.TextLaws.{empty_true}
+use Rattle.rules.proofs.ClosingLaws.{alike_bare, danger_old, fits_ends, fits_of, fits_word, kept_at, kept_of, opposite_at, unkept_at, opposite_of}
+use Rattle.rules.proofs.GraphLaws.{same_kind_true, same_kind_of, entry_is, called_below, taken_at}
+use Rattle.rules.proofs.AfterLaws.{after_iff}
+use Rattle.rules.proofs.TextLaws.{empty_true}
 
 pick_none : (l : List (ℕ × ℕ)) → pick (λ n k. false) l ≡ []
 unfolding pick

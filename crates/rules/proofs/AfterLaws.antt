@@ -16,7 +16,7 @@ use Rattle.rules.specs.Text.{Bytes}
 use Rattle.rules.specs.Graph.{Kind, E, S, C, X, Program, WellFormed, called, callee_at, callee_count, dash, degree, edge_count, edge_taken, entry, its_edge, kind_at, label_at, node_count, owner_at, same_kind, source_at, target_at}
 use Rattle.rules.specs.Run.{Config, Meaning, OpenCall, across, another, calling, crossing, edge_ahead, list_of, step, step_at, trail}
 use Rattle.rules.specs.After.{After, Leads, leaves_end, enters_callee, leaves_callee, edges_after, resumes_at, goes_on_from, leads}
-use Rattle.rules.specs.Proofs.GraphLaws.{same_kind_of, same_kind_true, some_name, taken_at, entry_is, called_below}
+use Rattle.rules.proofs.GraphLaws.{same_kind_of, same_kind_true, some_name, taken_at, entry_is, called_below}
 
 -- ---- by computation
 

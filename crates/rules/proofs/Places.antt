@@ -15,9 +15,9 @@ use Rattle.rules.specs.SuiteFile.{TestLine, TestListing, finish_suite, no_test, 
 use Rattle.rules.specs.Job.{Version, label_part}
 use Rattle.rules.specs.Layout.{kind_field, line_of_node, line_of_proc}
 use Rattle.rules.specs.Places.{Part, Placed, Starts, OnLines, TestsPlaced}
-use Rattle.rules.specs.Proofs.ProgramLaws.{Formed, formed, closing_begun, finished}
-use Rattle.rules.specs.Proofs.SuiteLaws.{TestFormed, test_formed}
-use Rattle.rules.specs.Proofs.TextLaws.{empty_true, nothing_ended, unless_accepted, accepted_same, then_accepted, join_split, lines_ended}
+use Rattle.rules.proofs.ProgramLaws.{Formed, formed, closing_begun, finished}
+use Rattle.rules.proofs.SuiteLaws.{TestFormed, test_formed}
+use Rattle.rules.proofs.TextLaws.{empty_true, nothing_ended, unless_accepted, accepted_same, then_accepted, join_split, lines_ended}
 
 -- ---- reading, with the number and the offset of each line
 

@@ -11,7 +11,7 @@ use Rattle.laws.specs.Tests.{◌and◌, first, count, or_else}
 use Rattle.laws.specs.TestLaws.{and_left, and_right, and_both, eqb_self, first_at, first_only, count_one}
 use Rattle.rules.specs.Text.{Bytes, between, is_name, name_count, name_in, names_in, same}
 use Rattle.rules.specs.Graph.{Kind, E, S, C, X, Program, WellFormed, name_at, owner_at, kind_at, callee_at, callee_count, callee_name, source_at, word_at, proc_count, node_count, edge_count, dash, kind_number, same_kind, or_zero, is_of, entry, exit, proc_of, called, leaves, edge_taken, degree, worded, edge_with, star}
-use Rattle.rules.specs.Proofs.TextLaws.{same_of, same_true, split_cons}
+use Rattle.rules.proofs.TextLaws.{same_of, same_true, split_cons}
 
 kind_of : ℕ → Kind
 kind_of zero = E

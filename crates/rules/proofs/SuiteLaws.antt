@@ -7,7 +7,7 @@ use Rattle.laws.specs.Lists.{snoc_length, snoc_cases, snoc_old, snoc_new, snoc_a
 use Rattle.rules.specs.Text.{Bytes, same, bytes, max_tests, fields_of, is_name, accepted}
 use Rattle.rules.specs.SuiteFile.{Suite, TestListing, no_tests, test_count, test_name, coverage_at, TestLine, test_line, no_test, test_form, bits_of, row_fine, tested, add_test, take_test, step_suite, finish_suite, read_tests, read_suite}
 use Rattle.rules.specs.Closing.{Coverage}
-use Rattle.rules.specs.Proofs.TextLaws.{same_true, same_of, unless_accepted, accepted_same, then_accepted, text_holds}
+use Rattle.rules.proofs.TextLaws.{same_true, same_of, unless_accepted, accepted_same, then_accepted, text_holds}
 
 -- What is read of a test file keeps, where the old program has m edges.
 pub record SoundSuite (m : ℕ) (s : Suite) : Type 0 where
