@@ -1,0 +1,32 @@
+use borrow.Author.Rules.{rules}
+use Rattle.after.proofs.All.{all}
+use Rattle.after.specs.State.{Sized}
+use Rattle.after.proofs.Adding.{Adding}
+use Rattle.after.proofs.add_leaving.Goals as goal
+
+pub last_edge-place-requires : goal.last_edge-place-requires
+last_edge-place-requires c = search (all, rules)
+
+pub loop-place-init : goal.loop-place-init
+loop-place-init c = search (all, rules)
+
+pub overflow_sub-e : goal.overflow_sub-e
+overflow_sub-e c = search (all, rules)
+
+pub set_bit-requires : goal.set_bit-requires
+set_bit-requires c = search (all, rules)
+
+pub edge_before-place-requires : goal.edge_before-place-requires
+edge_before-place-requires c = search (all, rules)
+
+pub loop-place-smaller : goal.loop-place-smaller
+loop-place-smaller c = search (all, rules)
+
+pub loop-place-preserved : goal.loop-place-preserved
+loop-place-preserved c = search (all, rules)
+
+pub shape_of-set : goal.shape_of-set
+shape_of-set c = search (all, rules)
+
+pub returns : goal.returns
+returns c = search (all, rules)

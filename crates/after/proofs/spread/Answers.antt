@@ -1,0 +1,6 @@
+use borrow.Author.Rules.{rules}
+use Rattle.after.proofs.All.{all}
+use Rattle.after.proofs.spread.Goals as goal
+
+pub returns : goal.returns
+returns c = search (all, rules)

@@ -1,0 +1,15 @@
+use borrow.Author.Rules.{rules}
+use Rattle.reader.proofs.All.{all}
+use Rattle.reader.proofs.finish.Goals as goal
+
+pub returns-then-procs-eq0 : goal.returns-then-procs-eq0
+returns-then-procs-eq0 c = search (all, rules)
+
+pub returns-then-line-ne0 : goal.returns-then-line-ne0
+returns-then-line-ne0 c = search (all, rules)
+
+pub returns-then-complete : goal.returns-then-complete
+returns-then-complete c = search (all, rules)
+
+pub returns : goal.returns
+returns c = search (all, rules)

@@ -1,0 +1,11 @@
+use Rattle.reader.proofs.All.{all}
+use Prim.Native.Nat.{◌-◌}
+use lib.ListN.{length}
+use Rattle.reader.proofs.Turns.{Head, line_room}
+use Rattle.reader.proofs.read_lines.Given as goal
+
+abbrev pub invariant-loop-at : goal.invariant-loop-at
+invariant-loop-at l = Head l.text l.initial.work l.at l.line l.had l.work
+
+abbrev pub decreases-loop-at : goal.decreases-loop-at
+decreases-loop-at l = length l.text - l.at
