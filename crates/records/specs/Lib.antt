@@ -2,4 +2,3 @@ pub mod Nodes
 pub mod NodeLaws
 pub mod Jobs
 pub mod Shown
-pub mod Walking

@@ -1,0 +1,33 @@
+use borrow.Author.Rules.{rules}
+use Rattle.probes.proofs.All.{all}
+use mathlib.Core.Path.{◌≡◌}
+use lib.ListN.{length}
+use Rattle.probes.proofs.Starts.{PartsFrom}
+use Rattle.probes.proofs.part_at.Goals as goal
+
+pub joins-f-requires : goal.joins-f-requires
+joins-f-requires c = search (all, rules)
+
+pub loop-f-init : goal.loop-f-init
+loop-f-init c = search (all, rules)
+
+pub overflow_sub-x : goal.overflow_sub-x
+overflow_sub-x c = search (all, rules)
+
+pub set_bit-requires : goal.set_bit-requires
+set_bit-requires c = search (all, rules)
+
+pub joins_before-f-requires : goal.joins_before-f-requires
+joins_before-f-requires c = search (all, rules)
+
+pub loop-f-smaller : goal.loop-f-smaller
+loop-f-smaller c = search (all, rules)
+
+pub loop-f-preserved : goal.loop-f-preserved
+loop-f-preserved c = search (all, rules)
+
+pub shape_of-set : goal.shape_of-set
+shape_of-set c = search (all, rules)
+
+pub returns : goal.returns
+returns c = search (all, rules)

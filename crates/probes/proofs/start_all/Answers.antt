@@ -1,0 +1,28 @@
+use borrow.Author.Rules.{rules}
+use Rattle.probes.proofs.All.{all}
+use mathlib.Core.Path.{◌≡◌}
+use Prim.Native.Nat.{◌≤◌, ◌-◌}
+use lib.ListN.{length}
+use Rattle.probes.specs.Starts.{AllStart}
+use Rattle.probes.proofs.start_all.Goals as goal
+
+pub loop-e-init : goal.loop-e-init
+loop-e-init c = search (all, rules)
+
+pub start-requires : goal.start-requires
+start-requires c = search (all, rules)
+
+pub overflow_add-e : goal.overflow_add-e
+overflow_add-e c = search (all, rules)
+
+pub loop-e-smaller : goal.loop-e-smaller
+loop-e-smaller c = search (all, rules)
+
+pub loop-e-preserved : goal.loop-e-preserved
+loop-e-preserved c = search (all, rules)
+
+pub shape_of-set : goal.shape_of-set
+shape_of-set c = search (all, rules)
+
+pub returns : goal.returns
+returns c = search (all, rules)

@@ -1,0 +1,6 @@
+use borrow.Author.Rules.{rules}
+use Rattle.writeback.proofs.All.{all}
+use Rattle.writeback.proofs.put_procedure.Goals as goal
+
+pub returns : goal.returns
+returns c = search (all, rules)
