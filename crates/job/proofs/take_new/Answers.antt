@@ -15,4 +15,4 @@ pub returns-then-number-ne0 : goal.returns-then-number-ne0
 returns-then-number-ne0 c = search (all, rules)
 
 pub returns : goal.returns
-returns c = new_done _ _ _ _ _ _ _ c.new_due-due.ensures c.if-due-ne0.false _ _ c.read_into-had.ensures _ _ _ refl c.if-number-ne0.false (subst (λ (k : ℕ). 8128 ≤ k) (sym c.read_into-had.auto.1.0) (new_room _ _ _ _ _ _ c.new_due-due.ensures c.if-due-ne0.false)) c.copy_links.ensures c.with_new.ensures
+returns c = new_done _ _ _ _ _ _ _ c.new_due-due.ensures c.if-due-ne0.false _ _ c.read_into-had.ensures _ _ _ refl c.if-number-ne0.false (subst (λ (k : ℕ). 8128 ≤ k) (sym c.read_into-had.auto.work) (new_room _ _ _ _ _ _ c.new_due-due.ensures c.if-due-ne0.false)) c.copy_links.ensures c.with_new.ensures

@@ -1,0 +1,10 @@
+use Rattle.job_calls.proofs.Laws.{shown_is}
+use Rattle.job_calls.proofs.label_shown.Goals as goal
+
+pub returns : goal.returns
+returns c =
+    shown_is
+    c.args.job.now c.args.ot.now c.args.on.now c.args.ol.now c.args.nt.now c.args.nn.now c.args.nl.now c.args.tt.now c.args.tests.now c.args.rows.now
+    c.args.scratch.now c.load_both.new.out c.load_both.ensures
+    c.args.side c.args.node c.label_on-found.result c.shown_part.result.now c.label_on-found.new.w
+    c.label_on-found.ensures.0 c.label_on-found.ensures.1 c.shown_part.ensures
