@@ -24,8 +24,7 @@ use requests::Request;
 // ---- reading
 
 // Reads the old program.
-#[unsafe(no_mangle)]
-pub extern "C" fn ry_read_old(old: &[u8]) -> u64
+pub fn ry_read_old(old: &[u8]) -> u64
     ensures { result ≡ packed (read_old_answer old.now) }
 {
     let mut work = [0usize; 8128];
@@ -34,8 +33,7 @@ pub extern "C" fn ry_read_old(old: &[u8]) -> u64
 }
 
 // Reads the old program, then the new one.
-#[unsafe(no_mangle)]
-pub extern "C" fn ry_read_new(old: &[u8], new: &[u8]) -> u64
+pub fn ry_read_new(old: &[u8], new: &[u8]) -> u64
     ensures { result ≡ packed (read_new_answer old.now new.now) }
 {
     let mut work = [0usize; 8128];
@@ -48,8 +46,7 @@ pub extern "C" fn ry_read_new(old: &[u8], new: &[u8]) -> u64
 }
 
 // Reads the old program, the new one and the tests.
-#[unsafe(no_mangle)]
-pub extern "C" fn ry_read_tests(old: &[u8], new: &[u8], tt: &[u8]) -> u64
+pub fn ry_read_tests(old: &[u8], new: &[u8], tt: &[u8]) -> u64
     ensures { result ≡ packed (read_tests_answer old.now new.now tt.now) }
 {
     let mut ow = [0usize; 8128];
@@ -90,8 +87,7 @@ fn whole_job(
 }
 
 // Writes the sheet that the selector gives.
-#[unsafe(no_mangle)]
-pub extern "C" fn ry_sheet(old: &[u8], new: &[u8], tt: &[u8], out: &mut [u8]) -> u64
+pub fn ry_sheet(old: &[u8], new: &[u8], tt: &[u8], out: &mut [u8]) -> u64
     ensures value { result ≡ packed (sheet_answer old.now new.now tt.now (length out.old)) }
     ensures out_after { out.new ≡ output_after (sheet_answer old.now new.now tt.now (length out.old)) out.old }
 {
@@ -100,8 +96,7 @@ pub extern "C" fn ry_sheet(old: &[u8], new: &[u8], tt: &[u8], out: &mut [u8]) ->
 }
 
 // Writes the record line of a test, by its number.
-#[unsafe(no_mangle)]
-pub extern "C" fn ry_record(old: &[u8], new: &[u8], tt: &[u8], test: usize, out: &mut [u8]) -> u64
+pub fn ry_record(old: &[u8], new: &[u8], tt: &[u8], test: usize, out: &mut [u8]) -> u64
     ensures value { result ≡ packed (record_answer old.now new.now tt.now test (length out.old)) }
     ensures out_after { out.new ≡ output_after (record_answer old.now new.now tt.now test (length out.old)) out.old }
 {
@@ -110,8 +105,7 @@ pub extern "C" fn ry_record(old: &[u8], new: &[u8], tt: &[u8], test: usize, out:
 }
 
 // Checks a sheet, the selector's or another's. Success is to pass.
-#[unsafe(no_mangle)]
-pub extern "C" fn ry_check(old: &[u8], new: &[u8], tt: &[u8], sheet: &[u8]) -> u64
+pub fn ry_check(old: &[u8], new: &[u8], tt: &[u8], sheet: &[u8]) -> u64
     ensures { result ≡ packed (check_answer old.now new.now tt.now sheet.now) }
 {
     let mut none = [0u8; 0];
@@ -120,8 +114,7 @@ pub extern "C" fn ry_check(old: &[u8], new: &[u8], tt: &[u8], sheet: &[u8]) -> u
 }
 
 // Writes the program of a side back: 0 the old one, 1 the new one, and 6 for another.
-#[unsafe(no_mangle)]
-pub extern "C" fn ry_program(old: &[u8], new: &[u8], tt: &[u8], side: usize, out: &mut [u8]) -> u64
+pub fn ry_program(old: &[u8], new: &[u8], tt: &[u8], side: usize, out: &mut [u8]) -> u64
     ensures value { result ≡ packed (program_answer old.now new.now tt.now side (length out.old)) }
     ensures out_after { out.new ≡ output_after (program_answer old.now new.now tt.now side (length out.old)) out.old }
 {
@@ -130,8 +123,7 @@ pub extern "C" fn ry_program(old: &[u8], new: &[u8], tt: &[u8], side: usize, out
 }
 
 // Writes the list of probes: a line `Q,edge` for each new edge that needs one.
-#[unsafe(no_mangle)]
-pub extern "C" fn ry_probes(old: &[u8], new: &[u8], tt: &[u8], out: &mut [u8]) -> u64
+pub fn ry_probes(old: &[u8], new: &[u8], tt: &[u8], out: &mut [u8]) -> u64
     ensures value { result ≡ packed (probes_answer old.now new.now tt.now (length out.old)) }
     ensures out_after { out.new ≡ output_after (probes_answer old.now new.now tt.now (length out.old)) out.old }
 {
@@ -142,16 +134,14 @@ pub extern "C" fn ry_probes(old: &[u8], new: &[u8], tt: &[u8], out: &mut [u8]) -
 // ==== the lent job: after a refusal the job and the tables are as they were; the scratch is zero after every call
 
 // Makes the job a fresh one, at stage 0.
-#[unsafe(no_mangle)]
-pub extern "C" fn ry_job_reset(job: &mut Job)
+pub fn ry_job_reset(job: &mut Job)
     ensures { job.new ≡ fresh }
 {
     *job = records::fresh_job();
 }
 
 // Reads the old program, at stage 0, into `nodes` and `links`.
-#[unsafe(no_mangle)]
-pub extern "C" fn ry_job_read_old(
+pub fn ry_job_read_old(
     job: &mut Job,
     old: &[u8],
     nodes: &mut [Node],
@@ -167,8 +157,7 @@ pub extern "C" fn ry_job_read_old(
 }
 
 // Reads the new program, at stage 1, with the old version as it was read.
-#[unsafe(no_mangle)]
-pub extern "C" fn ry_job_read_new(
+pub fn ry_job_read_new(
     job: &mut Job,
     old: &[u8],
     old_nodes: &[Node],
@@ -197,8 +186,7 @@ pub extern "C" fn ry_job_read_new(
 }
 
 // Reads the tests, at stage 2, with both versions as they were read.
-#[unsafe(no_mangle)]
-pub extern "C" fn ry_job_read_tests(
+pub fn ry_job_read_tests(
     job: &mut Job,
     old: &[u8],
     old_nodes: &[Node],
@@ -233,8 +221,7 @@ pub extern "C" fn ry_job_read_tests(
 }
 
 // Does what is asked of a job at stage 3, by the number of the request and two numbers that it may use; `input` is the text that it comes with.
-#[unsafe(no_mangle)]
-pub extern "C" fn ry_job_call(
+pub fn ry_job_call(
     job: &mut Job,
     old: &[u8],
     old_nodes: &[Node],
@@ -277,8 +264,7 @@ pub extern "C" fn ry_job_call(
 }
 
 // Where the label of a node stands in the old text (side 0) or in the new one (side 1): start * 4,294,967,296 + length, 0 when refused.
-#[unsafe(no_mangle)]
-pub extern "C" fn ry_job_label<'a>(
+pub fn ry_job_label<'a>(
     job: &mut Job,
     old: &'a [u8],
     old_nodes: &[Node],
