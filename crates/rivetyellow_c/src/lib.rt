@@ -147,7 +147,9 @@ pub extern "C" fn ry_job_read_tests(
 ) -> u64
     ensures { ReadTests job.old (lent old.now old_nodes.now old_links.now) (lent new.now new_nodes.now new_links.now) text.now tests.old rows.old scratch.old result job.new tests.new rows.new scratch.new }
 {
-    rivetyellow::ry_job_read_tests(job, old, old_nodes, old_links, new, new_nodes, new_links, text, tests, rows, scratch)
+    rivetyellow::ry_job_read_tests(
+        job, old, old_nodes, old_links, new, new_nodes, new_links, text, tests, rows, scratch,
+    )
 }
 
 // Does what is asked of a job at stage 3, by the number of the request and two numbers that it may use; `input` is the text that it comes with.
@@ -172,7 +174,10 @@ pub extern "C" fn ry_job_call(
 ) -> u64
     ensures { Called (lent_call (request_by request a b) (lent_job job.old (lent old.now old_nodes.now old_links.now) (lent new.now new_nodes.now new_links.now) text.now tests.now rows.now (length scratch.old)) input.now (length out.old)) result job.old job.new scratch.old scratch.new out.old out.new }
 {
-    rivetyellow::ry_job_call(job, old, old_nodes, old_links, new, new_nodes, new_links, text, tests, rows, request, a, b, input, scratch, out)
+    rivetyellow::ry_job_call(
+        job, old, old_nodes, old_links, new, new_nodes, new_links, text, tests, rows, request, a,
+        b, input, scratch, out,
+    )
 }
 
 // Where the label of a node stands in the old text (side 0) or in the new one (side 1): start * 4,294,967,296 + length, 0 when refused.
@@ -194,5 +199,8 @@ pub extern "C" fn ry_job_label<'a>(
 ) -> u64
     ensures { Found (label_span_call (lent_job job.old (lent old.now old_nodes.now old_links.now) (lent new.now new_nodes.now new_links.now) text.now tests.now rows.now (length scratch.old)) side node) result job.old job.new scratch.old scratch.new }
 {
-    rivetyellow::ry_job_label(job, old, old_nodes, old_links, new, new_nodes, new_links, text, tests, rows, side, node, scratch)
+    rivetyellow::ry_job_label(
+        job, old, old_nodes, old_links, new, new_nodes, new_links, text, tests, rows, side, node,
+        scratch,
+    )
 }

@@ -11,8 +11,9 @@ loop-i-init c = (search rules, loaded_none c.args.nodes.now _ _)
 
 pub loop-i-preserved : goal.loop-i-preserved
 loop-i-preserved c =
-    let here : c.loop-i.i < length c.args.nodes.now = omega (arith, min-le_right c.args.n (length c.args.nodes.now)) in
-    (search rules,
-    c.put_row.ensures
-    ∙ ap (λ (t : List ℕ). sets t (c.args.at + 4 * c.loop-i.i) (row (get_or c.args.nodes.now c.loop-i.i blank))) c.loop-i.invariant.1
-    ∙ loaded_more _ _ _ _ here)
+    let here : c.loop-i.i < length c.args.nodes.now = omega (arith, min-le_right c.args.n (length c.args.nodes.now)) in (
+      search rules,
+      c.put_row.ensures
+          ∙ ap (λ (t : List ℕ). sets t (c.args.at + 4 * c.loop-i.i) (row (get_or c.args.nodes.now c.loop-i.i blank))) c.loop-i.invariant.1
+          ∙ loaded_more _ _ _ _ here,
+    )
