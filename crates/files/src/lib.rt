@@ -1,9 +1,14 @@
 // What the programs share: files that arguments name, cases in a file, outputs, and numbers in print.
 #![tactic(auto)]
 
-ghost use Rattle.std.specs.Prelude.{◌≡◌, [], drop, get_or};
+ghost use Rattle.std.specs.Prelude.{◌≡◌, [], ◌++◌, ◌∷◌, ◌≤◌, ◌<◌, drop, take, get_or, length, codes, decimal, IfOk, OnOk};
+ghost use Rattle.std.specs.Io.KnownBytes.{Appends, Consumes, IsAtEnd};
 ghost use Rattle.rules.specs.Text.{all_bytes, split};
 ghost use Rattle.files.specs.Marks.{is_mark};
+
+use std::io::{ErrorKind, Read, Write};
+use std::rt::{Env, Files};
+use std::{env, fs, io};
 
 // What came of a file: whether it could be read, and how many bytes stand at the start of the buffer.
 #[derive(Clone, Copy)]
@@ -12,58 +17,82 @@ pub struct Loaded {
     pub size: usize,
 }
 
-// Where a read went wrong, read_full stops as at the end of a file; one read more tells the two apart.
-fn was_read(fd: i32) -> bool {
-    let mut more = [0u8; 1];
-    0 <= libc::read(fd, &mut more)
+// Says on standard error what failed, and why.
+fn fail(rt: &impl Eprint, what: &str, why: &io::Error) -> io::Result<()> {
+    eprintln!(rt; "{what}: {why}")
 }
 
-// Fills the buffer from the open file.
-fn fill_from(fd: i32, path: &[u8], buffer: &mut [u8]) -> Loaded {
-    let size = io::read_full(fd, buffer);
-    let came = was_read(fd);
-    if !came {
-        os::fail(path);
+// Opens the file that the path names. Where it cannot, a line on standard error says why.
+pub fn open<R: Files + Eprint>(rt: &R, path: &str) -> io::Result<Option<R::File>> {
+    match fs::open(rt, path) {
+        Ok(file) => Ok(Some(file)),
+        Err(e) => {
+            fail(rt, path, &e)?;
+            Ok(None)
+        }
     }
-    Loaded { came, size }
+}
+
+// Fills the buffer, and answers how many bytes came: fewer than it has room for only where the input ends.
+fn read_full<R: Read>(reader: &mut R, buffer: &mut [u8]) -> io::Result<usize>
+    ensures within { IfOk result (λ n. n ≤ length buffer.new) }
+    ensures bytes { IfOk result (λ n. Consumes (R.remaining reader.old) (R.remaining reader.new) (take n buffer.new)) }
+    ensures end { IfOk result (λ n. n < length buffer.new → IsAtEnd (R.remaining reader.new)) }
+{
+    let mut done = 0;
+    while done < buffer.len() {
+        let n = reader.read(&mut buffer[done..])?;
+        if n == 0 {
+            return Ok(done);
+        }
+        done += n;
+    }
+    Ok(done)
 }
 
 // Reads the file that the path names, as far as the buffer goes. Where it cannot, a line on standard error says why.
-fn open(path: &[u8], buffer: &mut [u8]) -> Loaded {
-    let fd = os::open_read(path);
-    if fd < 0 {
-        os::fail(path);
-        return Loaded {
-            came: false,
-            size: 0,
-        };
+fn load_path<R: Files + Eprint>(rt: &R, path: &str, buffer: &mut [u8]) -> io::Result<Loaded> {
+    let nothing = Loaded {
+        came: false,
+        size: 0,
+    };
+    let Some(mut file) = open(rt, path)? else {
+        return Ok(nothing);
+    };
+    match read_full(&mut file, buffer) {
+        Ok(size) => Ok(Loaded { came: true, size }),
+        Err(e) => {
+            fail(rt, path, &e)?;
+            Ok(nothing)
+        }
     }
-    let loaded = fill_from(fd, path, buffer);
-    libc::close(fd);
-    loaded
 }
 
 // The same of the file that argument i names.
-pub fn load(i: usize, buffer: &mut [u8]) -> Loaded {
-    let mut path = io::buffer();
-    let n = os::arg(i, &mut path);
-    if os::errno() != 0 {
-        os::fail(b"argument");
-        return Loaded {
-            came: false,
-            size: 0,
-        };
+pub fn load<R: Files + Env + Eprint + Alloc>(
+    rt: &R,
+    i: usize,
+    buffer: &mut [u8],
+) -> io::Result<Loaded> {
+    match env::args(rt)?.nth(i) {
+        Some(path) => load_path(rt, path.as_str(), buffer),
+        None => {
+            fail(rt, "argument", &io::Error::from(ErrorKind::NotFound))?;
+            Ok(Loaded {
+                came: false,
+                size: 0,
+            })
+        }
     }
-    open(&path[..n], buffer)
 }
 
 // Whether the program was started with n words, its own name among them; else a line on standard error says how it is used.
-pub fn has_args(n: usize, usage: &[u8]) -> bool {
-    if os::arg_count() == n {
-        return true;
+pub fn has_args<R: Env + Eprint + Alloc>(rt: &R, n: usize, usage: &str) -> io::Result<bool> {
+    if env::args(rt)?.len() == n {
+        return Ok(true);
     }
-    io::write_all(libc::STDERR_FILENO, usage);
-    false
+    eprint!(rt; "{usage}")?;
+    Ok(false)
 }
 
 // ---- cases, one after another in a file
@@ -95,11 +124,15 @@ pub fn six_digits(s: &[u8]) -> usize {
 }
 
 // Reads the next n bytes into the buffer, if it has room for them, and answers how many came.
-pub fn fill(fd: i32, buffer: &mut [u8], n: usize) -> usize {
+pub fn fill<R: Read>(reader: &mut R, buffer: &mut [u8], n: usize) -> io::Result<usize>
+    ensures within { IfOk result (λ m. m ≤ n) }
+    ensures bytes { IfOk result (λ m. Consumes (R.remaining reader.old) (R.remaining reader.new) (take m buffer.new)) }
+    ensures end { n ≤ length buffer.old → IfOk result (λ m. m < n → IsAtEnd (R.remaining reader.new)) }
+{
     if buffer.len() < n {
-        return 0;
+        return Ok(0);
     }
-    io::read_full(fd, &mut buffer[..n])
+    read_full(reader, &mut buffer[..n])
 }
 
 // ---- outputs that were filled with 170
@@ -121,15 +154,24 @@ pub fn untouched(out: &[u8], from: usize) -> bool
 // ---- print
 
 // Prints a comma and the number.
-pub fn print_field(n: usize) {
-    io::write_all(libc::STDOUT_FILENO, b",");
-    io::print_decimal(libc::STDOUT_FILENO, n as u64);
+pub fn print_field<W: Write>(to: &mut W, n: usize) -> io::Result<()>
+    ensures { OnOk result (Appends (W.contents to.old) (W.contents to.new) (codes "," ++ decimal n)) }
+{
+    write!(to, ",{n}")
 }
 
 // Prints a line: the word, and the number and place of an answer.
-pub fn print_answer(word: &[u8], number: usize, place: usize) {
-    io::write_all(libc::STDOUT_FILENO, word);
-    print_field(number);
-    print_field(place);
-    io::write_all(libc::STDOUT_FILENO, b"\n");
+pub fn print_answer<W: Write>(
+    to: &mut W,
+    word: &[u8],
+    number: usize,
+    place: usize,
+) -> io::Result<()>
+    ensures { OnOk result (Appends (W.contents to.old) (W.contents to.new)
+        (word.now ++ (codes "," ++ decimal number) ++ (codes "," ++ decimal place) ++ codes "\n")) }
+{
+    to.write_all(word)?;
+    print_field(to, number)?;
+    print_field(to, place)?;
+    to.write_all(b"\n")
 }

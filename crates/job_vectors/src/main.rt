@@ -7,7 +7,8 @@
 // six digits and a blank each, and a name of at most 32 bytes without blanks, with blanks up to 63 bytes, and byte 10.
 #![tactic(auto)]
 
-use libc::STDOUT_FILENO;
+use std::io;
+use std::io::{Read, Write};
 
 // The number and the place of an answer.
 fn number_of(answer: u64) -> usize {
@@ -19,44 +20,58 @@ fn place_of(answer: u64) -> usize {
 }
 
 // Prints the record line of the test i, and says whether there is one.
-fn one_record(old: &[u8], new: &[u8], tests: &[u8], i: usize, out: &mut [u8]) -> bool {
+fn one_record<W: Write>(
+    to: &mut W,
+    old: &[u8],
+    new: &[u8],
+    tests: &[u8],
+    i: usize,
+    out: &mut [u8],
+) -> io::Result<bool> {
     let answer = rivetyellow::ry_record(old, new, tests, i, out);
     if number_of(answer) != 0 {
-        return false;
+        return Ok(false);
     }
-    io::write_all(STDOUT_FILENO, text::front(out, place_of(answer)))
+    to.write_all(text::front(out, place_of(answer)))?;
+    Ok(true)
 }
 
 // Prints the record lines of all tests. There are no more than 200.
-fn all_records(old: &[u8], new: &[u8], tests: &[u8], out: &mut [u8]) {
-    let mut i = 0;
-    while i < 201 && one_record(old, new, tests, i, out) {
-        i += 1;
+fn all_records<W: Write>(
+    to: &mut W,
+    old: &[u8],
+    new: &[u8],
+    tests: &[u8],
+    out: &mut [u8],
+) -> io::Result<()> {
+    for i in 0..201 {
+        if !one_record(to, old, new, tests, i, out)? {
+            return Ok(());
+        }
     }
+    Ok(())
 }
 
 // Makes every byte 170.
 fn fill_out(out: &mut [u8]) {
-    let mut i = 0;
-    while i < out.len() {
-        out[i] = 170;
-        i += 1;
+    for b in out.iter_mut() {
+        *b = 170;
     }
 }
 
-fn print_room(word: &[u8], answer: u64, is_kept: bool) {
-    io::write_all(STDOUT_FILENO, word);
-    files::print_field(number_of(answer));
-    files::print_field(place_of(answer));
+fn print_room<W: Write>(to: &mut W, word: &[u8], answer: u64, is_kept: bool) -> io::Result<()> {
+    to.write_all(word)?;
+    files::print_field(to, number_of(answer))?;
+    files::print_field(to, place_of(answer))?;
     if is_kept {
-        io::write_all(STDOUT_FILENO, b",kept\n");
-        return;
+        return to.write_all(b",kept\n");
     }
-    io::write_all(STDOUT_FILENO, b",altered\n");
+    to.write_all(b",altered\n")
 }
 
 // What is answered for an output of n bytes, and whether the bytes of `out` from the place on stay.
-fn one_room(
+fn one_room<W: Write>(
+    to: &mut W,
     old: &[u8],
     new: &[u8],
     tests: &[u8],
@@ -64,43 +79,61 @@ fn one_room(
     n: usize,
     from: usize,
     word: &[u8],
-) {
+) -> io::Result<()> {
     if out.len() < n {
-        return;
+        return Ok(());
     }
     fill_out(out);
     let answer = rivetyellow::ry_sheet(old, new, tests, &mut out[..n]);
-    print_room(word, answer, files::untouched(out, from));
+    print_room(to, word, answer, files::untouched(out, from))
 }
 
 // The same for one byte short of the n that were written, and for n.
-fn rooms(old: &[u8], new: &[u8], tests: &[u8], out: &mut [u8], n: usize) {
+fn rooms<W: Write>(
+    to: &mut W,
+    old: &[u8],
+    new: &[u8],
+    tests: &[u8],
+    out: &mut [u8],
+    n: usize,
+) -> io::Result<()> {
     if n == 0 {
-        return;
+        return Ok(());
     }
-    one_room(old, new, tests, out, n - 1, 0, b"short");
-    one_room(old, new, tests, out, n, n, b"exact");
+    one_room(to, old, new, tests, out, n - 1, 0, b"short")?;
+    one_room(to, old, new, tests, out, n, n, b"exact")
 }
 
 // Prints all that the selector writes for the texts, or its refusal.
-fn selection(old: &[u8], new: &[u8], tests: &[u8], out: &mut [u8]) {
+fn selection<W: Write>(
+    to: &mut W,
+    old: &[u8],
+    new: &[u8],
+    tests: &[u8],
+    out: &mut [u8],
+) -> io::Result<()> {
     let answer = rivetyellow::ry_sheet(old, new, tests, out);
     let number = number_of(answer);
     let place = place_of(answer);
     if number != 0 {
-        files::print_answer(b"refused", number, place);
-        return;
+        return files::print_answer(to, b"refused", number, place);
     }
-    io::write_all(STDOUT_FILENO, text::front(out, place));
-    all_records(old, new, tests, out);
-    rooms(old, new, tests, out, place);
+    to.write_all(text::front(out, place))?;
+    all_records(to, old, new, tests, out)?;
+    rooms(to, old, new, tests, out, place)
 }
 
-fn whole_case(old: &[u8], new: &[u8], tests: &[u8], sheet: &[u8]) {
+fn whole_case<W: Write>(
+    to: &mut W,
+    old: &[u8],
+    new: &[u8],
+    tests: &[u8],
+    sheet: &[u8],
+) -> io::Result<()> {
     let mut out = [0u8; 65536];
-    selection(old, new, tests, &mut out);
+    selection(to, old, new, tests, &mut out)?;
     let answer = rivetyellow::ry_check(old, new, tests, sheet);
-    files::print_answer(b"check", number_of(answer), place_of(answer));
+    files::print_answer(to, b"check", number_of(answer), place_of(answer))
 }
 
 // The length of the text k of a case, by its head.
@@ -109,51 +142,51 @@ fn length_of(head: &[u8], k: usize) -> usize {
 }
 
 // Each buffer has one byte more than a text may have.
-fn texts(fd: i32, head: &[u8]) {
+fn texts<R: Read, W: Write>(cases: &mut R, to: &mut W, head: &[u8]) -> io::Result<()> {
     let mut old = [0u8; 65537];
     let mut new = [0u8; 65537];
     let mut tests = [0u8; 65537];
     let mut sheet = [0u8; 65537];
-    let o = files::fill(fd, &mut old, length_of(head, 0));
-    let n = files::fill(fd, &mut new, length_of(head, 1));
-    let t = files::fill(fd, &mut tests, length_of(head, 2));
-    let s = files::fill(fd, &mut sheet, length_of(head, 3));
+    let o = files::fill(cases, &mut old, length_of(head, 0))?;
+    let n = files::fill(cases, &mut new, length_of(head, 1))?;
+    let t = files::fill(cases, &mut tests, length_of(head, 2))?;
+    let s = files::fill(cases, &mut sheet, length_of(head, 3))?;
     whole_case(
+        to,
         text::front(&old, o),
         text::front(&new, n),
         text::front(&tests, t),
         text::front(&sheet, s),
-    );
+    )
 }
 
 // The next case, and whether there was one.
-fn one_case(fd: i32) -> bool {
+fn one_case<R: Read, W: Write>(cases: &mut R, to: &mut W) -> io::Result<bool> {
     let mut head = [0u8; 64];
-    let came = io::read_full(fd, &mut head);
+    let came = files::fill(cases, &mut head, 64)?;
     if came < 64 {
-        return false;
+        return Ok(false);
     }
-    io::write_all(STDOUT_FILENO, b"case,");
-    io::write_all(STDOUT_FILENO, files::field(&head, b' ', 4));
-    io::write_all(STDOUT_FILENO, b"\n");
-    texts(fd, &head);
-    true
+    to.write_all(b"case,")?;
+    to.write_all(files::field(&head, b' ', 4))?;
+    to.write_all(b"\n")?;
+    texts(cases, to, &head)?;
+    Ok(true)
 }
 
 // Nothing says that a file ends, so the cases are counted, from more than there are.
-fn all_cases(fd: i32) {
-    let mut left: u64 = 100000;
-    while left > 0 && one_case(fd) {
-        left -= 1;
+fn all_cases<R: Read, W: Write>(cases: &mut R, to: &mut W) -> io::Result<()> {
+    for _ in 0..100000 {
+        if !one_case(cases, to)? {
+            return Ok(());
+        }
     }
+    Ok(())
 }
 
-fn main() {
-    let fd = os::open_read(b"cases");
-    if fd < 0 {
-        os::fail(b"cases");
-        return;
+fn main(rt: HostRuntime) -> io::Result<()> {
+    match files::open(&rt, "cases")? {
+        Some(mut cases) => all_cases(&mut cases, &mut rt.stdout()),
+        None => Ok(()),
     }
-    all_cases(fd);
-    libc::close(fd);
 }

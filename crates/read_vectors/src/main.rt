@@ -6,27 +6,28 @@
 // byte 10: the lengths of the two texts, of six digits each, and a name of at most 32 bytes without blanks.
 #![tactic(auto)]
 
-use libc::STDOUT_FILENO;
+use std::io;
+use std::io::{Read, Write};
 
-fn refused(name: &[u8], file: &[u8], r: reader::Count) {
-    io::write_all(STDOUT_FILENO, name);
-    io::write_all(STDOUT_FILENO, file);
-    files::print_field(r.number);
-    files::print_field(r.place);
-    io::write_all(STDOUT_FILENO, b"\n");
+fn refused<W: Write>(to: &mut W, name: &[u8], file: &[u8], r: reader::Count) -> io::Result<()> {
+    to.write_all(name)?;
+    files::print_answer(to, file, r.number, r.place)
 }
 
-fn told(name: &[u8], old: reader::Count, new: reader::Count) {
+fn told<W: Write>(
+    to: &mut W,
+    name: &[u8],
+    old: reader::Count,
+    new: reader::Count,
+) -> io::Result<()> {
     if old.number != 0 {
-        refused(name, b",old", old);
-        return;
+        return refused(to, name, b",old", old);
     }
     if new.number != 0 {
-        refused(name, b",new", new);
-        return;
+        return refused(to, name, b",new", new);
     }
-    io::write_all(STDOUT_FILENO, name);
-    io::write_all(STDOUT_FILENO, b",read\n");
+    to.write_all(name)?;
+    to.write_all(b",read\n")
 }
 
 // What the reader says of the text in the first n bytes.
@@ -36,52 +37,49 @@ fn read_front(buffer: &[u8], n: usize) -> reader::Count {
 }
 
 // What the reader says of the text in the next n bytes. The buffer has one byte more than a program file may have.
-fn read_next(fd: i32, n: usize) -> reader::Count {
+fn read_next<R: Read>(cases: &mut R, n: usize) -> io::Result<reader::Count> {
     let mut buffer = [0u8; 65537];
-    let came = files::fill(fd, &mut buffer, n);
-    read_front(&buffer, came)
+    let came = files::fill(cases, &mut buffer, n)?;
+    Ok(read_front(&buffer, came))
 }
 
 // The next case, and whether there was one.
-fn one_case(fd: i32) -> bool {
+fn one_case<R: Read, W: Write>(cases: &mut R, to: &mut W) -> io::Result<bool> {
     let mut head = [0u8; 48];
-    let came = io::read_full(fd, &mut head);
+    let came = files::fill(cases, &mut head, 48)?;
     if came < 48 {
-        return false;
+        return Ok(false);
     }
-    let old = read_next(fd, files::six_digits(files::field(&head, b' ', 0)));
-    let new = read_next(fd, files::six_digits(files::field(&head, b' ', 1)));
-    told(files::field(&head, b' ', 2), old, new);
-    true
+    let old = read_next(cases, files::six_digits(files::field(&head, b' ', 0)))?;
+    let new = read_next(cases, files::six_digits(files::field(&head, b' ', 1)))?;
+    told(to, files::field(&head, b' ', 2), old, new)?;
+    Ok(true)
 }
 
 // Nothing says that a file ends, so the cases are counted, from more than there are.
-fn all_cases(fd: i32) {
-    let mut left: u64 = 100000;
-    while left > 0 && one_case(fd) {
-        left -= 1;
+fn all_cases<R: Read, W: Write>(cases: &mut R, to: &mut W) -> io::Result<()> {
+    for _ in 0..100000 {
+        if !one_case(cases, to)? {
+            return Ok(());
+        }
     }
+    Ok(())
 }
 
 // The line of a kind in the table of degrees.
-fn degrees(kind: &[u8], k: usize) {
+fn degrees<W: Write>(to: &mut W, kind: &[u8], k: usize) -> io::Result<()> {
     let d = reader::degrees_of(k);
-    io::write_all(STDOUT_FILENO, kind);
-    files::print_field(d.fewest);
-    files::print_field(d.most);
-    io::write_all(STDOUT_FILENO, b"\n");
+    files::print_answer(to, kind, d.fewest, d.most)
 }
 
-fn main() {
-    degrees(b"E", 0);
-    degrees(b"S", 1);
-    degrees(b"C", 2);
-    degrees(b"X", 3);
-    let fd = os::open_read(b"cases");
-    if fd < 0 {
-        os::fail(b"cases");
-        return;
+fn main(rt: HostRuntime) -> io::Result<()> {
+    let mut to = rt.stdout();
+    degrees(&mut to, b"E", 0)?;
+    degrees(&mut to, b"S", 1)?;
+    degrees(&mut to, b"C", 2)?;
+    degrees(&mut to, b"X", 3)?;
+    match files::open(&rt, "cases")? {
+        Some(mut cases) => all_cases(&mut cases, &mut to),
+        None => Ok(()),
     }
-    all_cases(fd);
-    libc::close(fd);
 }

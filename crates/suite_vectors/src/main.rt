@@ -5,79 +5,84 @@
 // edges of the old program and the length of the text, of six digits each, and a name of at most 32 bytes without blanks.
 #![tactic(auto)]
 
-use libc::STDOUT_FILENO;
+use std::io;
+use std::io::{Read, Write};
 
 // How many edges each of the first `count` tests covers. No test file that is read has more than 200.
-fn covered(rows: &[u64], count: usize) {
+fn covered<W: Write>(to: &mut W, rows: &[u64], count: usize) -> io::Result<()> {
     if 200 < count {
-        return;
+        return Ok(());
     }
-    let mut i = 0;
-    while i < count {
-        files::print_field(coverage::ones(rows, i));
-        i += 1;
+    for i in 0..count {
+        files::print_field(to, coverage::ones(rows, i))?;
     }
+    Ok(())
 }
 
-fn told(r: suite::Read, rows: &[u64]) {
+fn told<W: Write>(to: &mut W, r: suite::Read, rows: &[u64]) -> io::Result<()> {
     if r.number != 0 {
-        files::print_field(r.number);
-        files::print_field(r.place);
-        return;
+        files::print_field(to, r.number)?;
+        return files::print_field(to, r.place);
     }
-    io::write_all(STDOUT_FILENO, b",read");
-    files::print_field(r.count);
-    covered(rows, r.count);
+    to.write_all(b",read")?;
+    files::print_field(to, r.count)?;
+    covered(to, rows, r.count)
 }
 
 // What the reader says of a text. The tables are full of ones before, so that a word it leaves out is seen in the counts.
-fn read_text(text: &[u8], edges: usize) {
+fn read_text<W: Write>(to: &mut W, text: &[u8], edges: usize) -> io::Result<()> {
     let mut tests = [18446744073709551615usize; 400];
     let mut rows = [18446744073709551615u64; 3200];
     if edges <= 1024 {
         let r = suite::read_tests(text, edges, &mut tests, &mut rows);
-        told(r, &rows);
+        return told(to, r, &rows);
     }
+    Ok(())
 }
 
 // What the reader says of the text in the next n bytes. The buffer has one byte more than a test file may have.
-fn read_next(fd: i32, n: usize, edges: usize) {
+fn read_next<R: Read, W: Write>(
+    cases: &mut R,
+    to: &mut W,
+    n: usize,
+    edges: usize,
+) -> io::Result<()> {
     let mut buffer = [0u8; 65537];
-    let came = files::fill(fd, &mut buffer, n);
-    read_text(text::front(&buffer, came), edges);
+    let came = files::fill(cases, &mut buffer, n)?;
+    read_text(to, text::front(&buffer, came), edges)
 }
 
 // The next case, and whether there was one.
-fn one_case(fd: i32) -> bool {
+fn one_case<R: Read, W: Write>(cases: &mut R, to: &mut W) -> io::Result<bool> {
     let mut head = [0u8; 48];
-    let came = io::read_full(fd, &mut head);
+    let came = files::fill(cases, &mut head, 48)?;
     if came < 48 {
-        return false;
+        return Ok(false);
     }
-    io::write_all(STDOUT_FILENO, files::field(&head, b' ', 2));
+    to.write_all(files::field(&head, b' ', 2))?;
     read_next(
-        fd,
+        cases,
+        to,
         files::six_digits(files::field(&head, b' ', 1)),
         files::six_digits(files::field(&head, b' ', 0)),
-    );
-    io::write_all(STDOUT_FILENO, b"\n");
-    true
+    )?;
+    to.write_all(b"\n")?;
+    Ok(true)
 }
 
 // Nothing says that a file ends, so the cases are counted, from more than there are.
-fn all_cases(fd: i32) {
-    let mut left: u64 = 100000;
-    while left > 0 && one_case(fd) {
-        left -= 1;
+fn all_cases<R: Read, W: Write>(cases: &mut R, to: &mut W) -> io::Result<()> {
+    for _ in 0..100000 {
+        if !one_case(cases, to)? {
+            return Ok(());
+        }
     }
+    Ok(())
 }
 
-fn main() {
-    let fd = os::open_read(b"cases");
-    if fd < 0 {
-        os::fail(b"cases");
-        return;
+fn main(rt: HostRuntime) -> io::Result<()> {
+    match files::open(&rt, "cases")? {
+        Some(mut cases) => all_cases(&mut cases, &mut rt.stdout()),
+        None => Ok(()),
     }
-    all_cases(fd);
-    libc::close(fd);
 }
