@@ -9,7 +9,7 @@ use Rattle.reader.specs.declared.Count.{Count}
 use Rattle.suite.specs.declared.Read.{Read}
 use Rattle.reader.specs.Result.{Small}
 use Rattle.lent_job.specs.Held.{Lent, counted, version_left}
-use Rattle.lent_job.specs.HeldLaws.{version_sound}
+use Rattle.lent_job.proofs.HeldLaws.{version_sound}
 
 -- `version_left`: 0 with the counts, or 14. What its work table holds afterwards is left open.
 unfoldable pub count_left : Option Listing → Count

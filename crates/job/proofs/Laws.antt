@@ -25,9 +25,9 @@ use Rattle.records.specs.Jobs.{fresh, same_job}
 use Rattle.records.specs.Nodes.{nodes_of}
 use Rattle.lent_job.specs.Held.{job_old}
 use Rattle.job.specs.declared.Taken.{Taken}
-use Rattle.lent_job.specs.ReadLaws.{none_due, records_are, roomy_parts}
+use Rattle.lent_job.proofs.ReadLaws.{none_due, records_are, roomy_parts}
 use Rattle.lent_job.specs.ReadOld.{roomy, fresh_due, old_due, program_read, read_answer, records_read, links_read, old_job, ProgramLeftBy, ReadOld, past_due}
-use Rattle.lent_job.specs.Answers.{old_plain}
+use Rattle.lent_job.proofs.Answers.{old_plain}
 use Rattle.job.specs.Taken.{count_read, refused_taken, with_old, taken_of, TakenBy, OldTaken}
 
 -- ---- `long_enough`

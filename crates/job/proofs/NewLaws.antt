@@ -24,13 +24,13 @@ use Rattle.records.specs.Nodes.{flat, nodes_of}
 use Rattle.records.specs.NodeLaws.{flat_length}
 use Rattle.lent_job.specs.Held.{Lent, numbers, lent, version_left, job_old, held_old}
 use Rattle.held.specs.Left.{count_left}
-use Rattle.lent_job.specs.HeldLaws.{front_left}
+use Rattle.lent_job.proofs.HeldLaws.{front_left}
 use Rattle.job.specs.declared.Taken.{Taken}
 use Rattle.lent_job.specs.ReadOld.{roomy, program_read}
 use Rattle.answer.specs.Outcomes.{packing}
-use Rattle.lent_job.specs.Answers.{new_plain}
+use Rattle.lent_job.proofs.Answers.{new_plain}
 use Rattle.job.specs.Taken.{refused_taken, with_old, TakenBy, old_part, NewTaken}
-use Rattle.lent_job.specs.ReadLaws.{none_due, roomy_parts}
+use Rattle.lent_job.proofs.ReadLaws.{none_due, roomy_parts}
 use Rattle.lent_job.specs.ReadNew.{old_held_due, new_due, new_job, with_new, ReadNew}
 use Rattle.job.proofs.Laws.{due_chosen, due_taken, text_refused, text_taken, left_is}
 

@@ -26,12 +26,12 @@ use Rattle.records.specs.Nodes.{flat}
 use Rattle.records.specs.NodeLaws.{flat_length}
 use Rattle.lent_job.specs.Held.{Lent, Versions, numbers, lent, version_left, job_new, held_new}
 use Rattle.held.specs.Left.{count_left}
-use Rattle.lent_job.specs.HeldLaws.{front_left, version_sound}
+use Rattle.lent_job.proofs.HeldLaws.{front_left, version_sound}
 use Rattle.job.specs.declared.Moved.{Moved}
 use Rattle.lent_job.specs.ReadOld.{past_due, roomy}
 use Rattle.job.specs.Taken.{with_old, old_part, new_part, moved_by, MovedBy, TestsTaken}
-use Rattle.lent_job.specs.Answers.{tests_plain}
-use Rattle.lent_job.specs.ReadLaws.{none_due, roomy_parts}
+use Rattle.lent_job.proofs.Answers.{tests_plain}
+use Rattle.lent_job.proofs.ReadLaws.{none_due, roomy_parts}
 use Rattle.lent_job.specs.ReadNew.{with_new}
 use Rattle.lent_job.specs.ReadTests.{both_due, tests_due, suite_read, with_tests, tests_job, names_left, rows_left, ReadTests}
 use Rattle.job.proofs.Laws.{due_chosen}

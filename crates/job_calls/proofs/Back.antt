@@ -26,7 +26,8 @@ use Rattle.writeback.specs.Parts.{parts_same}
 use Rattle.writeback.specs.Back.{back_text}
 use Rattle.lent_job.specs.Held.{AllRead, Lent, numbers}
 use Rattle.lent_job.specs.Calls.{LentJob, given_by, goes_by, held, held_back, lent_job, limited, new_count, old_count, request_scratch, takes_parts, text_back, written_back}
-use Rattle.lent_job.specs.ProgramBack.{Whole, held_back_is}
+use Rattle.lent_job.specs.ProgramBack.{Whole}
+use Rattle.lent_job.proofs.ProgramBack.{held_back_is}
 use Rattle.job_calls.specs.Loaded.{BackAnswer, HeldAnswer, not_held}
 use Rattle.job_calls.proofs.Laws.{fill}
 

@@ -23,7 +23,7 @@ use Rattle.answer.specs.declared.Answer.{Answer}
 use Rattle.answer.specs.Outcomes.{Told, packing, packing_fits, packs, refusal_told, told_as}
 use Rattle.reader.specs.declared.Count.{Count}
 use Rattle.reader.specs.Result.{Small}
-use Rattle.writeback.specs.BackLaws.{back_agrees}
+use Rattle.writeback.proofs.BackLaws.{back_agrees}
 use Rattle.suite.specs.declared.Read.{Read}
 use Rattle.versions.specs.Memory.{InMemory, memory}
 use Rattle.intake.specs.declared.Counts.{Counts}
@@ -38,13 +38,13 @@ use Rattle.records.specs.Nodes.{flat}
 use Rattle.records.specs.NodeLaws.{flat_append, flat_length}
 use Rattle.lent_job.specs.Held.{AllRead, Lent, held_tests, job_at, job_tests, left_by, lent, long_enough, numbers, suite_left, version_left}
 use Rattle.held.specs.Left.{count_small, count_left, read_left}
-use Rattle.lent_job.specs.HeldLaws.{front_left, held_tests_parts, suite_accepted, suite_few, suite_holds, version_memory, version_sound}
+use Rattle.lent_job.proofs.HeldLaws.{front_left, held_tests_parts, suite_accepted, suite_few, suite_holds, version_memory, version_sound}
 use Rattle.records.specs.Shown.{part_shown}
 use Rattle.job_calls.specs.declared.Label.{Label}
 use Rattle.lent_job.specs.Calls.{Called, Found, Kept, LentJob, Shown, given_by, goes_by, goes_held, held, held_back, holding, label_part_call, label_span_call, lent_call, lent_job, limited, new_count, old_count, others_alone, request_scratch, shown_by, span_by, takes_parts, text_back, version_of, written_back}
 use Rattle.job_calls.specs.Loaded.{BackAnswer, CalledOn, HeldAnswer, SpanIs, counts_by, due_counts, label_by_side, label_of_node, loaded_job, no_label, suite_counts, unloaded}
-use Rattle.lent_job.specs.DueLaws.{due_cases}
-use Rattle.lent_job.specs.Answers.{labels_few, lent_plain}
+use Rattle.lent_job.proofs.DueLaws.{due_cases}
+use Rattle.lent_job.proofs.Answers.{labels_few, lent_plain}
 
 -- ---- `suite_due`
 

@@ -1,14 +1,10 @@
 pub mod Held
-pub mod HeldLaws
 pub mod ReadOld
-pub mod ReadLaws
 pub mod ReadNew
 pub mod ReadTests
-pub mod Stages
-pub mod Progress
 pub mod Calls
-pub mod DueLaws
+-- What is promised of the lent job, as statements. Their proofs are in proofs/, under the same names.
+pub mod Progress
 pub mod Answers
-pub mod Refusals
 pub mod ProgramBack
 pub mod Chain

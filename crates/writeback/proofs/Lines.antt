@@ -17,7 +17,7 @@ use Rattle.text.specs.Puts.{Puts, puts_then, puts_length}
 use Rattle.writer.specs.Writes.{Writes, writes_byte, writes_most, writes_none, writes_of, writes_then, writes_length}
 use Rattle.writeback.specs.Parts.{callee_in, label_in, name_in, word_in}
 use Rattle.writeback.specs.Back.{back_text, begins, edge_in, edge_text, edges_text, kind_from, node_in, node_text, nodes_text, proc_text, procedure_text, run_from}
-use Rattle.writeback.specs.BackLaws.{begins_few}
+use Rattle.writeback.proofs.BackLaws.{begins_few}
 
 -- ---- lines
 

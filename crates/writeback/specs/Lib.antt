@@ -1,6 +1,3 @@
 -- A program written back from its tables, and what that says of the text that was read.
 pub mod Parts
 pub mod Back
-pub mod PartLaws
-pub mod Ranges
-pub mod BackLaws

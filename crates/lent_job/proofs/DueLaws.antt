@@ -10,7 +10,7 @@ use Rattle.rules.specs.Job.{of_stage, stage_after}
 use Rattle.rules.proofs.TextLaws.{accepted_same}
 use Rattle.records.specs.declared.Job.{Job}
 use Rattle.lent_job.specs.Held.{AllRead, job_tests}
-use Rattle.lent_job.specs.HeldLaws.{held_tests_parts}
+use Rattle.lent_job.proofs.HeldLaws.{held_tests_parts}
 use Rattle.lent_job.specs.Calls.{LentJob, goes_by, held, request_scratch}
 
 -- The cases, of any claim, where x is what job and tables hold.

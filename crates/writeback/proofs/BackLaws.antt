@@ -24,8 +24,8 @@ use Rattle.versions.specs.MemoryLaws.{kind_is, program_read, source_is, target_i
 use Rattle.writer.specs.Laws.{text_append, text_more}
 use Rattle.writeback.specs.Parts.{behind_label, callee_in, label_in}
 use Rattle.writeback.specs.Back.{back_text, begins, edge_in, edge_text, edges_text, kind_from, node_in, node_text, nodes_text, proc_text, procedure_text, run_from}
-use Rattle.writeback.specs.PartLaws.{callee_cut, label_cut, name_cut, word_cut}
-use Rattle.writeback.specs.Ranges.{first_past, proc_lines_are}
+use Rattle.writeback.proofs.PartLaws.{callee_cut, label_cut, name_cut, word_cut}
+use Rattle.writeback.proofs.Ranges.{first_past, proc_lines_are}
 
 -- ---- runs, and where procedures begin
 

@@ -26,9 +26,9 @@ use Rattle.records.specs.declared.Node.{Node}
 use Rattle.records.specs.Jobs.{same_job, job_self}
 use Rattle.records.specs.Nodes.{flat}
 use Rattle.lent_job.specs.Held.{Lent, Versions, lent, long_enough, left_by, version_left, tests_long, tests_by as suite_by, suite_left, job_old, job_new, job_tests, held_old, held_new, held_tests}
-use Rattle.lent_job.specs.HeldLaws.{procs_of, edges_of, heads_of, sound_of, held_old_parts, held_new_parts}
+use Rattle.lent_job.proofs.HeldLaws.{procs_of, edges_of, heads_of, sound_of, held_old_parts, held_new_parts}
 use Rattle.lent_job.specs.ReadOld.{roomy, fresh_due, old_due, old_read, read_answer, node_records, records_read, links_read, old_job, ProgramLeftBy, ReadOld, past_due}
-use Rattle.lent_job.specs.ReadLaws.{none_due, records_after, roomy_parts}
+use Rattle.lent_job.proofs.ReadLaws.{none_due, records_after, roomy_parts}
 use Rattle.lent_job.specs.ReadNew.{old_held_due, new_due, new_read, new_job, with_new, ReadNew}
 use Rattle.lent_job.specs.ReadTests.{both_due, tests_due, tests_read, with_tests, tests_job, names_left, rows_left, TestsLeftBy, ReadTests}
 

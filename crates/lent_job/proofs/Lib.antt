@@ -1,0 +1,9 @@
+pub mod HeldLaws
+pub mod ReadLaws
+pub mod Stages
+pub mod Progress
+pub mod DueLaws
+pub mod Answers
+pub mod Refusals
+pub mod ProgramBack
+pub mod Chain
