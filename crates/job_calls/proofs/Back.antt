@@ -2,8 +2,8 @@
 use mathlib.Core.Path.{◌≡◌, refl, sym, ap, ap₂, ◌∙◌, subst}
 use mathlib.Core.Bool.{Bool, true, false}
 use mathlib.Core.List.{List}
-use mathlib.Core.Option.{Option, none, some}
-use Prim.Native.Nat.{ℕ, ◌+◌, ◌≤◌, ◌<◌, min}
+use mathlib.Core.Option.{Option, none}
+use Prim.Native.Nat.{ℕ, ◌+◌, ◌≤◌, min}
 use native.Mathlib.Omega.{arith}
 use lib.Dec.{eqb, leb}
 use lib.ListN.{drop, length, length-replicate, replicate, take, take-append-drop}
@@ -12,7 +12,7 @@ use borrow.Author.Tests.{eq-eqb, ne_eqb}
 use Rattle.laws.specs.Tests.{◌and◌, choose}
 use Rattle.laws.specs.Slices.{below_or, sets_append, sets_out}
 use Rattle.rules.specs.Text.{Bytes}
-use Rattle.rules.specs.Job.{Request as Asked, call_request, of_stage, outcome, serving}
+use Rattle.rules.specs.Job.{Request as Asked, of_stage, outcome, serving}
 use Rattle.answer.specs.declared.Answer.{Answer}
 use Rattle.answer.specs.Outcomes.{Told, refusal_told, told_as}
 use Rattle.records.specs.declared.Job.{Job}

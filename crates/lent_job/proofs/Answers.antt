@@ -3,7 +3,7 @@ use Rattle.std.specs.Prelude.{◌≡◌, refl, Bool, true, false, List, [], ◌+
 use Rattle.std.proofs.Common.{sym, ap, ap₂, ◌∙◌, subst, true≢false, arith, length-append, eq-eqb, eqb-true, lt-ltb, ltb-true}
 use Rattle.std.proofs.Math.Option.{Option, none, some}
 use Rattle.std.proofs.Math.Seq.{take-append_seam}
-use Rattle.laws.specs.Tests.{after, choose, has}
+use Rattle.laws.specs.Tests.{after, choose}
 use Rattle.laws.specs.Lists.{choose_no, choose_yes}
 use Rattle.laws.specs.Slices.{below_or}
 use Rattle.rules.specs.Text.{Reading, Bytes, accepted, max_bytes, refused}

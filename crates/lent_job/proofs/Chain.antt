@@ -3,7 +3,6 @@ use Rattle.std.specs.Prelude.{◌≡◌, [], ℕ, ◌≤◌}
 use Rattle.std.proofs.Common.{subst}
 use Rattle.rules.specs.Text.{Bytes, accepted}
 use Rattle.rules.specs.Job.{Given, Request, answering, read_job, written}
-use Rattle.lent_job.specs.Held.{lent}
 use Rattle.lent_job.specs.Progress.{Chain, Succeeds}
 use Rattle.lent_job.proofs.Progress.{chain_succeeds}
 use Rattle.lent_job.specs.Calls.{goes_by, held, lent_call, program_call}

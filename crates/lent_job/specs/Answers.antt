@@ -1,6 +1,6 @@
 -- Past 13 and 14 a request is answered as the definitions over the three texts that it goes by do: those lent, or of a program that is written back those that stand for them
 -- (ProgramBack). So what is proved of those holds of the lent job, demand 3 entire.
-use Rattle.std.specs.Prelude.{◌≡◌, true, false, List, [], ◌∷◌, ◌++◌, ℕ, ◌+◌, ◌/◌, ◌%◌, ◌≤◌, ◌<◌, drop, length, take}
+use Rattle.std.specs.Prelude.{◌≡◌, true, false, List, [], ◌∷◌, ◌++◌, ℕ, ◌/◌, ◌%◌, ◌≤◌, ◌<◌, drop, length, take}
 use Rattle.laws.specs.Tests.{choose, has}
 use Rattle.rules.specs.Text.{Reading, Bytes, accepted, max_bytes, text_of}
 use Rattle.rules.specs.Graph.{edge_count, label_at, node_count}
@@ -9,12 +9,9 @@ use Rattle.rules.specs.SuiteFile.{coverage_at, test_count, test_name}
 use Rattle.rules.specs.Closing.{repeated}
 use Rattle.rules.specs.Sheet.{crossed, left_off, v_text}
 use Rattle.rules.specs.Job.{Given, Request, answering, label_answer, label_shown, packed, packed_span, passed, read_job, read_new_answer, read_old_answer, read_tests_answer, request_by, span_shown, success, wrote}
-use Rattle.rules.specs.Promises.{MarksHold, MarksTrue, RunsAlike, writes}
-use Rattle.rules.proofs.Exported.{written}
+use Rattle.rules.specs.Promises.{MarksHold, MarksTrue, RunsAlike}
 use Rattle.records.specs.declared.Job.{Job}
 use Rattle.lent_job.specs.Held.{AllRead}
-use Rattle.lent_job.specs.ReadOld.{old_read}
-use Rattle.lent_job.specs.ReadNew.{new_read}
 use Rattle.lent_job.specs.Calls.{Called, LentJob, check_call, label_call, label_part_call, label_span_call, lent_call, record_call, sheet_call, takes_parts, version_of, written_back}
 
 -- The texts of a job.

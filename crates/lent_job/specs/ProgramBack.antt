@@ -2,11 +2,10 @@
 use Rattle.std.specs.Prelude.{◌≡◌, ◌↔◌, ℕ, ◌≤◌, ◌<◌, length}
 use Rattle.std.proofs.Math.Bool.{true}
 use Rattle.std.proofs.Math.Option.{some}
-use Rattle.laws.specs.Tests.{◌and◌}
 use Rattle.rules.specs.Text.{Bytes}
 use Rattle.rules.specs.Job.{Request, answering, refusal, write_back, written}
 use Rattle.rules.specs.WriteBack.{other_alone}
-use Rattle.lent_job.specs.Held.{AllRead, lent, numbers}
+use Rattle.lent_job.specs.Held.{AllRead}
 use Rattle.lent_job.specs.Calls.{LentJob, held, held_back, lent_call, request_scratch, with_texts}
 
 -- The texts old and new stand for those lent: reading them leaves this job and these tables, which hold h, and each differs from the lent one in other bytes than names, callees, labels

@@ -1,7 +1,6 @@
 -- The three calls that read, one after the other on a fresh job, each lent enough, and what it is that they succeed.
 use Rattle.std.specs.Prelude.{◌≡◌, List, ℕ, ◌≤◌, length}
 use Rattle.std.proofs.Math.Option.{some}
-use Rattle.laws.specs.Tests.{◌and◌}
 use Rattle.rules.specs.Text.{Bytes}
 use Rattle.rules.specs.Job.{Given, given_of}
 use Rattle.records.specs.declared.Job.{Job}

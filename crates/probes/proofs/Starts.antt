@@ -15,7 +15,6 @@ use Rattle.laws.specs.Bits.{bit_in}
 use Rattle.laws.specs.BitSets.{bit_with, with_size, with_bit}
 use Rattle.laws.specs.Those.{any_more}
 use Rattle.rules.specs.Graph.{edge_count, source_at}
-use Rattle.rules.specs.Closing.{dangers}
 use Rattle.rules.specs.ProgramFile.{Listing}
 use Rattle.rules.proofs.Closure.{dangers_iff, parted_danger}
 use Rattle.graph.specs.Table.{edge_base}

@@ -12,7 +12,7 @@ use Rattle.rules.specs.Text.{Bytes, same, bytes, max_pairs, lines_of, fields_of,
 use Rattle.rules.specs.Graph.{Program, WellFormed, edge_count}
 use Rattle.rules.specs.ProgramFile.{read_program}
 use Rattle.rules.specs.SuiteFile.{Suite, test_count, test_name, coverage_at, read_suite}
-use Rattle.rules.specs.Closing.{pairs, repeated, Coverage, holds, Mark, mark_0, mark_1, mark_?, mark}
+use Rattle.rules.specs.Closing.{pairs, repeated, Coverage, Mark, mark_0, mark_1, mark_?, mark}
 use Rattle.rules.specs.Sheet.{Sheet, selected, r_text, sheet_text, mark_byte, marks_of, crossed, v_text, record_text, among, left_off, SheetLine, head_line, m_line, d_line, r_line, end_line, no_form, sheet_form, SheetRead, no_sheet, all_below, test_of, going, add_r, take_sheet_line, step_sheet, finish_sheet, read_sheet}
 use Rattle.rules.specs.Check.{broken}
 use Rattle.rules.specs.Job.{Given, read_job, Outcome, wrote, refusal, passed, outcome, writing, written, sheet_bytes, record_bytes, sheet_answer, record_answer, judged, check_answer, serving, answering}

@@ -1,7 +1,5 @@
 use borrow.Author.Rules.{rules}
 use Rattle.after.proofs.All.{all}
-use Rattle.after.specs.State.{Sized}
-use Rattle.after.proofs.Adding.{Adding}
 use Rattle.after.proofs.add_leaving.Goals as goal
 
 pub last_edge-place-requires : goal.last_edge-place-requires

@@ -1,4 +1,3 @@
-use Rattle.after.proofs.All.{all}
 use Rattle.after.specs.State.{Sized}
 use Rattle.after.proofs.Adding.{Adding}
 use Rattle.after.proofs.add_leaving.Given as goal

@@ -1,7 +1,5 @@
 use borrow.Author.Rules.{rules}
 use Rattle.after.proofs.All.{all}
-use Rattle.after.specs.State.{Sized}
-use Rattle.after.proofs.Returns.{Owning}
 use Rattle.after.proofs.find_owners.Goals as goal
 
 pub loop-above-init : goal.loop-above-init

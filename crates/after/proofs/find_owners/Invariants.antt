@@ -1,4 +1,3 @@
-use Rattle.after.proofs.All.{all}
 use Rattle.after.specs.State.{Sized}
 use Rattle.after.proofs.Returns.{Owning}
 use Rattle.after.proofs.find_owners.Given as goal

@@ -1,8 +1,5 @@
 use borrow.Author.Rules.{rules}
 use Rattle.after.proofs.All.{all}
-use Prim.Native.Nat.{◌<◌}
-use Rattle.after.specs.State.{BothSized}
-use Rattle.after.proofs.Search.{Leaving, noted_at}
 use Rattle.after.proofs.leave.Goals as goal
 
 pub returns-then-q-ge64 : goal.returns-then-q-ge64

@@ -1,8 +1,5 @@
 use borrow.Author.Rules.{rules}
 use Rattle.after.proofs.All.{all}
-use Prim.Native.Nat.{◌≤◌, ◌-◌}
-use Rattle.after.specs.State.{Sized}
-use Rattle.after.proofs.Returns.{NotingAll}
 use Rattle.after.proofs.note_all.Goals as goal
 
 pub loop-k-init : goal.loop-k-init

@@ -1,4 +1,3 @@
-use Rattle.after.proofs.All.{all}
 use Prim.Native.Nat.{◌≤◌, ◌-◌}
 use Rattle.after.specs.State.{Sized}
 use Rattle.after.proofs.Returns.{NotingAll}

@@ -1,7 +1,5 @@
 use borrow.Author.Rules.{rules}
 use Rattle.after.proofs.All.{all}
-use Rattle.after.specs.State.{Sized}
-use Rattle.after.proofs.Returns.{Noting}
 use Rattle.after.proofs.note_callees.Goals as goal
 
 pub loop-a-init : goal.loop-a-init

@@ -1,4 +1,3 @@
-use Rattle.after.proofs.All.{all}
 use Rattle.after.specs.State.{Sized}
 use Rattle.after.proofs.Returns.{Noting}
 use Rattle.after.proofs.note_callees.Given as goal

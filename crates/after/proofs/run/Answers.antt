@@ -1,8 +1,5 @@
 use borrow.Author.Rules.{rules}
 use Rattle.after.proofs.All.{all}
-use Rattle.after.specs.State.{Worked}
-use Rattle.after.specs.Claims.{Runs}
-use Rattle.after.proofs.Search.{edges_left}
 use Rattle.after.proofs.run.Goals as goal
 
 pub loop-e-init : goal.loop-e-init

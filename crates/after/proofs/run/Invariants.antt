@@ -1,4 +1,3 @@
-use Rattle.after.proofs.All.{all}
 use Rattle.after.specs.State.{Worked}
 use Rattle.after.specs.Claims.{Runs}
 use Rattle.after.proofs.Search.{edges_left}

@@ -1,8 +1,5 @@
 use borrow.Author.Rules.{rules}
 use Rattle.checker.proofs.All.{all}
-use Prim.Native.Nat.{◌≤◌, ◌-◌}
-use Rattle.checker.proofs.Laws.{KeepTo}
-use Rattle.versions.specs.Memory.{memory}
 use Rattle.checker.proofs.all_keep.Goals as goal
 
 pub loop-i-init : goal.loop-i-init

@@ -1,6 +1,5 @@
 use borrow.Author.Rules.{rules}
 use Rattle.checker.proofs.All.{all}
-use Rattle.checker.proofs.Laws.{KeptFrom}
 use Rattle.checker.proofs.all_kept.Goals as goal
 
 pub last_edge-place-requires : goal.last_edge-place-requires

@@ -1,4 +1,3 @@
-use Rattle.checker.proofs.All.{all}
 use Rattle.checker.proofs.Laws.{KeptFrom}
 use Rattle.checker.proofs.all_kept.Given as goal
 

@@ -1,6 +1,5 @@
 use borrow.Author.Rules.{rules}
 use Rattle.checker.proofs.All.{all}
-use Rattle.checker.proofs.Laws.{ListedFrom}
 use Rattle.checker.proofs.opposites_listed.Goals as goal
 
 pub loop-place-init : goal.loop-place-init

@@ -1,4 +1,3 @@
-use Rattle.checker.proofs.All.{all}
 use Rattle.checker.proofs.Laws.{ListedFrom}
 use Rattle.checker.proofs.opposites_listed.Given as goal
 

@@ -1,7 +1,5 @@
 use borrow.Author.Rules.{rules}
 use Rattle.checker.proofs.All.{all}
-use Prim.Native.Nat.{◌≤◌, ◌-◌}
-use Rattle.checker.proofs.Laws.{TestsTo}
 use Rattle.checker.proofs.rule5.Goals as goal
 
 pub loop-i-init : goal.loop-i-init

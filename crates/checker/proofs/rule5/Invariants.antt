@@ -1,4 +1,3 @@
-use Rattle.checker.proofs.All.{all}
 use Prim.Native.Nat.{◌≤◌, ◌-◌}
 use Rattle.checker.proofs.Laws.{TestsTo}
 use Rattle.checker.proofs.rule5.Given as goal

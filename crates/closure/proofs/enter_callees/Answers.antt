@@ -1,7 +1,5 @@
 use borrow.Author.Rules.{rules}
 use Rattle.closure.proofs.All.{all}
-use Rattle.closure.specs.Claims.{Sized}
-use Rattle.closure.proofs.Turns.{Entering}
 use Rattle.closure.proofs.enter_callees.Goals as goal
 
 pub loop-a-init : goal.loop-a-init

@@ -1,4 +1,3 @@
-use Rattle.closure.proofs.All.{all}
 use Rattle.closure.specs.Claims.{Sized}
 use Rattle.closure.proofs.Turns.{Entering}
 use Rattle.closure.proofs.enter_callees.Given as goal

@@ -1,8 +1,5 @@
 use borrow.Author.Rules.{rules}
 use Rattle.closure.proofs.All.{all}
-use Rattle.versions.specs.Memory.{memory}
-use Rattle.closure.specs.Claims.{Sized}
-use Rattle.closure.proofs.Turns.{Following}
 use Rattle.closure.proofs.follow.Goals as goal
 
 pub last_edge-place-requires : goal.last_edge-place-requires

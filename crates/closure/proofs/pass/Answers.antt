@@ -1,9 +1,5 @@
 use borrow.Author.Rules.{rules}
 use Rattle.closure.proofs.All.{all}
-use Rattle.versions.specs.Memory.{memory}
-use Rattle.closure.specs.Claims.{Sized}
-use Prim.Native.Nat.{◌-◌}
-use Rattle.closure.proofs.Turns.{Visiting}
 use Rattle.closure.proofs.pass.Goals as goal
 
 pub loop-x-init : goal.loop-x-init

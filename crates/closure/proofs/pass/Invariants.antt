@@ -1,4 +1,3 @@
-use Rattle.closure.proofs.All.{all}
 use Rattle.versions.specs.Memory.{memory}
 use Rattle.closure.specs.Claims.{Sized}
 use Prim.Native.Nat.{◌-◌}

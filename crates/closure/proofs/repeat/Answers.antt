@@ -1,9 +1,5 @@
 use borrow.Author.Rules.{rules}
 use Rattle.closure.proofs.All.{all}
-use Rattle.versions.specs.Memory.{memory}
-use Rattle.closure.specs.Claims.{Sized}
-use Prim.Native.Nat.{◌-◌}
-use Rattle.closure.proofs.Turns.{Repeating}
 use Rattle.closure.proofs.repeat.Goals as goal
 
 pub loop-limit-init : goal.loop-limit-init

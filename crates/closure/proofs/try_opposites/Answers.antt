@@ -1,8 +1,5 @@
 use borrow.Author.Rules.{rules}
 use Rattle.closure.proofs.All.{all}
-use Rattle.versions.specs.Memory.{memory}
-use Rattle.closure.specs.Claims.{Sized}
-use Rattle.closure.proofs.Turns.{Trying}
 use Rattle.closure.proofs.try_opposites.Goals as goal
 
 pub last_opposite-last-requires : goal.last_opposite-last-requires

@@ -1,7 +1,5 @@
 use borrow.Author.Rules.{rules}
 use Rattle.coverage.proofs.Laws.{all}
-use Prim.Native.Nat.{◌≤◌, ◌-◌}
-use Rattle.coverage.proofs.Laws.{NoneTo}
 use Rattle.coverage.proofs.first_danger.Goals as goal
 
 pub loop-at-init : goal.loop-at-init

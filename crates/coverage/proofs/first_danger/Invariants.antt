@@ -1,4 +1,3 @@
-use Rattle.coverage.proofs.Laws.{all}
 use Prim.Native.Nat.{◌≤◌, ◌-◌}
 use Rattle.coverage.proofs.Laws.{NoneTo}
 use Rattle.coverage.proofs.first_danger.Given as goal

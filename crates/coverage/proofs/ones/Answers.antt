@@ -1,9 +1,5 @@
 use borrow.Author.Rules.{rules}
 use Rattle.coverage.proofs.Laws.{all}
-use Prim.Native.Nat.{◌≤◌, ◌-◌, ◌*◌}
-use mathlib.Core.Path.{◌≡◌}
-use Rattle.laws.specs.Tests.{count}
-use Rattle.coverage.specs.Rows.{edge_bit}
 use Rattle.coverage.proofs.ones.Goals as goal
 
 pub loop-k-init : goal.loop-k-init

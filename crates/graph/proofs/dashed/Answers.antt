@@ -1,5 +1,5 @@
 use borrow.Author.Rules.{rules}
-use Rattle.graph.proofs.Laws.{all, DashedBelow}
+use Rattle.graph.proofs.Laws.{all}
 use Rattle.graph.proofs.dashed.Goals as goal
 
 pub head-place-requires : goal.head-place-requires

@@ -1,4 +1,4 @@
-use Rattle.graph.proofs.Laws.{all, DashedBelow}
+use Rattle.graph.proofs.Laws.{DashedBelow}
 use Rattle.graph.proofs.dashed.Given as goal
 
 abbrev pub invariant-loop-place : goal.invariant-loop-place

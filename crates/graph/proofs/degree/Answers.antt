@@ -1,6 +1,5 @@
 use borrow.Author.Rules.{rules}
-use Rattle.graph.proofs.Laws.{all, Counted}
-use Prim.Native.Nat.{◌≤◌, ◌+◌}
+use Rattle.graph.proofs.Laws.{all}
 use Rattle.graph.proofs.degree.Goals as goal
 
 pub head-place-requires : goal.head-place-requires

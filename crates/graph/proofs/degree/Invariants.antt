@@ -1,4 +1,4 @@
-use Rattle.graph.proofs.Laws.{all, Counted}
+use Rattle.graph.proofs.Laws.{Counted}
 use Prim.Native.Nat.{◌≤◌, ◌+◌}
 use Rattle.graph.proofs.degree.Given as goal
 

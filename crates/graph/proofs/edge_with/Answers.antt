@@ -1,5 +1,5 @@
 use borrow.Author.Rules.{rules}
-use Rattle.graph.proofs.Laws.{all, WithBelow}
+use Rattle.graph.proofs.Laws.{all}
 use Rattle.graph.proofs.edge_with.Goals as goal
 
 pub head-place-requires : goal.head-place-requires

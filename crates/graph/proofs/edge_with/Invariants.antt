@@ -1,4 +1,4 @@
-use Rattle.graph.proofs.Laws.{all, WithBelow}
+use Rattle.graph.proofs.Laws.{WithBelow}
 use Rattle.graph.proofs.edge_with.Given as goal
 
 abbrev pub invariant-loop-place : goal.invariant-loop-place

@@ -1,5 +1,5 @@
 use borrow.Author.Rules.{rules}
-use Rattle.graph.proofs.Laws.{all, KeyFrom}
+use Rattle.graph.proofs.Laws.{all}
 use Rattle.graph.proofs.key.Goals as goal
 
 pub front-s-requires : goal.front-s-requires

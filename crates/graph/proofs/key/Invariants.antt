@@ -1,4 +1,4 @@
-use Rattle.graph.proofs.Laws.{all, KeyFrom}
+use Rattle.graph.proofs.Laws.{KeyFrom}
 use Rattle.graph.proofs.key.Given as goal
 
 abbrev pub invariant-loop-j : goal.invariant-loop-j

@@ -1,6 +1,5 @@
 use borrow.Author.Rules.{rules}
-use Rattle.graph.proofs.Laws.{all, Unnamed}
-use Prim.Native.Nat.{◌≤◌, ◌-◌}
+use Rattle.graph.proofs.Laws.{all}
 use Rattle.graph.proofs.proc_named.Goals as goal
 
 pub loop-q-init : goal.loop-q-init

@@ -1,4 +1,4 @@
-use Rattle.graph.proofs.Laws.{all, Unnamed}
+use Rattle.graph.proofs.Laws.{Unnamed}
 use Prim.Native.Nat.{◌≤◌, ◌-◌}
 use Rattle.graph.proofs.proc_named.Given as goal
 

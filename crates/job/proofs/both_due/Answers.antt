@@ -1,4 +1,3 @@
-use borrow.Author.Rules.{rules}
 use mathlib.Core.Path.{refl}
 use Rattle.job.proofs.TestsLaws.{old_gone, new_version_gone, both_none, both_job}
 use Rattle.job.proofs.both_due.Goals as goal

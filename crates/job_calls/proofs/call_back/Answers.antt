@@ -1,4 +1,3 @@
-use borrow.Author.Rules.{rules}
 use mathlib.Core.Path.{refl}
 use Rattle.job_calls.proofs.Back.{back_goes, back_no_new, back_no_old, text_put}
 use Rattle.job_calls.proofs.Laws.{limit_small}

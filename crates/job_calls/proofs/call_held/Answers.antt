@@ -1,4 +1,3 @@
-use borrow.Author.Rules.{rules}
 use Rattle.job_calls.proofs.Laws.{due_asks, due_few, held_goes, held_stop, wide}
 use Rattle.job_calls.proofs.call_held.Goals as goal
 

@@ -1,4 +1,3 @@
-use borrow.Author.Rules.{rules}
 use Rattle.job_calls.proofs.Laws.{on_called}
 use Rattle.job_calls.proofs.call_on.Goals as goal
 

@@ -1,4 +1,3 @@
-use borrow.Author.Rules.{rules}
 use mathlib.Core.Path.{refl}
 use Rattle.job_calls.proofs.Laws.{due_asks, label_goes, label_stop, on_zero, unloads}
 use Rattle.job_calls.proofs.label_on.Goals as goal

@@ -1,6 +1,5 @@
 use borrow.Author.Rules.{rules}
-use Rattle.pairset.proofs.Laws.{all, NoneTo}
-use Prim.Native.Nat.{◌-◌, ◌/◌, ◌≤◌}
+use Rattle.pairset.proofs.Laws.{all}
 use Rattle.pairset.proofs.next_partner.Goals as goal
 
 pub returns-then-a-ge512 : goal.returns-then-a-ge512

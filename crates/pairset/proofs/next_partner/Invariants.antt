@@ -1,4 +1,4 @@
-use Rattle.pairset.proofs.Laws.{all, NoneTo}
+use Rattle.pairset.proofs.Laws.{NoneTo}
 use Prim.Native.Nat.{◌-◌, ◌/◌, ◌≤◌}
 use Rattle.pairset.proofs.next_partner.Given as goal
 

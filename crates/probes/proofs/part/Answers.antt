@@ -1,8 +1,5 @@
 use borrow.Author.Rules.{rules}
 use Rattle.probes.proofs.All.{all}
-use mathlib.Core.Path.{◌≡◌}
-use lib.ListN.{length}
-use Rattle.probes.proofs.Starts.{PartsTo}
 use Rattle.probes.proofs.part.Goals as goal
 
 pub source-n-requires : goal.source-n-requires

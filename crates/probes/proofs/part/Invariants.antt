@@ -1,4 +1,3 @@
-use Rattle.probes.proofs.All.{all}
 use mathlib.Core.Path.{◌≡◌}
 use lib.ListN.{length}
 use Rattle.probes.proofs.Starts.{PartsTo}

@@ -1,8 +1,5 @@
 use borrow.Author.Rules.{rules}
 use Rattle.probes.proofs.All.{all}
-use mathlib.Core.Path.{◌≡◌}
-use lib.ListN.{length}
-use Rattle.probes.proofs.Starts.{PartsFrom}
 use Rattle.probes.proofs.part_at.Goals as goal
 
 pub joins-f-requires : goal.joins-f-requires

@@ -1,9 +1,5 @@
 use borrow.Author.Rules.{rules}
 use Rattle.probes.proofs.All.{all}
-use mathlib.Core.Path.{◌≡◌}
-use Prim.Native.Nat.{◌≤◌, ◌-◌}
-use lib.ListN.{length}
-use Rattle.probes.specs.Starts.{AllStart}
 use Rattle.probes.proofs.start_all.Goals as goal
 
 pub loop-e-init : goal.loop-e-init

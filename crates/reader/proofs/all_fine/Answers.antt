@@ -1,7 +1,5 @@
 use borrow.Author.Rules.{rules}
 use Rattle.reader.proofs.All.{all}
-use Prim.Native.Nat.{◌≤◌, ◌-◌}
-use Rattle.reader.specs.Reading.{FineTo}
 use Rattle.reader.proofs.all_fine.Goals as goal
 
 pub returns-then-nodes-first : goal.returns-then-nodes-first

@@ -1,4 +1,3 @@
-use Rattle.reader.proofs.All.{all}
 use Prim.Native.Nat.{◌≤◌, ◌-◌}
 use Rattle.reader.specs.Reading.{FineTo}
 use Rattle.reader.proofs.all_fine.Given as goal

@@ -1,9 +1,6 @@
 use borrow.Author.Rules.{rules}
 use Rattle.reader.proofs.All.{all}
 use Rattle.reader.proofs.Completeness.{kind_hit}
-use Prim.Native.Nat.{◌≤◌, ◌-◌}
-use mathlib.Core.Path.{◌≡◌}
-use Rattle.reader.specs.Reading.{kind_count}
 use Rattle.reader.proofs.count_kind.Goals as goal
 
 pub returns-then-nodes-first : goal.returns-then-nodes-first

@@ -1,5 +1,3 @@
-use Rattle.reader.proofs.All.{all}
-use Rattle.reader.proofs.Completeness.{kind_hit}
 use Prim.Native.Nat.{◌≤◌, ◌-◌}
 use mathlib.Core.Path.{◌≡◌}
 use Rattle.reader.specs.Reading.{kind_count}

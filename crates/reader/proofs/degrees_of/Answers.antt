@@ -1,6 +1,5 @@
 use borrow.Author.Rules.{rules}
 use Rattle.reader.proofs.All.{all}
-use Prim.Native.Nat.{◌-◌}
 use Rattle.reader.proofs.Leaves.{degrees_in}
 use Rattle.reader.proofs.degrees_of.Goals as goal
 

@@ -1,8 +1,6 @@
 use borrow.Author.Rules.{rules}
 use Rattle.reader.proofs.All.{all}
-use Prim.Native.Nat.{◌-◌}
-use lib.ListN.{length}
-use Rattle.reader.proofs.Turns.{Head, line_room}
+use Rattle.reader.proofs.Turns.{line_room}
 use Rattle.reader.proofs.read_lines.Goals as goal
 
 pub counted-had-requires : goal.counted-had-requires

@@ -1,7 +1,6 @@
-use Rattle.reader.proofs.All.{all}
 use Prim.Native.Nat.{◌-◌}
 use lib.ListN.{length}
-use Rattle.reader.proofs.Turns.{Head, line_room}
+use Rattle.reader.proofs.Turns.{Head}
 use Rattle.reader.proofs.read_lines.Given as goal
 
 abbrev pub invariant-loop-at : goal.invariant-loop-at

@@ -1,9 +1,5 @@
 use borrow.Author.Rules.{rules}
 use Rattle.reader.proofs.All.{all}
-use Prim.Native.Nat.{◌≤◌, ◌-◌}
-use mathlib.Core.Path.{◌≡◌}
-use lib.ListN.{length}
-use Rattle.reader.specs.Reading.{ResolvedTo}
 use Rattle.reader.proofs.resolve.Goals as goal
 
 pub loop-n-init : goal.loop-n-init

@@ -1,5 +1,5 @@
 use borrow.Author.Rules.{rules}
-use Rattle.std.proofs.Common.{◌≡◌, ℕ, List, length, set, min, ap, ap₂, ◌∙◌, arith}
+use Rattle.std.proofs.Common.{◌≡◌, List, length, set, min, ap, ap₂, ◌∙◌, arith}
 use Rattle.records.specs.declared.Node.{Node}
 use Rattle.records.specs.NodeLaws.{saved, saved_all, saved_more, saved_none}
 use Rattle.records.proofs.save.Goals as goal

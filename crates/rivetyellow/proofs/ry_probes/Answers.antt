@@ -1,4 +1,3 @@
-use borrow.Author.Rules.{rules}
 use Rattle.rivetyellow.proofs.Laws.{probes_packs}
 use Rattle.rivetyellow.proofs.ry_probes.Goals as goal
 

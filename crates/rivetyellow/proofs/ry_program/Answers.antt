@@ -1,4 +1,3 @@
-use borrow.Author.Rules.{rules}
 use Rattle.rivetyellow.proofs.Laws.{program_packs}
 use Rattle.rivetyellow.proofs.ry_program.Goals as goal
 

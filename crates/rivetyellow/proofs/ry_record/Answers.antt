@@ -1,4 +1,3 @@
-use borrow.Author.Rules.{rules}
 use Rattle.rivetyellow.proofs.Laws.{record_packs}
 use Rattle.rivetyellow.proofs.ry_record.Goals as goal
 

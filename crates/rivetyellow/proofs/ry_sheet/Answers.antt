@@ -1,4 +1,3 @@
-use borrow.Author.Rules.{rules}
 use Rattle.rivetyellow.proofs.Laws.{sheet_packs}
 use Rattle.rivetyellow.proofs.ry_sheet.Goals as goal
 

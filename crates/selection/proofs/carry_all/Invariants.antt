@@ -1,4 +1,3 @@
-use Rattle.selection.proofs.All.{all}
 use mathlib.Core.Path.{◌≡◌}
 use Prim.Native.Nat.{◌≤◌, ◌-◌}
 use lib.ListN.{length}

@@ -1,7 +1,5 @@
 use borrow.Author.Rules.{rules}
-use Prim.Native.Nat.{◌-◌}
 use Rattle.selection.proofs.All.{all}
-use Rattle.selection.proofs.Dangers.{CopiedTo}
 use Rattle.selection.proofs.copy_dangers.Goals as goal
 
 pub loop-k-init : goal.loop-k-init

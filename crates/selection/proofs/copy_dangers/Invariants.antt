@@ -1,5 +1,4 @@
 use Prim.Native.Nat.{◌-◌}
-use Rattle.selection.proofs.All.{all}
 use Rattle.selection.proofs.Dangers.{CopiedTo}
 use Rattle.selection.proofs.copy_dangers.Given as goal
 

@@ -1,9 +1,5 @@
 use borrow.Author.Rules.{rules}
 use Rattle.selection.proofs.All.{all}
-use mathlib.Core.Path.{◌≡◌}
-use Prim.Native.Nat.{◌≤◌, ◌-◌}
-use lib.ListN.{length, replicate}
-use lib.Seq.{sets}
 use Rattle.selection.proofs.fill.Goals as goal
 
 pub loop-i-init : goal.loop-i-init

@@ -1,7 +1,5 @@
 use borrow.Author.Rules.{rules}
 use Rattle.selection.proofs.All.{all}
-use Rattle.selection.proofs.Dangers.{FitsFrom}
-use Prim.Native.Nat.{◌≤◌}
 use Rattle.selection.proofs.fitting.Goals as goal
 
 pub loop-place-init : goal.loop-place-init

@@ -1,4 +1,3 @@
-use Rattle.selection.proofs.All.{all}
 use Rattle.selection.proofs.Dangers.{FitsFrom}
 use Prim.Native.Nat.{◌≤◌}
 use Rattle.selection.proofs.fitting.Given as goal

@@ -1,6 +1,5 @@
 use borrow.Author.Rules.{rules}
 use Rattle.selection.proofs.All.{all}
-use Rattle.selection.proofs.Counterparts.{SeenTo}
 use Rattle.selection.proofs.only_counterpart.Goals as goal
 
 pub source-n-requires : goal.source-n-requires

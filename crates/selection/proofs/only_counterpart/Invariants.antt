@@ -1,4 +1,3 @@
-use Rattle.selection.proofs.All.{all}
 use Rattle.selection.proofs.Counterparts.{SeenTo}
 use Rattle.selection.proofs.only_counterpart.Given as goal
 

@@ -1,9 +1,5 @@
 use borrow.Author.Rules.{rules}
 use Rattle.selection.proofs.All.{all}
-use mathlib.Core.Path.{◌≡◌}
-use Prim.Native.Nat.{◌≤◌, ◌-◌}
-use lib.ListN.{length}
-use Rattle.selection.specs.Marks.{AllOpened}
 use Rattle.selection.proofs.open_all.Goals as goal
 
 pub loop-e-init : goal.loop-e-init

@@ -1,9 +1,5 @@
 use borrow.Author.Rules.{rules}
 use Rattle.selection.proofs.All.{all}
-use mathlib.Core.Path.{◌≡◌}
-use Prim.Native.Nat.{◌≤◌, ◌-◌}
-use lib.ListN.{length}
-use Rattle.selection.specs.Marks.{SetOpened}
 use Rattle.selection.proofs.open_set.Goals as goal
 
 pub loop-f-init : goal.loop-f-init

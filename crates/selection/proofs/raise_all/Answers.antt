@@ -1,8 +1,5 @@
 use borrow.Author.Rules.{rules}
 use Rattle.selection.proofs.All.{all}
-use mathlib.Core.Path.{◌≡◌}
-use lib.ListN.{length}
-use Rattle.selection.proofs.Marks.{RaisedTo}
 use Rattle.selection.proofs.raise_all.Goals as goal
 
 pub source-n-requires : goal.source-n-requires

@@ -1,8 +1,5 @@
 use borrow.Author.Rules.{rules}
 use Rattle.selection.proofs.All.{all}
-use mathlib.Core.Path.{◌≡◌}
-use lib.ListN.{length}
-use Rattle.selection.proofs.Marks.{RaisedFrom}
 use Rattle.selection.proofs.raise_at.Goals as goal
 
 pub joins-f-requires : goal.joins-f-requires

@@ -1,4 +1,3 @@
-use Rattle.selection.proofs.All.{all}
 use mathlib.Core.Path.{◌≡◌}
 use lib.ListN.{length}
 use Rattle.selection.proofs.Marks.{RaisedFrom}

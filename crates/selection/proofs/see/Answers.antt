@@ -1,6 +1,5 @@
 use borrow.Author.Rules.{rules}
 use Rattle.selection.proofs.All.{all}
-use Rattle.selection.proofs.Counterparts.{SeesFrom}
 use Rattle.selection.proofs.see.Goals as goal
 
 pub joins-f-requires : goal.joins-f-requires

@@ -1,4 +1,3 @@
-use Rattle.selection.proofs.All.{all}
 use Rattle.selection.proofs.Counterparts.{SeesFrom}
 use Rattle.selection.proofs.see.Given as goal
 

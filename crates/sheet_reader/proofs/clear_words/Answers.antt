@@ -1,9 +1,5 @@
 use borrow.Author.Rules.{rules}
 use Rattle.sheet_reader.proofs.All.{all}
-use Prim.Native.Nat.{◌≤◌, ◌-◌}
-use mathlib.Core.Path.{◌≡◌}
-use mathlib.Core.List.{◌++◌}
-use lib.ListN.{length, drop, replicate}
 use Rattle.sheet_reader.proofs.clear_words.Goals as goal
 
 pub loop-i-init : goal.loop-i-init

@@ -1,4 +1,3 @@
-use Rattle.sheet_reader.proofs.All.{all}
 use Prim.Native.Nat.{◌≤◌, ◌-◌}
 use mathlib.Core.Path.{◌≡◌}
 use mathlib.Core.List.{◌++◌}

@@ -1,8 +1,5 @@
 use borrow.Author.Rules.{rules}
 use Rattle.sheet_reader.proofs.All.{all}
-use Prim.Native.Nat.{◌-◌}
-use lib.ListN.{length}
-use Rattle.sheet_reader.proofs.Turns.{Head}
 use Rattle.sheet_reader.proofs.read_lines.Goals as goal
 
 pub nothing_read-had-requires : goal.nothing_read-had-requires

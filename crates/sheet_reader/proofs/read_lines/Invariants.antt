@@ -1,4 +1,3 @@
-use Rattle.sheet_reader.proofs.All.{all}
 use Prim.Native.Nat.{◌-◌}
 use lib.ListN.{length}
 use Rattle.sheet_reader.proofs.Turns.{Head}

@@ -1,7 +1,5 @@
 use borrow.Author.Rules.{rules}
 use Rattle.sheet_reader.proofs.All.{all}
-use Prim.Native.Nat.{◌≤◌, ◌-◌}
-use Rattle.sheet_reader.proofs.Leaves.{NoTest}
 use Rattle.sheet_reader.proofs.test_from.Goals as goal
 
 pub loop-i-init : goal.loop-i-init

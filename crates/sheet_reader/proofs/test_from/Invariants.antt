@@ -1,4 +1,3 @@
-use Rattle.sheet_reader.proofs.All.{all}
 use Prim.Native.Nat.{◌≤◌, ◌-◌}
 use Rattle.sheet_reader.proofs.Leaves.{NoTest}
 use Rattle.sheet_reader.proofs.test_from.Given as goal

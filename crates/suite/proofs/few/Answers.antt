@@ -1,10 +1,5 @@
 use borrow.Author.Rules.{rules}
 use Rattle.suite.proofs.All.{all}
-use Prim.Native.Nat.{◌≤◌}
-use mathlib.Core.Path.{◌≡◌}
-use lib.ListN.{length, drop}
-use Rattle.rules.specs.SuiteFile.{hex_value}
-use Rattle.laws.specs.Digits.{number}
 use Rattle.suite.proofs.few.Goals as goal
 
 pub loop-i-init : goal.loop-i-init

@@ -1,4 +1,3 @@
-use Rattle.suite.proofs.All.{all}
 use Prim.Native.Nat.{◌≤◌}
 use mathlib.Core.Path.{◌≡◌}
 use lib.ListN.{length, drop}

@@ -1,9 +1,5 @@
 use borrow.Author.Rules.{rules}
 use Rattle.suite.proofs.All.{all}
-use Prim.Native.Nat.{◌≤◌, ◌-◌}
-use mathlib.Core.Path.{◌≡◌}
-use mathlib.Core.Bool.{false}
-use Rattle.suite.specs.Reading.{name_in}
 use Rattle.suite.proofs.name_seen.Goals as goal
 
 pub loop-i-init : goal.loop-i-init

@@ -1,8 +1,5 @@
 use borrow.Author.Rules.{rules}
 use Rattle.suite.proofs.All.{all}
-use Prim.Native.Nat.{◌-◌}
-use lib.ListN.{length}
-use Rattle.suite.proofs.Turns.{Head}
 use Rattle.suite.proofs.read_lines.Goals as goal
 
 pub loop-at-init : goal.loop-at-init

@@ -1,4 +1,3 @@
-use Rattle.suite.proofs.All.{all}
 use Prim.Native.Nat.{◌-◌}
 use lib.ListN.{length}
 use Rattle.suite.proofs.Turns.{Head}

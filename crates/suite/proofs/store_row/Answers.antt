@@ -1,10 +1,5 @@
 use borrow.Author.Rules.{rules}
 use Rattle.suite.proofs.All.{all}
-use Prim.Native.Nat.{◌≤◌, ◌-◌}
-use mathlib.Core.Path.{◌≡◌}
-use lib.ListN.{length}
-use Rattle.suite.specs.Tables.{stored_row}
-use Rattle.suite.proofs.Laws.{stored_from}
 use Rattle.suite.proofs.store_row.Goals as goal
 
 pub loop-k-init : goal.loop-k-init

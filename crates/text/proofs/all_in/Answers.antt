@@ -1,10 +1,5 @@
 use borrow.Author.Rules.{rules}
 use Rattle.text.proofs.Laws.{all}
-use Prim.Native.Nat.{◌≤◌, ◌-◌}
-use mathlib.Core.Path.{◌≡◌}
-use lib.ListN.{length, drop}
-use Rattle.rules.specs.Text.{all_bytes}
-use Rattle.text.specs.Scans.{class_byte}
 use Rattle.text.proofs.all_in.Goals as goal
 
 pub all_from-requires : goal.all_from-requires

@@ -1,9 +1,5 @@
 use borrow.Author.Rules.{rules}
 use Rattle.text.proofs.Laws.{all}
-use Prim.Native.Nat.{◌≤◌, ◌-◌}
-use mathlib.Core.Path.{◌≡◌}
-use lib.ListN.{drop}
-use Rattle.laws.specs.Tests.{◌or◌, has}
 use Rattle.text.proofs.block_has.Goals as goal
 
 pub loop-i-init : goal.loop-i-init

@@ -1,9 +1,5 @@
 use borrow.Author.Rules.{rules}
 use Rattle.text.proofs.Laws.{all, stores}
-use Prim.Native.Nat.{◌≤◌, ◌-◌}
-use mathlib.Core.Path.{◌≡◌}
-use lib.ListN.{length, drop}
-use lib.Seq.{sets}
 use Rattle.text.proofs.copy_words.Goals as goal
 
 pub loop-i-init : goal.loop-i-init

@@ -1,9 +1,5 @@
 use borrow.Author.Rules.{rules}
 use Rattle.text.proofs.Laws.{all}
-use Prim.Native.Nat.{◌+◌, ◌≤◌, ◌-◌}
-use mathlib.Core.Path.{◌≡◌}
-use lib.ListN.{length, drop}
-use Rattle.text.specs.Scans.{span}
 use Rattle.text.proofs.find_from.Goals as goal
 
 pub loop-i-init : goal.loop-i-init

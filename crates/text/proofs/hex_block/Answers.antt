@@ -1,11 +1,5 @@
 use borrow.Author.Rules.{rules}
 use Rattle.text.proofs.Laws.{all}
-use Prim.Native.Nat.{◌≤◌, ◌-◌}
-use mathlib.Core.Path.{◌≡◌}
-use lib.ListN.{drop}
-use Rattle.laws.specs.Tests.{◌and◌}
-use Rattle.rules.specs.Text.{all_bytes}
-use Rattle.rules.specs.SuiteFile.{hex_byte}
 use Rattle.text.proofs.hex_block.Goals as goal
 
 pub loop-i-init : goal.loop-i-init

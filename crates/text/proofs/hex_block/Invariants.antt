@@ -1,4 +1,3 @@
-use Rattle.text.proofs.Laws.{all}
 use Prim.Native.Nat.{◌≤◌, ◌-◌}
 use mathlib.Core.Path.{◌≡◌}
 use lib.ListN.{drop}

@@ -1,10 +1,5 @@
 use borrow.Author.Rules.{rules}
 use Rattle.text.proofs.Laws.{all}
-use Prim.Native.Nat.{◌≤◌, ◌-◌, min}
-use mathlib.Core.Path.{◌≡◌}
-use lib.ListN.{length, drop}
-use Rattle.laws.specs.Tests.{choose}
-use Rattle.rules.specs.Text.{all_bytes, digit_byte, is_number, value_from}
 use Rattle.text.proofs.number.Goals as goal
 
 pub returns-then-s-lt1 : goal.returns-then-s-lt1

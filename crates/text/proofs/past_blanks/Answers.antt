@@ -1,9 +1,5 @@
 use borrow.Author.Rules.{rules}
 use Rattle.text.proofs.Labels.{labels}
-use Prim.Native.Nat.{◌+◌, ◌≤◌, ◌-◌}
-use mathlib.Core.Path.{◌≡◌}
-use lib.ListN.{length, drop}
-use Rattle.text.specs.Scans.{blanks}
 use Rattle.text.proofs.past_blanks.Goals as goal
 
 pub loop-i-init : goal.loop-i-init

@@ -1,4 +1,3 @@
-use Rattle.text.proofs.Labels.{labels}
 use Prim.Native.Nat.{◌+◌, ◌≤◌, ◌-◌}
 use mathlib.Core.Path.{◌≡◌}
 use lib.ListN.{length, drop}

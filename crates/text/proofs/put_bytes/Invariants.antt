@@ -1,4 +1,3 @@
-use Rattle.text.proofs.Laws.{all}
 use Prim.Native.Nat.{◌≤◌, ◌-◌}
 use lib.ListN.{length, take}
 use Rattle.text.specs.Puts.{Puts}

@@ -1,10 +1,5 @@
 use borrow.Author.Rules.{rules}
 use Rattle.text.proofs.Laws.{all}
-use Prim.Native.Nat.{◌≤◌, ◌-◌}
-use mathlib.Core.Path.{◌≡◌}
-use lib.ListN.{drop}
-use Rattle.laws.specs.Tests.{◌and◌}
-use Rattle.rules.specs.Text.{same as same_bytes}
 use Rattle.text.proofs.same_half.Goals as goal
 
 pub loop-i-init : goal.loop-i-init

@@ -1,8 +1,5 @@
 use borrow.Author.Rules.{rules}
 use Rattle.text.proofs.Laws.{all, before_on}
-use Prim.Native.Nat.{◌≤◌}
-use mathlib.Core.Path.{◌≡◌}
-use lib.ListN.{length, drop}
 use Rattle.text.proofs.same_long.Goals as goal
 
 pub returns-then-a-b : goal.returns-then-a-b

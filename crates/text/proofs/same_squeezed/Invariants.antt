@@ -1,6 +1,6 @@
 use Prim.Native.Nat.{◌-◌}
 use lib.ListN.{length}
-use Rattle.text.proofs.Labels.{Matching, labels}
+use Rattle.text.proofs.Labels.{Matching}
 use Rattle.text.proofs.same_squeezed.Given as goal
 
 abbrev pub invariant-loop-i : goal.invariant-loop-i

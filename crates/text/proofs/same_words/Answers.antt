@@ -1,10 +1,5 @@
 use borrow.Author.Rules.{rules}
 use Rattle.text.proofs.Laws.{all}
-use Prim.Native.Nat.{◌≤◌, ◌-◌}
-use mathlib.Core.Path.{◌≡◌}
-use lib.ListN.{length, drop}
-use lib.Seq.{sets}
-use Rattle.rules.specs.Text.{same as same_numbers}
 use Rattle.text.proofs.same_words.Goals as goal
 
 pub loop-i-init : goal.loop-i-init

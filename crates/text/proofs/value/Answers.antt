@@ -1,9 +1,5 @@
 use borrow.Author.Rules.{rules}
 use Rattle.text.proofs.Laws.{all}
-use Prim.Native.Nat.{◌≤◌, ◌-◌, min}
-use mathlib.Core.Path.{◌≡◌}
-use lib.ListN.{length, drop}
-use Rattle.rules.specs.Text.{value_from}
 use Rattle.text.proofs.value.Goals as goal
 
 pub loop-i-init : goal.loop-i-init

@@ -1,5 +1,5 @@
 use borrow.Author.Rules.{rules}
-use Rattle.versions.proofs.Walks.{EntriesLeft, entries}
+use Rattle.versions.proofs.Walks.{entries}
 use Rattle.versions.proofs.callees_entered.Goals as goal
 
 pub loop-a-init : goal.loop-a-init

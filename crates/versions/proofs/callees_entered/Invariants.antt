@@ -1,4 +1,4 @@
-use Rattle.versions.proofs.Walks.{EntriesLeft, entries}
+use Rattle.versions.proofs.Walks.{EntriesLeft}
 use Rattle.versions.proofs.callees_entered.Given as goal
 
 abbrev pub invariant-loop-a : goal.invariant-loop-a

@@ -1,7 +1,5 @@
 use borrow.Author.Rules.{rules}
 use Rattle.versions.proofs.Laws.{all}
-use Prim.Native.Nat.{◌^◌, ◌<◌, ◌≤◌}
-use lib.ListN.{length}
 use Rattle.versions.proofs.ending.Goals as goal
 
 pub loop-i-init : goal.loop-i-init

@@ -1,4 +1,3 @@
-use Rattle.versions.proofs.Laws.{all}
 use Prim.Native.Nat.{◌^◌, ◌<◌, ◌≤◌}
 use lib.ListN.{length}
 use Rattle.versions.proofs.ending.Given as goal

@@ -1,5 +1,5 @@
 use borrow.Author.Rules.{rules}
-use Rattle.versions.proofs.Walks.{ExitsLeft, exits}
+use Rattle.versions.proofs.Walks.{exits}
 use Rattle.versions.proofs.exits_met.Goals as goal
 
 pub loop-a-init : goal.loop-a-init

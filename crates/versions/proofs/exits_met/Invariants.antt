@@ -1,4 +1,4 @@
-use Rattle.versions.proofs.Walks.{ExitsLeft, exits}
+use Rattle.versions.proofs.Walks.{ExitsLeft}
 use Rattle.versions.proofs.exits_met.Given as goal
 
 abbrev pub invariant-loop-a : goal.invariant-loop-a

@@ -1,8 +1,5 @@
 use borrow.Author.Rules.{rules}
 use Rattle.versions.proofs.Laws.{all}
-use Prim.Native.Nat.{◌≤◌, ◌-◌}
-use Rattle.versions.specs.Memory.{memory}
-use Rattle.versions.specs.Groups.{Regrouped}
 use Rattle.versions.proofs.group.Goals as goal
 
 pub loop-x-init : goal.loop-x-init

@@ -1,4 +1,3 @@
-use Rattle.versions.proofs.Laws.{all}
 use Prim.Native.Nat.{◌≤◌, ◌-◌}
 use Rattle.versions.specs.Memory.{memory}
 use Rattle.versions.specs.Groups.{Regrouped}

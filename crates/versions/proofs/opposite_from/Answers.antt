@@ -1,7 +1,5 @@
 use borrow.Author.Rules.{rules}
 use Rattle.versions.proofs.Opposites.{all}
-use Rattle.versions.proofs.Opposites.{LeftFrom}
-use Prim.Native.Nat.{◌≤◌}
 use Rattle.versions.proofs.opposite_from.Goals as goal
 
 pub loop-place-init : goal.loop-place-init

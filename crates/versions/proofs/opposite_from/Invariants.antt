@@ -1,4 +1,3 @@
-use Rattle.versions.proofs.Opposites.{all}
 use Rattle.versions.proofs.Opposites.{LeftFrom}
 use Prim.Native.Nat.{◌≤◌}
 use Rattle.versions.proofs.opposite_from.Given as goal

@@ -1,5 +1,5 @@
 use borrow.Author.Rules.{rules}
-use Rattle.versions.proofs.Walks.{SameLeft, callees}
+use Rattle.versions.proofs.Walks.{callees}
 use Rattle.versions.proofs.same_callees.Goals as goal
 
 pub loop-a-init : goal.loop-a-init

@@ -1,4 +1,4 @@
-use Rattle.versions.proofs.Walks.{SameLeft, callees}
+use Rattle.versions.proofs.Walks.{SameLeft}
 use Rattle.versions.proofs.same_callees.Given as goal
 
 abbrev pub invariant-loop-a : goal.invariant-loop-a

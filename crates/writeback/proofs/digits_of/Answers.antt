@@ -1,8 +1,5 @@
 use borrow.Author.Rules.{rules}
 use Rattle.writeback.proofs.All.{all}
-use mathlib.Core.Path.{◌≡◌}
-use Prim.Native.Nat.{◌+◌, ◌-◌, ◌≤◌}
-use Rattle.writeback.specs.Parts.{digits_of}
 use Rattle.writeback.proofs.digits_of.Goals as goal
 
 pub loop-n-init : goal.loop-n-init

@@ -1,4 +1,3 @@
-use Rattle.writeback.proofs.All.{all}
 use mathlib.Core.Path.{◌≡◌}
 use Prim.Native.Nat.{◌+◌, ◌-◌, ◌≤◌}
 use Rattle.writeback.specs.Parts.{digits_of}

@@ -1,7 +1,5 @@
 use borrow.Author.Rules.{rules}
 use Rattle.writeback.proofs.All.{all}
-use Rattle.writeback.proofs.Parts.{LongTo}
-use Prim.Native.Nat.{◌-◌, ◌≤◌}
 use Rattle.writeback.proofs.names_long.Goals as goal
 
 pub loop-i-init : goal.loop-i-init

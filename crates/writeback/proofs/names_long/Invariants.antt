@@ -1,4 +1,3 @@
-use Rattle.writeback.proofs.All.{all}
 use Rattle.writeback.proofs.Parts.{LongTo}
 use Prim.Native.Nat.{◌-◌, ◌≤◌}
 use Rattle.writeback.proofs.names_long.Given as goal

@@ -1,4 +1,3 @@
-use Rattle.writeback.proofs.All.{all}
 use Prim.Native.Nat.{◌-◌, ◌*◌, ◌≤◌}
 use Rattle.writer.specs.Writes.{Writes}
 use Rattle.writeback.specs.Back.{edge_text, run_from}

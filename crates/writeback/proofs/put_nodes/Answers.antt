@@ -1,8 +1,5 @@
 use borrow.Author.Rules.{rules}
 use Rattle.writeback.proofs.All.{all}
-use Prim.Native.Nat.{◌-◌, ◌*◌, ◌≤◌}
-use Rattle.writer.specs.Writes.{Writes}
-use Rattle.writeback.specs.Back.{node_text, run_from}
 use Rattle.writeback.proofs.put_nodes.Goals as goal
 
 pub loop-m-init : goal.loop-m-init

@@ -1,10 +1,5 @@
 use borrow.Author.Rules.{rules}
 use Rattle.writeback.proofs.All.{all}
-use mathlib.Core.Path.{◌≡◌}
-use mathlib.Core.Bool.{true}
-use Prim.Native.Nat.{◌-◌, ◌≤◌}
-use Rattle.laws.specs.Tests.{every}
-use Rattle.writeback.specs.Parts.{name_same}
 use Rattle.writeback.proofs.same_names.Goals as goal
 
 pub loop-q-init : goal.loop-q-init

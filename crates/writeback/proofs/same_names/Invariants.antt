@@ -1,4 +1,3 @@
-use Rattle.writeback.proofs.All.{all}
 use mathlib.Core.Path.{◌≡◌}
 use mathlib.Core.Bool.{true}
 use Prim.Native.Nat.{◌-◌, ◌≤◌}

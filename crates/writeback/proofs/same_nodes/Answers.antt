@@ -1,10 +1,5 @@
 use borrow.Author.Rules.{rules}
 use Rattle.writeback.proofs.All.{all}
-use mathlib.Core.Path.{◌≡◌}
-use mathlib.Core.Bool.{true}
-use Prim.Native.Nat.{◌-◌, ◌≤◌}
-use Rattle.laws.specs.Tests.{every}
-use Rattle.writeback.specs.Parts.{node_same}
 use Rattle.writeback.proofs.same_nodes.Goals as goal
 
 pub loop-m-init : goal.loop-m-init

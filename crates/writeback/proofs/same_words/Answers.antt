@@ -1,10 +1,5 @@
 use borrow.Author.Rules.{rules}
 use Rattle.writeback.proofs.All.{all}
-use mathlib.Core.Path.{◌≡◌}
-use mathlib.Core.Bool.{true}
-use Prim.Native.Nat.{◌-◌, ◌≤◌}
-use Rattle.laws.specs.Tests.{every}
-use Rattle.writeback.specs.Parts.{word_same}
 use Rattle.writeback.proofs.same_words.Goals as goal
 
 pub loop-e-init : goal.loop-e-init

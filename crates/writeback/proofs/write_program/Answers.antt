@@ -1,8 +1,5 @@
 use borrow.Author.Rules.{rules}
 use Rattle.writeback.proofs.All.{all}
-use Prim.Native.Nat.{◌-◌, ◌*◌, ◌≤◌}
-use Rattle.writer.specs.Writes.{Writes}
-use Rattle.writeback.specs.Back.{procedure_text, run_from}
 use Rattle.writeback.proofs.write_program.Goals as goal
 
 pub loop-q-init : goal.loop-q-init

@@ -1,9 +1,5 @@
 use borrow.Author.Rules.{rules}
 use Rattle.writer.proofs.All.{all}
-use Prim.Native.Nat.{◌≤◌, ◌-◌}
-use mathlib.Core.Path.{◌≡◌}
-use Rattle.laws.specs.Tests.{count}
-use Rattle.laws.specs.Bits.{bit_in}
 use Rattle.writer.proofs.count_dangers.Goals as goal
 
 pub loop-e-init : goal.loop-e-init

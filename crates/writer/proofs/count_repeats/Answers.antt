@@ -1,9 +1,5 @@
 use borrow.Author.Rules.{rules}
 use Rattle.writer.proofs.All.{all}
-use Prim.Native.Nat.{◌≤◌, ◌-◌}
-use mathlib.Core.Path.{◌≡◌}
-use Rattle.laws.specs.Tests.{count as count_of}
-use Rattle.coverage.specs.Rows.{row_meets}
 use Rattle.writer.proofs.count_repeats.Goals as goal
 
 pub loop-i-init : goal.loop-i-init

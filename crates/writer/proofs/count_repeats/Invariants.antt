@@ -1,4 +1,3 @@
-use Rattle.writer.proofs.All.{all}
 use Prim.Native.Nat.{◌≤◌, ◌-◌}
 use mathlib.Core.Path.{◌≡◌}
 use Rattle.laws.specs.Tests.{count as count_of}

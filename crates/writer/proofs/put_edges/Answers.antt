@@ -1,8 +1,5 @@
 use borrow.Author.Rules.{rules}
 use Rattle.writer.proofs.All.{all}
-use Prim.Native.Nat.{◌≤◌, ◌-◌, ◌*◌}
-use Rattle.writer.specs.Writes.{Writes}
-use Rattle.writer.specs.Texts.{edge_text}
 use Rattle.writer.proofs.put_edges.Goals as goal
 
 pub loop-e-init : goal.loop-e-init

@@ -1,4 +1,3 @@
-use Rattle.writer.proofs.All.{all}
 use Prim.Native.Nat.{◌≤◌, ◌-◌, ◌*◌}
 use Rattle.writer.specs.Writes.{Writes}
 use Rattle.writer.specs.Texts.{edge_text}

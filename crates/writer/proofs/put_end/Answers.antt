@@ -1,4 +1,3 @@
-use borrow.Author.Rules.{rules}
 use Rattle.writer.proofs.Lines.{end_puts}
 use Rattle.writer.proofs.put_end.Goals as goal
 

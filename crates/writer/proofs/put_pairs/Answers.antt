@@ -1,7 +1,5 @@
 use borrow.Author.Rules.{rules}
 use Rattle.writer.proofs.All.{all}
-use Prim.Native.Nat.{◌≤◌, ◌-◌}
-use Rattle.writer.specs.Claims.{PairsPut}
 use Rattle.writer.proofs.put_pairs.Goals as goal
 
 pub loop-n-init : goal.loop-n-init

@@ -1,4 +1,3 @@
-use Rattle.writer.proofs.All.{all}
 use Prim.Native.Nat.{◌≤◌, ◌-◌}
 use Rattle.writer.specs.Claims.{PairsPut}
 use Rattle.writer.proofs.put_pairs.Given as goal

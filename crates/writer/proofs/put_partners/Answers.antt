@@ -1,7 +1,5 @@
 use borrow.Author.Rules.{rules}
 use Rattle.writer.proofs.All.{all}
-use Prim.Native.Nat.{◌≤◌, ◌-◌}
-use Rattle.writer.specs.Claims.{PartnersPut}
 use Rattle.writer.proofs.put_partners.Goals as goal
 
 pub loop-from-init : goal.loop-from-init

@@ -1,4 +1,3 @@
-use Rattle.writer.proofs.All.{all}
 use Prim.Native.Nat.{◌≤◌, ◌-◌}
 use Rattle.writer.specs.Claims.{PartnersPut}
 use Rattle.writer.proofs.put_partners.Given as goal

@@ -1,8 +1,6 @@
-use Rattle.writer.proofs.All.{all}
 use Prim.Native.Nat.{◌≤◌, ◌-◌, ◌*◌}
 use Rattle.writer.specs.Writes.{Writes}
 use Rattle.writer.specs.Texts.{repeat_text}
-use Rattle.writer.proofs.Sets.{repeats_on}
 use Rattle.writer.proofs.put_repeats.Given as goal
 
 abbrev pub invariant-loop-i : goal.invariant-loop-i

@@ -1,4 +1,3 @@
-use borrow.Author.Rules.{rules}
 use Rattle.writer.proofs.Sheets.{sheet_puts}
 use Rattle.writer.proofs.put_sheet.Goals as goal
 

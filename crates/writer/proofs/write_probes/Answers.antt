@@ -1,4 +1,3 @@
-use borrow.Author.Rules.{rules}
 use Rattle.writer.proofs.Sheets.{measured_short, measured_written}
 use Rattle.writer.proofs.write_probes.Goals as goal
 

@@ -1,4 +1,3 @@
-use borrow.Author.Rules.{rules}
 use Rattle.writer.proofs.Sheets.{sheet_fits, sheet_short, sheet_written}
 use Rattle.writer.proofs.write_sheet.Goals as goal
 
