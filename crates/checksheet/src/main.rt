@@ -22,7 +22,12 @@ fn check<W: Write>(
 
 // Each buffer has one byte more than a text may have, so that one that is too long is refused and not cut.
 fn main(rt: HostRuntime) -> io::Result<()> {
-    if !files::has_args(&rt, 5, "usage: checksheet OLD NEW TESTS SHEET\n")? {
+    if !files::has_args(
+        &rt,
+        &mut rt.stderr(),
+        5,
+        b"usage: checksheet OLD NEW TESTS SHEET\n",
+    )? {
         return Ok(());
     }
     let mut old = [0u8; 65537];

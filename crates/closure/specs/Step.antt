@@ -158,7 +158,7 @@ module _ {old new : Program} {limit : ℕ} where
   -- ---- a pair that is not there
 
   module _ {w : List ℕ} {c a b : ℕ} (fm : Formed old new) (s : State old new limit w c) (p : c ≤ limit → Pair old new a b)
-      (new-one : c ≤ limit → listed (pairs_in w c) a b ≡ false) where
+      (new_one : c ≤ limit → listed (pairs_in w c) a b ≡ false) where
     -- One more than the limit is found, or was found before.
     pub step_over : limit ≤ c → Step old new limit w c (λ M _. listed M a b ≡ true) w (limit + 1)
     step_over h =
@@ -175,7 +175,7 @@ module _ {old new : Program} {limit : ℕ} where
             below_or limit c (λ l. s.over l)
             (λ l.
             let k = s.kept l in
-            let o = once_snoc a b k.once (new-one l) in
+            let o = once_snoc a b k.once (new_one l) in
             let g = pigeonhole (pairs old new) o
             (λ x y t. pairs_complete old new fm.old_formed fm.new_formed
             (⊎_elim (k.sound x y) (λ u. let e = listed_one a b x y u in subst₂ (Pair old new) e.0 e.1 (p l)) (listed_append (pairs_in w c) _ x y t))) in
@@ -196,7 +196,7 @@ module _ {old new : Program} {limit : ℕ} where
               store = x.0;
               sound = λ y z t.
                   ⊎_elim (k.sound y z) (λ u. let e = listed_one a b y z u in subst₂ (Pair old new) e.0 e.1 q) (listed_append (pairs_in w c) _ y z (rw x.1 at t));
-              once = rw x.1 (once_snoc a b k.once (new-one (omega arith)));
+              once = rw x.1 (once_snoc a b k.once (new_one (omega arith)));
               dangerous = λ e t. k.dangerous e (sym (x.2 e) ∙ t);
             };
             over = λ l. absurd (let z : ⊥ = omega arith in z);

@@ -95,11 +95,11 @@ module _ (row set : List ℕ) (k w : ℕ) (inv : NoneTo row set k) (is : w ≡ b
 
   pub danger_found : (z n : ℕ) → k < n → n ≤ 16 → (w ≡ 0 → ⊥) → z ≡ count_trailing_zeros 64 w → edge_found (At (64 * k + z)) ≡ first_common row set
   unfolding NoneTo first_common edge_found
-  danger_found z n h l some-bit e = ap (λ (y : ℕ). some (64 * k + y)) e ∙ sym (first_word (both row set) k w fits both_word 16 (omega arith) (omega arith) inv)
+  danger_found z n h l some_bit e = ap (λ (y : ℕ). some (64 * k + y)) e ∙ sym (first_word (both row set) k w fits both_word 16 (omega arith) (omega arith) inv)
 
   pub danger_on : w ≡ 0 → NoneTo row set (k + 1)
   unfolding NoneTo
-  danger_on no-bit = first_no_word (both row set) k w fits both_word no-bit inv
+  danger_on no_bit = first_no_word (both row set) k w fits both_word no_bit inv
 
 pub danger_room : (k z n w : ℕ) → k < n → n ≤ 16 → z ≡ count_trailing_zeros 64 w → 64 * k + z < 2 ^ 64
 danger_room k z n w h l e = omega (arith, trailing_le 64 w)

@@ -6,9 +6,10 @@ ghost use Rattle.std.specs.Io.KnownBytes.{Appends, Consumes, IsAtEnd};
 ghost use Rattle.rules.specs.Text.{all_bytes, split};
 ghost use Rattle.files.specs.Marks.{is_mark};
 
+use std::env::FillError;
 use std::io::{ErrorKind, Read, Write};
 use std::rt::{Env, Files};
-use std::{env, fs, io};
+use std::{fs, io, str};
 
 // What came of a file: whether it could be read, and how many bytes stand at the start of the buffer.
 #[derive(Clone, Copy)]
@@ -68,30 +69,43 @@ fn load_path<R: Files + Eprint>(rt: &R, path: &str, buffer: &mut [u8]) -> io::Re
     }
 }
 
+// Says on standard error that an argument does not name a file, and answers that nothing came.
+fn no_argument<R: Eprint>(rt: &R, why: ErrorKind) -> io::Result<Loaded> {
+    fail(rt, "argument", &io::Error::from(why))?;
+    Ok(Loaded {
+        came: false,
+        size: 0,
+    })
+}
+
 // The same of the file that argument i names.
-pub fn load<R: Files + Env + Eprint + Alloc>(
-    rt: &R,
-    i: usize,
-    buffer: &mut [u8],
-) -> io::Result<Loaded> {
-    match env::args(rt)?.nth(i) {
-        Some(path) => load_path(rt, path.as_str(), buffer),
-        None => {
-            fail(rt, "argument", &io::Error::from(ErrorKind::NotFound))?;
-            Ok(Loaded {
-                came: false,
-                size: 0,
-            })
-        }
+pub fn load<R: Files + Env + Eprint>(rt: &R, i: usize, buffer: &mut [u8]) -> io::Result<Loaded> {
+    let mut path = [0u8; 4096];
+    match rt.arg(i, &mut path) {
+        Ok(n) => match str::from_utf8(&path[..n]) {
+            Ok(path) => load_path(rt, path, buffer),
+            Err(_) => no_argument(rt, ErrorKind::InvalidData),
+        },
+        Err(FillError::NotPresent) => no_argument(rt, ErrorKind::NotFound),
+        Err(FillError::TooLong) => no_argument(rt, ErrorKind::InvalidFilename),
     }
 }
 
-// Whether the program was started with n words, its own name among them; else a line on standard error says how it is used.
-pub fn has_args<R: Env + Eprint + Alloc>(rt: &R, n: usize, usage: &str) -> io::Result<bool> {
-    if env::args(rt)?.len() == n {
+// Whether the program was started with a word i; its own name is word 0.
+fn has_word<R: Env>(rt: &R, i: usize) -> bool {
+    let mut none = [0u8; 0];
+    match rt.arg(i, &mut none) {
+        Err(FillError::NotPresent) => false,
+        _ => true,
+    }
+}
+
+// Whether the program was started with n words, its own name among them; else a line, for standard error, says how it is used.
+pub fn has_args<R: Env, W: Write>(rt: &R, to: &mut W, n: usize, usage: &[u8]) -> io::Result<bool> {
+    if (n == 0 || has_word(rt, n - 1)) && !has_word(rt, n) {
         return Ok(true);
     }
-    eprint!(rt; "{usage}")?;
+    to.write_all(usage)?;
     Ok(false)
 }
 

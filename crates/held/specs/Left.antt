@@ -2,7 +2,7 @@
 use Rattle.std.specs.Prelude.{◌≡◌, refl}
 use Rattle.std.proofs.Math.Option.{Option, none, some}
 use Rattle.std.proofs.Common.{arith}
-use Rattle.rules.proofs.ProgramLaws.{Sound}
+use Rattle.rules.specs.Kept.{Sound}
 use Rattle.rules.specs.ProgramFile.{Listing}
 use Rattle.rules.specs.SuiteFile.{TestListing, test_count}
 use Rattle.reader.specs.declared.Count.{Count}

@@ -18,7 +18,7 @@ use Rattle.rules.specs.ProgramFile.{Listing, read_listing}
 use Rattle.rules.specs.WriteBack.{other_alone}
 use Rattle.rules.specs.SuiteFile.{TestListing, test_count}
 use Rattle.rules.specs.Job.{Outcome, Request as Asked, Span, Version, by_side, has_node, label_part, label_shown, label_span, call_request, nowhere, of_stage, outcome, packed_span, call_tests, refusal, serving, span_shown, stage_after}
-use Rattle.rules.proofs.ProgramLaws.{Sound}
+use Rattle.rules.specs.Kept.{Sound}
 use Rattle.answer.specs.declared.Answer.{Answer}
 use Rattle.answer.specs.Outcomes.{Told, packing, packing_fits, packs, refusal_told, told_as}
 use Rattle.reader.specs.declared.Count.{Count}
@@ -540,14 +540,14 @@ module _ (j : Job) (ot : Bytes) (on : List Node) (ol nt : List ℕ) (nn : List N
   held_same = held_texts ot nt
 
   -- So are the texts that the tables write back, and what they hold.
-  module _ (few_on : 512 ≤ length on) (few-nn : 512 ≤ length nn) (long : 4096 ≤ length w) where
+  module _ (few_on : 512 ≤ length on) (few_nn : 512 ≤ length nn) (long : 4096 ≤ length w) where
     old_text : text_back job_loaded.old (old_count j) ≡ text_back job_lent.old (old_count j)
     unfolding text_back
     old_text = ap (take max_bytes) (back_agrees ot (unloaded 0 w₁) (flat on) ol (loaded_agree on (unloaded 0 w₁) few_on (old_unloaded on nn w w₁ loaded long few_on)) (old_count j) (limited_small _ _ _))
 
     new_text : text_back job_loaded.new (new_count j) ≡ text_back job_lent.new (new_count j)
     unfolding text_back
-    new_text = ap (take max_bytes) (back_agrees nt (unloaded 2048 w₁) (flat nn) nl (loaded_agree nn (unloaded 2048 w₁) few-nn (new_unloaded on nn w w₁ loaded long few-nn)) (new_count j) (limited_small _ _ _))
+    new_text = ap (take max_bytes) (back_agrees nt (unloaded 2048 w₁) (flat nn) nl (loaded_agree nn (unloaded 2048 w₁) few_nn (new_unloaded on nn w w₁ loaded long few_nn)) (new_count j) (limited_small _ _ _))
 
     texts_same : held_back job_loaded ≡ held_back job_lent
     unfolding held_back written_back others_alone

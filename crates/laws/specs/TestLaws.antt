@@ -1,4 +1,4 @@
--- What the tests of `Tests` say where they pass. `x-at` takes a fact out of a passed test, and `x-of` proves that a test passes.
+-- What the tests of `Tests` say where they pass. `x_at` takes a fact out of a passed test, and `x_of` proves that a test passes.
 use Rattle.std.proofs.Math.Path.{◌≡◌, refl, sym}
 use Rattle.std.proofs.Common.{ap, ◌∙◌, inl, inr, eqb-true, eq-eqb}
 use Rattle.std.specs.Prelude.{◌⊎◌, Bool}

@@ -15,7 +15,8 @@ use Rattle.laws.specs.Slices.{below_or, get_d_sets_before}
 use Rattle.laws.specs.Tables.{rows, rows_length, rows_stored}
 use Rattle.rules.specs.Text.{Bytes, same, Reading, refused, accepted}
 use Rattle.rules.proofs.TextLaws.{same_true, same_of, then_passes}
-use Rattle.rules.proofs.ProgramLaws.{Sound, read_sound}
+use Rattle.rules.specs.Kept.{Sound}
+use Rattle.rules.proofs.ProgramLaws.{read_sound}
 use Rattle.rules.specs.Graph.{proc_count, node_count, edge_count}
 use Rattle.rules.specs.ProgramFile.{Listing, read_listing, read_program}
 use Rattle.rules.specs.SuiteFile.{TestListing, read_suite, read_tests, test_count}

@@ -16,7 +16,7 @@ use Rattle.rules.specs.ProgramFile.{Listing, read_listing, read_program}
 use Rattle.rules.specs.SuiteFile.{TestListing, read_tests, read_suite, test_count}
 use Rattle.rules.specs.Job.{Given, of_stage, outcome, call_new, call_old, call_tests, read_job, read_new_answer, read_tests_answer, success}
 use Rattle.rules.proofs.TextLaws.{same_of}
-use Rattle.rules.proofs.ProgramLaws.{Sound}
+use Rattle.rules.specs.Kept.{Sound}
 use Rattle.graph.specs.Table.{node_row, proc_row, edge_row, nodes_after, links_after}
 use Rattle.program.specs.Lent.{is_left}
 use Rattle.lent_tests.specs.Lent.{test_row, coverage_row, tests_after, rows_after}

@@ -12,7 +12,7 @@ use Rattle.laws.specs.Bits.{bit_at, bit_in, bits_words, words_length}
 use Rattle.rules.specs.Text.{Bytes, accepted}
 use Rattle.rules.specs.SuiteFile.{TestListing, coverage_at, read_tests, test_count}
 use Rattle.rules.proofs.TextLaws.{same_of}
-use Rattle.rules.proofs.SuiteLaws.{SoundSuite}
+use Rattle.rules.specs.Kept.{SoundSuite}
 use Rattle.coverage.specs.Rows.{edge_bit}
 use Rattle.suite.specs.Tables.{Holds}
 use Rattle.suite.specs.TableLaws.{suite_read}

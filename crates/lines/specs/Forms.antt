@@ -11,8 +11,10 @@ use Rattle.laws.specs.TestLaws.{and_not, and_right, both_ways}
 use Rattle.rules.specs.Text.{Bytes, is_name, is_number, is_word, join_by, same, split, value_from}
 use Rattle.rules.specs.Graph.{Kind, E, S, C, X, kind_number}
 use Rattle.rules.specs.ProgramFile.{Line, proc_line, node_line, edge_line, malformed, kind_of, is_node, is_edge, form_of}
-use Rattle.rules.proofs.ProgramLaws.{Formed, formed}
-use Rattle.rules.proofs.TextLaws.{callees_free, empty_true, join_split, name_free, other, same_of, split_free}
+use Rattle.rules.specs.Kept.{Formed}
+use Rattle.rules.proofs.ProgramLaws.{formed}
+use Rattle.rules.specs.Kept.{other}
+use Rattle.rules.proofs.TextLaws.{callees_free, empty_true, join_split, name_free, same_of, split_free}
 use Rattle.text.specs.NumberLaws.{a_number, no_number, number_whole}
 use Rattle.text.specs.Scans.{span}
 use Rattle.text.specs.SplitLaws.{first_last, first_more, letter, pieces}

@@ -7,8 +7,10 @@ use Rattle.rules.specs.Text.{Bytes, fields_of, value, accepted}
 use Rattle.rules.specs.Graph.{Node, Edge, no_node, no_edge, name_at, label_at, callee_at, proc_count, node_count, edge_count}
 use Rattle.rules.specs.ProgramFile.{Line, proc_line, node_line, edge_line, malformed, form_of, Listing, nothing_read, current, take_line, step_program}
 use Rattle.rules.specs.Places.{Part}
-use Rattle.rules.proofs.ProgramLaws.{Sound, sound_none, sound_step}
-use Rattle.rules.proofs.Places.{after_line, line_taken}
+use Rattle.rules.specs.Kept.{Sound}
+use Rattle.rules.proofs.ProgramLaws.{sound_none, sound_step}
+use Rattle.rules.specs.Kept.{after_line}
+use Rattle.rules.proofs.Places.{line_taken}
 use Rattle.lines.specs.Stands.{Stands}
 
 pub record Known (text : Bytes) (s : Listing) : Type 0 where

@@ -9,7 +9,8 @@ use Rattle.rules.specs.ProgramFile.{Line, proc_line, node_line, edge_line, malfo
 use Rattle.rules.specs.Layout.{kind_field}
 use Rattle.rules.specs.Places.{Part}
 use Rattle.rules.proofs.Places.{kind_long}
-use Rattle.rules.proofs.ProgramLaws.{Formed, formed}
+use Rattle.rules.specs.Kept.{Formed}
+use Rattle.rules.proofs.ProgramLaws.{formed}
 use Rattle.rules.proofs.TextLaws.{join_split}
 
 -- The parts of a line that begins at the offset `at` stand in the text. Of a B line none is sought there again.

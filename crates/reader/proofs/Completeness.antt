@@ -16,7 +16,7 @@ use Rattle.laws.specs.Counting.{count_zero, every_agree}
 use Rattle.rules.specs.Text.{Bytes, same}
 use Rattle.rules.specs.Graph.{Kind, E, S, C, X, Program, degrees, fewest, most, owner_at, kind_at, source_at, word_at, proc_count, node_count, edge_count, kind_number, same_kind, is_of, degree, dash, worded}
 use Rattle.rules.specs.ProgramFile.{Listing, current, degree_fine, complete}
-use Rattle.rules.proofs.ProgramLaws.{Sound}
+use Rattle.rules.specs.Kept.{Sound}
 use Rattle.graph.specs.Table.{proc_head, first_node}
 use Rattle.graph.specs.Lookups.{in_table, Edges, Procs, Degree, Dashed}
 use Rattle.lines.specs.Known.{Known}
@@ -131,10 +131,10 @@ module _ (w l : List ℕ) (n kind d : ℕ) (b : Degrees) (ek : kind ≡ get_or w
     -- An E or a C: its edges are `-`.
     dash_words : (s : Listing) (c : Count) → Sound s.program → Holds w c s → n < node_count s.program → (r : Bool) → Dashed l' n r → ((u : Bytes) → worded (kind_at s.program n) u ≡ same u dash) → r ≡ node_fine s.program n
     unfolding node_fine Dashed ◌and◌
-    dash_words s c k h m r q same-words =
+    dash_words s c k h m r q same_words =
         let z : degree_fine s.program n ≡ true = fine s c k h m a e in
         q s (subst (λ (x : List ℕ). Edges (in_table x) s) (sym el') (edges_of w c s k h)) m
-        ∙ every_agree _ _ (edge_count s.program) (λ i b. ap (λ (t : Bool). eqb (source_at s.program i) n ⇒ t) (sym (same-words (word_at s.program i))))
+        ∙ every_agree _ _ (edge_count s.program) (λ i b. ap (λ (t : Bool). eqb (source_at s.program i) n ⇒ t) (sym (same_words (word_at s.program i))))
         ∙ ap (λ (t : Bool). t and every (edge_count s.program) (λ e. eqb (source_at s.program e) n ⇒ worded (kind_at s.program n) (word_at s.program e))) (sym z)
 
     pub fine_entry : kind ≡ 0 → (r : Bool) → Dashed l' n r → NodeFine w n r
@@ -243,7 +243,7 @@ module _ (w : List ℕ) (c : Count) (s : Listing) (k : Sound s.program) (h : Hol
           (subst (λ (m : ℕ). eqb (owner_at p m) (current p) ≡ true) (sym z) o)))))))
 
 module _ (w : List ℕ) (c : Count) where
-  pub entries_not : (ofCurrent-3 n : ℕ) → ofCurrent-3 ≡ of_current w c.procs 3 → n ≡ kind_count w ofCurrent-3 c.nodes 0 → (n ≡ 1 → ⊥) → Completes w c false
+  pub entries_not : (current_3 n : ℕ) → current_3 ≡ of_current w c.procs 3 → n ≡ kind_count w current_3 c.nodes 0 → (n ≡ 1 → ⊥) → Completes w c false
   unfolding Completes complete
   entries_not f n ef en z s k h some =
       sym (fails _ (λ t. z (en ∙ ap (λ (f : ℕ). kind_count w f c.nodes 0) ef ∙ kinds_counted w c s k h some E ∙ eqb-true _ _ (and_left _ _ t))))

@@ -16,7 +16,8 @@ use Rattle.rules.specs.Text.{Bytes, names_in, is_callees, max_bytes, Reading, re
 use Rattle.rules.specs.Graph.{name_at, kind_at, label_at, callee_at, proc_count, node_count, kind_number, entry, exit}
 use Rattle.rules.specs.ProgramFile.{Listing, current, begun, lost, complete, finish_program, read_listing}
 use Rattle.rules.proofs.TextLaws.{unless_passes, unless_refuses}
-use Rattle.rules.proofs.ProgramLaws.{Complete, complete_says}
+use Rattle.rules.specs.Kept.{Complete}
+use Rattle.rules.proofs.ProgramLaws.{complete_says}
 use Rattle.rules.proofs.Places.{part_is}
 use Rattle.graph.specs.Table.{At, first_node, first_edge, node_row, proc_row, edge_row, proc_digit, callees_from}
 use Rattle.graph.specs.Lookups.{in_table, Procs}
@@ -178,7 +179,7 @@ seven_at f i a b c d e x y h p q (suc (suc (suc (suc (suc zero))))) l = p
 seven_at f i a b c d e x y h p q (suc (suc (suc (suc (suc (suc zero)))))) l = q
 seven_at f i a b c d e x y h p q (suc (suc (suc (suc (suc (suc (suc k))))))) l = absurd (let z : ⊥ = omega arith in z)
 
-module _ (text w w' : List ℕ) (c : Count) (s : Listing) (k : Known text s) (h : Holds w c s) (some-proc : 0 < proc_count s.program) (whole : complete s.program (current s.program) ≡ true) (h' : Partly w w' s (node_count s.program)) where
+module _ (text w w' : List ℕ) (c : Count) (s : Listing) (k : Known text s) (h : Holds w c s) (some_proc : 0 < proc_count s.program) (whole : complete s.program (current s.program) ≡ true) (h' : Partly w w' s (node_count s.program)) where
   each_complete : (q : ℕ) → q < proc_count s.program → Complete s.program q
   each_complete q l =
       same_or q (current s.program) (λ e. subst (Complete s.program) (sym e) (complete_says s.program (current s.program) whole)) (λ e. k.sound.closed q (next q e l))
@@ -210,9 +211,9 @@ module _ (text w : List ℕ) (c : Count) (sm : Small c) where
         small = a.small;
       }
 
-  module _ (some-proc : c.procs ≡ 0 → ⊥) (u : Bool) (q : Completes w c u) where
+  module _ (some_proc : c.procs ≡ 0 → ⊥) (u : Bool) (q : Completes w c u) where
     some_of : (s : Listing) → Holds w c s → 0 < proc_count s.program
-    some_of s h = some_procs w c s h some-proc
+    some_of s h = some_procs w c s h some_proc
 
     begun_of : (s : Listing) → Holds w c s → isnt (begun s.program) ≡ false
     begun_of s h = false_isnt (lt-ltb 0 (proc_count s.program) (some_of s h))

@@ -14,7 +14,7 @@ use Rattle.laws.specs.Counting.{count_all, count_missing, count_prefix, first_ag
 use Rattle.rules.specs.Text.{Bytes}
 use Rattle.rules.specs.Graph.{Kind, Node, Edge, Program, no_node, no_edge, owner_at, source_at, proc_count, node_count, edge_count, same_kind, is_of}
 use Rattle.rules.specs.ProgramFile.{add_proc, add_node, add_edge, current, has_edge, is_node_of}
-use Rattle.rules.proofs.ProgramLaws.{Sound}
+use Rattle.rules.specs.Kept.{Sound}
 use Rattle.graph.specs.Table.{first_node, first_edge}
 
 -- ---- the procedure that is being read
@@ -25,7 +25,7 @@ module _ (p : Program) (s : Sound p) where
   unfolding first_node
   before_node q n h = count_prefix (λ n. ltb (owner_at p n) q) (node_count p) (λ i j a b t. lt-ltb (owner_at p i) q (omega (arith, s.node_order i j a b, ltb-true (owner_at p j) q t))) n h
 
-  module _ (some-proc : 0 < proc_count p) where
+  module _ (some_proc : 0 < proc_count p) where
     owner_last : (n : ℕ) → n < node_count p → owner_at p n ≤ current p
     owner_last n h = omega (arith, s.owners n h)
 

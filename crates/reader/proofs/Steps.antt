@@ -111,9 +111,9 @@ module _ (text w : List ℕ) (n at : ℕ) (name : Bytes) (c : Count) where
         small = o.small;
       }
 
-  module _ (some-proc : c.procs ≡ 0 → ⊥) (u : Bool) (q : Completes w c u) where
+  module _ (some_proc : c.procs ≡ 0 → ⊥) (u : Bool) (q : Completes w c u) where
     some_of : (s : Listing) → Holds w c s → 0 < proc_count s.program
-    some_of s h = some_procs w c s h some-proc
+    some_of s h = some_procs w c s h some_proc
 
     pub next_proc : (r : Count) (w' : List ℕ) → u ≡ true → OpenedProc text n at name c w r w' → Took text n at (proc_line name) c w r w'
     unfolding Stepped take_line Completes
@@ -154,13 +154,13 @@ module _ (w : List ℕ) (n at kind : ℕ) (label callee : Bytes) (c : Count) whe
         small = a.small;
       }
 
-  module _ (some-proc : c.procs ≡ 0 → ⊥) (f : ℕ) (ef : f ≡ of_current w c.procs 4) where
+  module _ (some_proc : c.procs ≡ 0 → ⊥) (f : ℕ) (ef : f ≡ of_current w c.procs 4) where
     first_edge_is : (s : Listing) → Holds w c s → f ≡ first_edge s.program (current s.program)
-    first_edge_is s h = ef ∙ current_row w c s h (begun_of s h some-proc) 4 (omega arith)
+    first_edge_is s h = ef ∙ current_row w c s h (begun_of s h some_proc) 4 (omega arith)
 
     has_edge_is : (text : Bytes) (s : Listing) → Known text s → Holds w c s → has_edge s.program (current s.program) ≡ ltb f c.edges
     has_edge_is text s k h =
-        has_edge_lem s.program k.sound (begun_of s h some-proc) ∙ ap (λ (m : ℕ). ltb m (edge_count s.program)) (sym (first_edge_is s h)) ∙ ap (ltb f) (sym h.edges_n)
+        has_edge_lem s.program k.sound (begun_of s h some_proc) ∙ ap (λ (m : ℕ). ltb m (edge_count s.program)) (sym (first_edge_is s h)) ∙ ap (ltb f) (sym h.edges_n)
 
     pub node_late : (r : Count) (w' : List ℕ) → f < c.edges → Refusal 3 n r → AddedNode n at kind label callee c w r w'
     unfolding Stepped take_line
@@ -175,7 +175,7 @@ module _ (w : List ℕ) (n at kind : ℕ) (label callee : Bytes) (c : Count) whe
       in_place : (text : Bytes) (s : Listing) → Known text s → Holds w c s → (isnt (begun s.program) or has_edge s.program (current s.program)) ≡ false
       unfolding ◌or◌
       in_place text s k h =
-          let a : isnt (begun s.program) ≡ false = false_isnt (lt-ltb 0 (proc_count s.program) (begun_of s h some-proc)) in
+          let a : isnt (begun s.program) ≡ false = false_isnt (lt-ltb 0 (proc_count s.program) (begun_of s h some_proc)) in
           let b : has_edge s.program (current s.program) ≡ false = has_edge_is text s k h ∙ le-ltb f c.edges early in
           rw a b
 
@@ -198,12 +198,12 @@ module _ (w : List ℕ) (n at kind : ℕ) (label callee : Bytes) (c : Count) whe
                   refl,
                   subst (λ (v : List ℕ). Holds v (counts c.procs (c.nodes + 1) c.edges) (with_node n at k label callee s))
                       (sym (ew ∙ ap (λ (m : ℕ). stored_node w (c.procs - 1) c.nodes m (at + 4) (length label) (n * 64 + length callee)) e))
-                      (push_node text w c s ks h room (omega (arith, begun_of s h some-proc, h.procs_n)) few k label callee n at),
+                      (push_node text w c s ks h room (omega (arith, begun_of s h some_proc, h.procs_n)) few k label callee n at),
                 );
             small = small_node c sm few;
           })
 
-pub ruleset Node-Lines = (node_first, node_late, node_full, node_new)
+pub ruleset node_line_rules = (node_first, node_late, node_full, node_new)
 
 -- ---- a B line
 
@@ -267,9 +267,9 @@ module _ (w : List ℕ) (n source start : ℕ) (word : Bytes) (target : ℕ) (c 
         small = a.small;
       }
 
-  module _ (some-proc : c.procs ≡ 0 → ⊥) where
+  module _ (some_proc : c.procs ≡ 0 → ⊥) where
     some_of_edge : (s : Listing) → Holds w c s → 0 < proc_count s.program
-    some_of_edge s h = some_procs w c s h some-proc
+    some_of_edge s h = some_procs w c s h some_proc
 
     has_begun : (s : Listing) → Holds w c s → isnt (begun s.program) ≡ false
     has_begun s h = false_isnt (lt-ltb 0 (proc_count s.program) (some_of_edge s h))

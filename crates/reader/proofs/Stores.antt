@@ -271,7 +271,7 @@ module _ (text w : List ℕ) (c : Count) (s : Listing) (k : Known text s) (h : H
   apart i t e o = fails _ (λ y. both_ways (and_both (eq-eqb _ _ (sym o)) y) e)
 
   -- The first node of the kind t in each procedure that has one, where it is noted d numbers into the procedure's row: an entry, or an exit.
-  module _ (t : Kind) (d : ℕ) (five-up : 5 ≤ d) (six-most : d ≤ 6) (noted : get_or (marked_links t q c.nodes m₀) (7 * q + d) 0 ≡ c.nodes)
+  module _ (t : Kind) (d : ℕ) (five_up : 5 ≤ d) (six_most : d ≤ 6) (noted : get_or (marked_links t q c.nodes m₀) (7 * q + d) 0 ≡ c.nodes)
       (unnoted : same_kind kind t ≡ false → get_or (marked_links kind q c.nodes m₀) (7 * q + d) 0 ≡ get_or m₀ (7 * q + d) 0) where
     one_kept : (i : ℕ) → i < proc_count s.program
         → (count (node_count s.program) (is_of s.program i t) ≡ 1 → get_or (links_of w) (7 * i + d) 0 ≡ or_zero (first (node_count s.program) (is_of s.program i t)))

@@ -7,7 +7,7 @@ use Rattle.laws.specs.Tests.{◌and◌, ◌⇒◌, every, first, count, choose}
 use Rattle.rules.specs.Text.{Bytes, is_word, name_count, names_in, value, Reading, refused, accepted, unless, read_lines, lines_of as lines_of_text}
 use Rattle.rules.specs.Graph.{Program, Kind, E, X, kind_at, label_at, callee_at, source_at, node_count, edge_count, proc_count, kind_number, is_of, entry, exit, worded, word_at, owner_at}
 use Rattle.rules.specs.ProgramFile.{Line, node_line, edge_line, Listing, current, complete, take_proc, take_line, step_program, finish_program, nothing_read, has_word, with_edge, degree_fine, lost}
-use Rattle.rules.proofs.ProgramLaws.{Sound}
+use Rattle.rules.specs.Kept.{Sound}
 use Rattle.graph.specs.Table.{At, node_base, proc_base, edge_base, head_base, proc_head, edge_row, head_of, node_row, proc_digit}
 use Rattle.graph.specs.Lookups.{in_table, Procs}
 use Rattle.lines.specs.Known.{Known}

@@ -179,21 +179,21 @@ module _ (limit : ℕ) (old new : Program) (suite : Suite) (l m : Bytes) (ms : L
 by_lines : (old new tests sheet : Bytes) (g : Given) (ls : List Bytes) → read_job old new tests ≡ accepted g → length sheet ≤ max_bytes → lines_of sheet ≡ ls
     → check_answer old new tests sheet ≡ outcome (read_lines (step_sheet max_pairs g.old g.new g.suite) finish_sheet 1 0 no_sheet ls) (judged g)
 unfolding read_sheet read_text
-by_lines old new tests sheet g ls e short is-lines =
+by_lines old new tests sheet g ls e short is_lines =
     checked old new tests sheet g e
-    ∙ ap (λ (a : Reading Sheet). outcome a (judged g)) (unless_passes _ _ _ _ (le-ltb _ _ short) ∙ ap (read_lines (step_sheet max_pairs g.old g.new g.suite) finish_sheet 1 0 no_sheet) is-lines)
+    ∙ ap (λ (a : Reading Sheet). outcome a (judged g)) (unless_passes _ _ _ _ (le-ltb _ _ short) ∙ ap (read_lines (step_sheet max_pairs g.old g.new g.suite) finish_sheet 1 0 no_sheet) is_lines)
 
 pub line_above : LineAbove
 unfolding outcome
-line_above old new tests front sheet g e brief short ls l m ms front-lines is-lines many is =
-    let read = by_lines old new tests sheet g (ls ++ (l ∷ m ∷ ms)) e short is-lines in
+line_above old new tests front sheet g e brief short ls l m ms front_lines is_lines many is =
+    let read = by_lines old new tests sheet g (ls ++ (l ∷ m ∷ ms)) e short is_lines in
     let one : 1 + length ls ≡ suc (length ls) = omega arith in
     ⊎_elim (λ r. inl (read ∙ ap (λ (a : Reading Sheet). outcome a (judged g)) (r ∙ ap (refused 4) one)))
     (λ r. inr (
       r.0,
       r.1,
       read ∙ ap (λ (a : Reading Sheet). outcome a (judged g)) r.2,
-      by_lines old new tests front g (ls ++ ([] ∷ [])) e brief front-lines ∙ ap (λ (a : Reading Sheet). outcome a (judged g)) r.3,
+      by_lines old new tests front g (ls ++ ([] ∷ [])) e brief front_lines ∙ ap (λ (a : Reading Sheet). outcome a (judged g)) r.3,
       r.4,
       let z : r.1 ≤ length ls = omega (arith, r.5) in z,
     ))

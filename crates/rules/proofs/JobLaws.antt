@@ -19,9 +19,11 @@ use Rattle.rules.specs.Job.{Given, read_job, Outcome, wrote, refusal, passed, ou
 use Rattle.rules.specs.Promises.{MarksHold, MarksTrue, RunsAlike}
 use Rattle.rules.proofs.Lockstep.{checked}
 use Rattle.rules.proofs.Marks.{marks_hold, marks_true}
-use Rattle.rules.proofs.ProgramLaws.{Sound, read_sound, read_well_formed}
+use Rattle.rules.specs.Kept.{Sound}
+use Rattle.rules.proofs.ProgramLaws.{read_sound, read_well_formed}
 use Rattle.rules.proofs.SheetLaws.{among_append, among_later, among_here, sheet_lines_lem, r_written}
-use Rattle.rules.proofs.SuiteLaws.{SoundSuite, suite_sound}
+use Rattle.rules.specs.Kept.{SoundSuite}
+use Rattle.rules.proofs.SuiteLaws.{suite_sound}
 use Rattle.rules.proofs.TextLaws.{same_true, unless_accepted, accepted_same, then_accepted, join_split, text_holds}
 
 -- ---- what a job's texts give

@@ -10,14 +10,16 @@ use Rattle.laws.specs.TestLaws.{isnt_false}
 use Rattle.laws.specs.Lists.{snoc_length, snoc_cases, snoc_old, snoc_new}
 use Rattle.rules.specs.Text.{Bytes, bytes, lines_of, fields_of, commas, join_by, text_of, value, Reading, accepted, read_lines, read_text}
 use Rattle.rules.specs.Graph.{Kind, E, S, C, X, Node, Edge, no_node, no_edge, label_at, node_count}
-use Rattle.rules.specs.ProgramFile.{Line, proc_line, node_line, edge_line, malformed, form_of, Listing, nothing_read, current, begun, with_proc, with_node, with_edge, take_proc, take_line, step_program, finish_program, read_listing}
+use Rattle.rules.specs.ProgramFile.{Line, proc_line, node_line, edge_line, malformed, form_of, Listing, nothing_read, current, begun, take_proc, take_line, step_program, finish_program, read_listing}
 use Rattle.rules.specs.SuiteFile.{TestLine, TestListing, finish_suite, no_test, no_tests, read_tests, step_suite, take_test, test_line, test_form}
 use Rattle.rules.specs.Job.{Version, label_part}
 use Rattle.rules.specs.Layout.{kind_field, line_of_node, line_of_proc}
 use Rattle.rules.specs.Places.{Part, Placed, Starts, OnLines, TestsPlaced}
-use Rattle.rules.proofs.ProgramLaws.{Formed, formed, closing_begun, finished}
+use Rattle.rules.specs.Kept.{Formed}
+use Rattle.rules.proofs.ProgramLaws.{formed, closing_begun, finished}
 use Rattle.rules.proofs.SuiteLaws.{TestFormed, test_formed}
 use Rattle.rules.proofs.TextLaws.{empty_true, nothing_ended, unless_accepted, accepted_same, then_accepted, join_split, lines_ended}
+use Rattle.rules.specs.Kept.{after_line}
 
 -- ---- reading, with the number and the offset of each line
 
@@ -142,13 +144,6 @@ lines_add {A = A} ls l d f vs ns v e o =
     ascend m n a (inr h) = omega (arith, number_old m (omega arith), number_new n h, o.inside m (omega arith))
 
 -- ---- a program file
-
--- What was read after a line.
-abbrev pub after_line : ℕ → ℕ → Listing → Line → Listing
-after_line n at s (proc_line name) = with_proc n at name s
-after_line n at s (node_line kind label callee) = with_node n at kind label callee s
-after_line n at s (edge_line from word to) = with_edge at from word to s
-after_line n at s malformed = s
 
 pub line_taken : (n at : ℕ) (s : Listing) (l : Line) (t : Listing) → take_line n at s l ≡ accepted t → t ≡ after_line n at s l
 unfolding take_line

@@ -12,20 +12,14 @@ use Rattle.laws.specs.Tests.{◌and◌, ◌or◌, isnt, any, first, plus, count,
 use Rattle.laws.specs.TestLaws.{and_left, and_right, and_both, implied, isnt_false, true_isnt, both_ways, passes?, fails, every_at, any_at, any_of_lem, any_none, first_none, none_below}
 use Rattle.laws.specs.Lists.{snoc_length, snoc_cases, snoc_old, snoc_new, snoc_all, count_agree}
 use Rattle.rules.specs.Text.{Bytes, same, empty, bytes, max_procs, max_nodes, max_edges, between, is_name, is_callees, name_count, name_in, split, is_label, is_word, value, fields_of, Reading, refused, accepted}
-use Rattle.rules.specs.Graph.{Kind, E, S, C, X, Node, Edge, Program, WellFormed, no_node, no_edge, node_at, edge_at, name_at, owner_at, kind_at, label_at, callee_at, callee_count, callee_name, source_at, word_at, target_at, proc_count, node_count, edge_count, same_kind, is_of, leaves, degree, fewest, most, filled, worded}
+use Rattle.rules.specs.Graph.{Kind, E, S, C, X, Node, Edge, Program, WellFormed, no_node, no_edge, node_at, edge_at, name_at, owner_at, kind_at, callee_count, callee_name, source_at, word_at, proc_count, node_count, edge_count, same_kind, is_of, leaves, degree, fewest, most, filled, worded}
 use Rattle.rules.specs.ProgramFile.{Line, proc_line, node_line, edge_line, malformed, kind_of, is_node, is_edge, form_of, Listing, nothing_read, add_proc, add_node, add_edge, current, begun, has_edge, named, is_node_of, has_word, degree_fine, complete, lost, closing, take_proc, take_line, step_program, finish_program, read_listing, read_program}
 use Rattle.rules.specs.Layout.{kind_field}
 use Rattle.rules.proofs.GraphLaws.{same_kind_of, leaves_of}
 use Rattle.rules.proofs.TextLaws.{same_true, same_of, unless_accepted, accepted_same, then_accepted, text_holds}
+use Rattle.rules.specs.Kept.{Complete, Formed, Sound}
 
 -- ---- a complete procedure, as facts
-
-pub record Complete (p : Program) (q : ℕ) : Type 0 where
-  pub one_entry : count (node_count p) (is_of p q E) ≡ 1
-  pub one_exit : count (node_count p) (is_of p q X) ≡ 1
-  pub least : (n : ℕ) → n < node_count p → owner_at p n ≡ q → fewest (kind_at p n) ≤ degree p n
-  pub greatest : (n : ℕ) → n < node_count p → owner_at p n ≡ q → degree p n ≤ most (kind_at p n)
-  pub dashed : (e : ℕ) → e < edge_count p → owner_at p (source_at p e) ≡ q → worded (kind_at p (source_at p e)) (word_at p e) ≡ true
 
 pub complete_says : (p : Program) (q : ℕ) → complete p q ≡ true → Complete p q
 unfolding complete degree_fine
@@ -39,24 +33,6 @@ complete_says p q w =
       greatest = λ n h o. leb-true _ _ (and_right _ _ (d n h o));
       dashed = λ e h o. implied _ _ (every_at _ _ (and_right _ _ (and_right _ _ (and_right _ _ w))) e h) (eq-eqb _ _ o);
     }
-
--- What is read keeps: the limits, the forms, the order of the lines, and all that the refusals ask for.
-pub record Sound (p : Program) : Type 0 where
-  pub few_procs : proc_count p ≤ max_procs
-  pub few_nodes : node_count p ≤ max_nodes
-  pub few_edges : edge_count p ≤ max_edges
-  pub name_forms : (q : ℕ) → q < proc_count p → is_name (name_at p q) ≡ true
-  pub names : (q r : ℕ) → q < proc_count p → r < proc_count p → name_at p r ≡ name_at p q → r ≡ q
-  pub node_forms : (n : ℕ) → n < node_count p → is_node (kind_at p n) (label_at p n) (callee_at p n) ≡ true
-  pub owners : (n : ℕ) → n < node_count p → owner_at p n < proc_count p
-  pub node_order : (m n : ℕ) → m ≤ n → n < node_count p → owner_at p m ≤ owner_at p n
-  pub word_forms : (e : ℕ) → e < edge_count p → is_word (word_at p e) ≡ true
-  pub sources : (e : ℕ) → e < edge_count p → source_at p e < node_count p
-  pub targets : (e : ℕ) → e < edge_count p → target_at p e < node_count p
-  pub stays : (e : ℕ) → e < edge_count p → owner_at p (source_at p e) ≡ owner_at p (target_at p e)
-  pub edge_order : (e f : ℕ) → e ≤ f → f < edge_count p → owner_at p (source_at p e) ≤ owner_at p (source_at p f)
-  pub words : (e f : ℕ) → e < edge_count p → f < edge_count p → source_at p f ≡ source_at p e → word_at p f ≡ word_at p e → f ≡ e
-  pub closed : (q : ℕ) → suc q < proc_count p → Complete p q
 
 -- ---- nothing read
 
@@ -148,7 +124,7 @@ count_less f n m e h = rw e (rw h refl)
 
 -- ---- an N line
 
-module _ (p : Program) (s : Sound p) (x : Node) (mine : x.owner ≡ current p) (some-proc : 0 < proc_count p)
+module _ (p : Program) (s : Sound p) (x : Node) (mine : x.owner ≡ current p) (some_proc : 0 < proc_count p)
     (form : is_node x.kind x.label x.callee ≡ true) (room : node_count p < max_nodes) where
   -- A node that was read stays as it is.
   kept_node : (n : ℕ) → n < node_count p → node_at (add_node x p) n ≡ node_at p n
@@ -229,7 +205,7 @@ module _ (p : Program) (s : Sound p) (x : Node) (mine : x.owner ≡ current p) (
 
 -- ---- a B line
 
-module _ (p : Program) (s : Sound p) (x : Edge) (some-proc : 0 < proc_count p) (room : edge_count p < max_edges) (form : is_word x.word ≡ true)
+module _ (p : Program) (s : Sound p) (x : Edge) (some_proc : 0 < proc_count p) (room : edge_count p < max_edges) (form : is_word x.word ≡ true)
     (from : is_node_of p (current p) x.source ≡ true) (to : is_node_of p (current p) x.target ≡ true) (fresh : has_word p x.source x.word ≡ false) where
   node_of : (n : ℕ) → is_node_of p (current p) n ≡ true → (n < node_count p) × (owner_at p n ≡ current p)
   unfolding is_node_of
@@ -329,13 +305,6 @@ module _ (p : Program) (s : Sound p) (x : Edge) (some-proc : 0 < proc_count p) (
       }
 
 -- ---- the forms of lines
-
--- What the fields of a line are, by what it says.
-abbrev pub Formed : List Bytes → Line → Type 0
-Formed fs (proc_line a) = (fs ≡ bytes "P" ∷ a ∷ []) × (is_name a ≡ true)
-Formed fs (node_line k b c) = (fs ≡ bytes "N" ∷ kind_field k ∷ b ∷ c ∷ []) × (is_node k b c ≡ true)
-Formed fs (edge_line a b c) = (fs ≡ bytes "B" ∷ a ∷ b ∷ c ∷ []) × (is_edge a b c ≡ true)
-Formed fs malformed = Unit {0}
 
 -- The kind that was found is that of the field.
 kind_field_lem : (f : Bytes) (k : Kind) → kind_of f ≡ some k → f ≡ kind_field k

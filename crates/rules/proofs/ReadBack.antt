@@ -19,10 +19,11 @@ use Rattle.rules.specs.Job.{Given, wrote, passed, sheet_bytes, sheet_answer, che
 use Rattle.rules.specs.Layout.{SheetFollows}
 use Rattle.rules.proofs.Closure.{pairs_inside, pairs_ascend, selected_passes}
 use Rattle.rules.proofs.JobLaws.{known, passed_check, sheet_wrote}
-use Rattle.rules.proofs.ProgramLaws.{Sound}
+use Rattle.rules.specs.Kept.{Sound}
 use Rattle.rules.proofs.SheetLaws.{sheet_lines_lem}
-use Rattle.rules.proofs.SuiteLaws.{SoundSuite}
-use Rattle.rules.proofs.TextLaws.{same_true, same_self, decimal_free, nothing_ended, unless_passes, then_passes, other, split_join, name_free, name_sized, value_decimal, decimal_number, decimal_most}
+use Rattle.rules.specs.Kept.{SoundSuite}
+use Rattle.rules.specs.Kept.{other}
+use Rattle.rules.proofs.TextLaws.{same_true, same_self, decimal_free, nothing_ended, unless_passes, then_passes, split_join, name_free, name_sized, value_decimal, decimal_number, decimal_most}
 
 -- ---- the forms of written lines
 

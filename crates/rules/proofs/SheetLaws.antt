@@ -9,8 +9,9 @@ use Rattle.laws.specs.TestLaws.{or_cases, or_left, or_right}
 use Rattle.rules.specs.Text.{Bytes, same, bytes, lines_of, text_of, all_bytes, decimal}
 use Rattle.rules.specs.SuiteFile.{Suite, test_count, test_name}
 use Rattle.rules.specs.Sheet.{Sheet, head_text, m_text, d_text, r_text, end_text, sheet_lines, among}
-use Rattle.rules.proofs.SuiteLaws.{SoundSuite}
-use Rattle.rules.proofs.TextLaws.{same_self, decimal_free, other, Free, AllFree, free_commas, all_free_append, split_ended, name_free}
+use Rattle.rules.specs.Kept.{SoundSuite}
+use Rattle.rules.specs.Kept.{other}
+use Rattle.rules.proofs.TextLaws.{same_self, decimal_free, Free, AllFree, free_commas, all_free_append, split_ended, name_free}
 
 pub among_append : (ls ms : List Bytes) (l : Bytes) → among ls l ≡ true → among (ls ++ ms) l ≡ true
 unfolding among

@@ -25,9 +25,9 @@ use Rattle.rules.specs.Layout.{SheetFollows}
 use Rattle.rules.specs.Promises.{Passes}
 use Rattle.rules.proofs.JobLaws.{Passed, known, check_passed, passed_check}
 use Rattle.rules.proofs.Lockstep.{five_rules}
-use Rattle.rules.proofs.ProgramLaws.{Sound}
+use Rattle.rules.specs.Kept.{Sound}
 use Rattle.rules.proofs.ReadBack.{Few, read_back, sheet_short}
-use Rattle.rules.proofs.SuiteLaws.{SoundSuite}
+use Rattle.rules.specs.Kept.{SoundSuite}
 use Rattle.rules.proofs.TextLaws.{same_true, unless_accepted, accepted_same, join_split, lines_ended, decimal_value, text_holds, then_accepted, then_passes, unless_passes, unless_refuses, lines_next}
 
 -- ---- the forms of a sheet's lines

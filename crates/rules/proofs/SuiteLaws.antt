@@ -1,21 +1,14 @@
 -- What reading a test file keeps.
-use Rattle.std.specs.Prelude.{◌≡◌, refl, ◌⊎◌, Bool, true, false, List, [], ◌∷◌, ◌++◌, ℕ, suc, ◌+◌, ◌*◌, ◌/◌, ◌≤◌, ◌<◌, length, get_or, take}
+use Rattle.std.specs.Prelude.{◌≡◌, refl, ◌⊎◌, Bool, true, false, List, [], ◌∷◌, ◌++◌, ℕ, suc, ◌+◌, ◌*◌, ◌/◌, ◌<◌, length, get_or, take}
 use Rattle.std.proofs.Common.{sym, ap, ◌∙◌, subst, inl, inr, true≢false, arith, length-take-le, eqb-true, leb-false}
 use Rattle.laws.specs.Tests.{◌and◌, choose}
 use Rattle.laws.specs.TestLaws.{and_left, and_right, isnt_false, any_none}
 use Rattle.laws.specs.Lists.{snoc_length, snoc_cases, snoc_old, snoc_new, snoc_all}
 use Rattle.rules.specs.Text.{Bytes, same, bytes, max_tests, fields_of, is_name, accepted}
-use Rattle.rules.specs.SuiteFile.{Suite, TestListing, no_tests, test_count, test_name, coverage_at, TestLine, test_line, no_test, test_form, bits_of, row_fine, tested, add_test, take_test, step_suite, finish_suite, read_tests, read_suite}
+use Rattle.rules.specs.SuiteFile.{Suite, TestListing, no_tests, test_count, test_name, TestLine, test_line, no_test, test_form, bits_of, row_fine, tested, add_test, take_test, step_suite, finish_suite, read_tests, read_suite}
 use Rattle.rules.specs.Closing.{Coverage}
 use Rattle.rules.proofs.TextLaws.{same_true, same_of, unless_accepted, accepted_same, then_accepted, text_holds}
-
--- What is read of a test file keeps, where the old program has m edges.
-pub record SoundSuite (m : ℕ) (s : Suite) : Type 0 where
-  pub few : test_count s ≤ max_tests
-  pub paired : length s.coverages ≡ test_count s
-  pub name_forms : (i : ℕ) → i < test_count s → is_name (test_name s i) ≡ true
-  pub names : (i j : ℕ) → i < test_count s → j < test_count s → test_name s j ≡ test_name s i → j ≡ i
-  pub widths : (i : ℕ) → i < test_count s → length (coverage_at s i) ≡ m
+use Rattle.rules.specs.Kept.{SoundSuite}
 
 -- What the fields of a line are, by what it says.
 abbrev pub TestFormed : List Bytes → TestLine → Type 0

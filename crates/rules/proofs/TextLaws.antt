@@ -11,6 +11,7 @@ use borrow.Author.Tests.{eqb-true, ltb-false, leb-true, ne_eqb, le-leb, lt-ltb, 
 use Rattle.laws.specs.Tests.{isnt}
 use Rattle.laws.specs.TestLaws.{and_left, and_right, and_both, or_cases, isnt_true, isnt_false, true_isnt, eqb_self, every_at}
 use Rattle.rules.specs.Text.{Bytes, max_bytes, onto, split, lines_of, join_by, text_of, between, all_bytes, name_byte, label_byte, word_byte, digit_byte, is_name, name_count, name_in, is_callees, is_label, is_word, is_number, value, value_from, digits, decimal, Reading, refused, accepted, then, unless, read_lines, read_text, empty, same}
+use Rattle.rules.specs.Kept.{other}
 
 -- ---- equal bytes
 
@@ -116,10 +117,7 @@ join_ended (l ∷ m ∷ ls) = ap (λ (r : Bytes). l ++ (10 ∷ r)) (join_ended (
 pub lines_ended : (s : Bytes) (ls : List Bytes) → lines_of s ≡ ls ++ ([] ∷ []) → s ≡ text_of ls
 lines_ended s ls e = sym (join_split 10 s) ∙ ap (join_by 10) e ∙ join_ended ls
 
--- The byte x is another than b; the bytes have no b; the pieces have none.
-unfoldable pub other : ℕ → ℕ → Bool
-other b x = isnt (eqb x b)
-
+-- The bytes have no b; the pieces have none.
 abbrev pub Free : ℕ → Bytes → Type 0
 Free b s = all_bytes (other b) s ≡ true
 

@@ -20,8 +20,10 @@ use Rattle.rules.specs.Graph.{Kind, E, S, C, X, Node, Edge, Program, no_node, no
 use Rattle.rules.specs.ProgramFile.{Line, proc_line, node_line, edge_line, malformed, kind_of, is_node, is_edge, form_of, Places, Listing, nothing_read, add_proc, add_node, add_edge, current, begun, has_edge, named, is_node_of, has_word, degree_fine, complete, lost, with_proc, with_node, with_edge, take_proc, take_line, step_program, finish_program, read_listing, read_program}
 use Rattle.rules.specs.Layout.{kind_field, line_of_proc, line_of_node, line_of_edge, lines_of_those, proc_lines, program_lines, write_program, Follows}
 use Rattle.rules.proofs.GraphLaws.{same_kind_true, leaves_true}
-use Rattle.rules.proofs.ProgramLaws.{Complete, Sound, Ended, Formed, formed, Taken, taken, finished, sound_none, sound_step, well_formed}
-use Rattle.rules.proofs.TextLaws.{same_true, same_of, same_self, empty_true, decimal_free, letter_free, unless_passes, accepted_same, then_accepted, then_passes, join_split, lines_ended, Free, AllFree, split_join, split_ended, free_commas, all_free_append, name_free, callees_free, other, label_free_ten, label_free_comma, word_free_ten, word_free_comma, decimal_number, value_decimal, decimal_value, text_holds, text_short}
+use Rattle.rules.specs.Kept.{Complete, Sound, Formed}
+use Rattle.rules.proofs.ProgramLaws.{Ended, formed, Taken, taken, finished, sound_none, sound_step, well_formed}
+use Rattle.rules.specs.Kept.{other}
+use Rattle.rules.proofs.TextLaws.{same_true, same_of, same_self, empty_true, decimal_free, letter_free, unless_passes, accepted_same, then_accepted, then_passes, join_split, lines_ended, Free, AllFree, split_join, split_ended, free_commas, all_free_append, name_free, callees_free, label_free_ten, label_free_comma, word_free_ten, word_free_comma, decimal_number, value_decimal, decimal_value, text_holds, text_short}
 
 -- ---- the lines of those that pass
 
@@ -419,7 +421,7 @@ module _ (p : Program) (f : Follows p) where
 
     -- A procedure all of whose nodes and edges were read is complete so far.
     module _ (q : ℕ) (h : q < proc_count p) (later : (n : ℕ) → b ≤ n → n < node_count p → q < owner_at p n)
-        (edges-later : (e : ℕ) → c ≤ e → e < edge_count p → q < owner_at p (source_at p e)) (inside : (e : ℕ) → e < c → source_at p e < b) where
+        (edges_later : (e : ℕ) → c ≤ e → e < edge_count p → q < owner_at p (source_at p e)) (inside : (e : ℕ) → e < c → source_at p e < b) where
       count_cut : (k : Kind) → count (node_count (cut p a b c)) (is_of (cut p a b c) q k) ≡ count (node_count p) (is_of p q k)
       unfolding is_of
       count_cut k =
@@ -433,7 +435,7 @@ module _ (p : Program) (f : Follows p) where
           ap (λ (m : ℕ). count m (λ e. eqb (source_at (cut p a b c) e) n)) edges_cut
           ∙ count_agree (λ e. eqb (source_at (cut p a b c) e) n) (λ e. eqb (source_at p e) n) c (λ e l. ap (λ (i : ℕ). eqb i n) (source_cut e l))
           ∙ sym (count_prefix (λ e. eqb (source_at p e) n) c (edge_count p) hc (λ e l m.
-          ne_eqb _ _ (λ (t : source_at p e ≡ n). let z : ⊥ = omega (arith, edges-later e l m, ap (owner_at p) t) in z)))
+          ne_eqb _ _ (λ (t : source_at p e ≡ n). let z : ⊥ = omega (arith, edges_later e l m, ap (owner_at p) t) in z)))
 
       complete_cut : complete (cut p a b c) q ≡ true
       complete_cut =
@@ -517,7 +519,7 @@ module _ (p : Program) (f : Follows p) where
   -- ---- an N line of the procedure q, the node b
 
   module _ (q b c : ℕ) (h : q < proc_count p) (hb : b < node_count p) (hc : c ≤ edge_count p) (mine : owner_at p b ≡ q) (inside : (e : ℕ) → e < c → source_at p e < b)
-      (before-q : (e : ℕ) → e < c → owner_at p (source_at p e) < q) where
+      (before_q : (e : ℕ) → e < c → owner_at p (source_at p e) < q) where
     current_here : current (cut p (suc q) b c) ≡ q
     current_here = ap (λ (n : ℕ). n - 1) (procs_cut (suc q) b c (omega arith) (omega arith) hc) ∙ (let z : suc q - 1 ≡ q = omega arith in z)
 
@@ -528,7 +530,7 @@ module _ (p : Program) (f : Follows p) where
         let i : e < c = omega (arith, edges_cut (suc q) b c (omega arith) (omega arith) hc) in
         let o : owner_at (cut p (suc q) b c) (source_at (cut p (suc q) b c) e) ≡ owner_at p (source_at p e)
         = ap (owner_at (cut p (suc q) b c)) (source_cut (suc q) b c (omega arith) (omega arith) hc e i) ∙ owner_cut (suc q) b c (omega arith) (omega arith) hc (source_at p e) (inside e i) in
-        less_eqb (owner_at (cut p (suc q) b c) (source_at (cut p (suc q) b c) e)) (current (cut p (suc q) b c)) (omega (arith, before-q e i, current_here)))
+        less_eqb (owner_at (cut p (suc q) b c) (source_at (cut p (suc q) b c) e)) (current (cut p (suc q) b c)) (omega (arith, before_q e i, current_here)))
 
     next_node : add_node (record { owner = current (cut p (suc q) b c); kind = kind_at p b; label = label_at p b; callee = callee_at p b }) (cut p (suc q) b c) ≡ cut p (suc q) (suc b) c
     next_node =

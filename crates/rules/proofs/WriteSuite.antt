@@ -15,8 +15,10 @@ use Rattle.rules.specs.Text.{Bytes, same, empty, bytes, max_bytes, max_tests, fi
 use Rattle.rules.specs.SuiteFile.{Suite, TestListing, no_tests, test_count, test_name, coverage_at, TestLine, test_line, no_test, test_form, hex_byte, hex_value, odd, bits_of, none_set, row_fine, tested, add_test, with_test, take_test, step_suite, finish_suite, read_tests, read_suite}
 use Rattle.rules.specs.Closing.{Coverage}
 use Rattle.rules.specs.Layout.{bit, hex_digit, hex_of, row_of, line_of_test, suite_lines, write_suite, SuiteFollows}
-use Rattle.rules.proofs.SuiteLaws.{SoundSuite, TestFormed, test_formed, TestTaken, test_taken, sound_no_tests, sound_suite_step}
-use Rattle.rules.proofs.TextLaws.{same_true, same_self, letter_free, unless_passes, accepted_same, then_accepted, then_passes, join_split, lines_ended, other, Free, AllFree, all_bytes_more, split_join, split_ended, free_commas, all_free_append, name_free, text_holds, text_short}
+use Rattle.rules.specs.Kept.{SoundSuite}
+use Rattle.rules.proofs.SuiteLaws.{TestFormed, test_formed, TestTaken, test_taken, sound_no_tests, sound_suite_step}
+use Rattle.rules.specs.Kept.{other}
+use Rattle.rules.proofs.TextLaws.{same_true, same_self, letter_free, unless_passes, accepted_same, then_accepted, then_passes, join_split, lines_ended, Free, AllFree, all_bytes_more, split_join, split_ended, free_commas, all_free_append, name_free, text_holds, text_short}
 
 -- ---- rows and their bits
 

@@ -15,5 +15,7 @@ pub mod Places
 -- What the change requests of document 02 add beside requests, in their order.
 pub mod WriteBack
 pub mod Former
+-- What reading keeps, for the laws of other crates.
+pub mod Kept
 -- What is promised, as statements. The theorems, and P1 to P8, computed, are in proofs/.
 pub mod Promises

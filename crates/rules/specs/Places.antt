@@ -19,10 +19,10 @@ pub record Starts {A : Type 0} (text : Bytes) (d : A) (bytes_of : A → Bytes) (
   pub parts : (n : ℕ) → n < length values → Part text (get_or starts n 0) (bytes_of (get_or values n d))
 
 -- Line numbers, from 1 and ascending, that lead to the lines of the values.
-pub record OnLines {A : Type 0} (lines : List Bytes) (d : A) (Line-of : A → Bytes) (values : List A) (numbers : List ℕ) : Type 0 where
+pub record OnLines {A : Type 0} (lines : List Bytes) (d : A) (line_of : A → Bytes) (values : List A) (numbers : List ℕ) : Type 0 where
   pub counted : length numbers ≡ length values
   pub inside : (n : ℕ) → n < length values → (0 < get_or numbers n 0) × (get_or numbers n 0 ≤ length lines)
-  pub lines_are : (n : ℕ) → n < length values → get_or lines (get_or numbers n 0 - 1) [] ≡ Line-of (get_or values n d)
+  pub lines_are : (n : ℕ) → n < length values → get_or lines (get_or numbers n 0 - 1) [] ≡ line_of (get_or values n d)
   pub ascend : (m n : ℕ) → m < n → n < length values → get_or numbers m 0 < get_or numbers n 0
 
 -- The names, labels and words of a program that was read stand at their offsets in the text, a callee field behind its label and a comma; its P and N lines at their numbers.

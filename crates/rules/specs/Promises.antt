@@ -1,4 +1,4 @@
--- What is promised, as statements; each is proved in Theorems. Nothing is proved here.
+-- What is promised, as statements; each is proved in proofs/Theorems. Nothing is proved here.
 use Rattle.std.specs.Prelude.{◌≡◌, ◌↔◌, ◌⊎◌, Bool, true, false, List, [], ◌∷◌, ◌++◌, map, ℕ, suc, ◌≤◌, ◌<◌, ◌/◌, ◌%◌, length, get_or, take, drop}
 use Rattle.std.proofs.Math.Option.{none, some}
 use Rattle.laws.specs.Tests.{has, listed, count, plus}

@@ -5,7 +5,7 @@ use Rattle.laws.specs.Tests.{after, choose, has}
 use Rattle.rules.specs.Text.{Bytes, same_label}
 use Rattle.rules.specs.Graph.{Kind, E, S, C, X, Program, kind_at, label_at, target_at, entry, callee_count, called, edge_taken, its_edge}
 
--- A meaning gives, for each label and state, the next state, an output and a word. Labels that match (Text.sameLabel) have equal actions.
+-- A meaning gives, for each label and state, the next state, an output and a word. Labels that match (Text.same_label) have equal actions.
 pub record Meaning {ℓ κ} (St : Type ℓ) (Out : Type κ) : Type (ℓ ⊔ κ) where
   pub next : Bytes → St → St
   pub out : Bytes → St → Out

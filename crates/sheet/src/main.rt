@@ -124,7 +124,7 @@ fn job<W: Write>(to: &mut W, old: &[u8], new: &[u8], tt: &[u8]) -> io::Result<()
 
 // Each buffer has one byte more than a text may have, so that one that is too long is refused and not cut.
 fn main(rt: HostRuntime) -> io::Result<()> {
-    if !files::has_args(&rt, 4, "usage: sheet OLD NEW TESTS\n")? {
+    if !files::has_args(&rt, &mut rt.stderr(), 4, b"usage: sheet OLD NEW TESTS\n")? {
         return Ok(());
     }
     let mut old = [0u8; 65537];

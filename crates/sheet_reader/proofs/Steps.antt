@@ -420,10 +420,10 @@ module _ (tt : Bytes) (table : List ℕ) (count : ℕ) (name : Bytes) (k t : ℕ
   none_from h i l a e =
       first_none (sought tt table k name) count (found_none (first count (sought tt table k name)) t et h) i l (and_both (le-leb k i a) e)
 
-  module _ (some-test : 1 ≤ t) where
+  module _ (some_test : 1 ≤ t) where
     found_at : (t - 1 < count) × (sought tt table k name (t - 1) ≡ true)
     unfolding test_from
-    found_at = first_at (sought tt table k name) count (t - 1) (found_some (first count (sought tt table k name)) t et some-test)
+    found_at = first_at (sought tt table k name) count (t - 1) (found_some (first count (sought tt table k name)) t et some_test)
 
     found_from : k ≤ t - 1
     found_from = leb-true k (t - 1) (and_left _ _ found_at.1)
@@ -464,9 +464,9 @@ module _ (tt : Bytes) (table : List ℕ) (count n : ℕ) (name : Bytes) (c : Sta
           rw e
           (stop r w sets' 11 n _ (true_isnt (ap (λ (b : Bool). going s and b) (hold.test_next i ∙ early) ∙ and_not (going s))) q (omega arith))
 
-  module _ (f : Bool) (some-test : 1 ≤ t) (ef : f ≡ underway c) where
+  module _ (f : Bool) (some_test : 1 ≤ t) (ef : f ≡ underway c) where
     test_behind : c.test ≤ t - 1
-    test_behind = found_from tt table count name c.test t et some-test
+    test_behind = found_from tt table count name c.test t et some_test
 
     -- The definition's test, by the code's.
     test_are : (s : SheetRead) (w : List ℕ) → Holds w sets c s → (going s and all_below s.claims.R (t - 1)) ≡ f
@@ -479,12 +479,12 @@ module _ (tt : Bytes) (table : List ℕ) (count n : ℕ) (name : Bytes) (c : Sta
     pub test_unfit : (r : State) (sets' : List ℕ) → f ≡ false → Refusal 11 n r → AddsTest tt table count n (name ∷ []) c sets r sets'
     unfolding AddsTest take_sheet_line
     test_unfit r sets' y q limit olds news edges old new suite s w for hold =
-        rw (test_form, found_only tt table count name c.test t et some-test olds news edges old new suite for)
+        rw (test_form, found_only tt table count name c.test t et some_test olds news edges old new suite for)
         (stop r w sets' 11 n _ (true_isnt (test_are s w hold ∙ y)) q (omega arith))
 
     module _ (few : count ≤ 200) where
       test_in : t - 1 < 200
-      test_in = omega (arith, (found_at tt table count name c.test t et some-test).0)
+      test_in = omega (arith, (found_at tt table count name c.test t et some_test).0)
 
       -- The state with the test more.
       abbrev with_test : State
@@ -526,7 +526,7 @@ module _ (tt : Bytes) (table : List ℕ) (count n : ℕ) (name : Bytes) (c : Sta
       unfolding AddsTest take_sheet_line
       test_more sets' y long es limit olds news edges old new suite s w for hold =
           let q : 1024 + (t - 1) ≡ 1023 + t = omega arith in
-          rw (test_form, found_only tt table count name c.test t et some-test olds news edges old new suite for)
+          rw (test_form, found_only tt table count name c.test t et some_test olds news edges old new suite for)
           (go_on with_test w sets' 11 n _ (false_isnt (test_are s w hold ∙ y))
           (refl, refl, subst (λ (k : List ℕ). Holds w k with_test (add_r (t - 1) s)) (ap (with_bit sets) q ∙ sym es) (held_test s w long hold)))
 

@@ -15,7 +15,8 @@ use Rattle.laws.specs.Slices.{below_or, drop_at, drop_end}
 use Rattle.laws.specs.Bits.{bit_in, word_of, word_none, word_drop}
 use Rattle.laws.specs.BitSets.{with_bit}
 use Rattle.rules.specs.Text.{Bytes, same, split, between, is_name, all_bytes}
-use Rattle.rules.proofs.TextLaws.{all_bytes_more, other, same_true, split_cons, split_free}
+use Rattle.rules.specs.Kept.{other}
+use Rattle.rules.proofs.TextLaws.{all_bytes_more, same_true, split_cons, split_free}
 use Rattle.rules.specs.SuiteFile.{bits_of, hex_byte, none_set, no_test, row_fine, test_line, test_form}
 use Rattle.text.specs.Scans.{class_byte, span}
 use Rattle.text.specs.SplitLaws.{cut, first_last, first_more}

@@ -3,7 +3,8 @@ use Rattle.std.specs.Prelude.{◌≡◌, List, ℕ, ◌<◌, take, drop}
 use Rattle.std.proofs.Common.{ap₂, ◌∙◌}
 use Rattle.rules.specs.Text.{Bytes, accepted}
 use Rattle.rules.specs.SuiteFile.{TestListing, read_suite, read_tests, test_count, test_name}
-use Rattle.rules.proofs.SuiteLaws.{SoundSuite, suite_sound}
+use Rattle.rules.specs.Kept.{SoundSuite}
+use Rattle.rules.proofs.SuiteLaws.{suite_sound}
 use Rattle.rules.proofs.TextLaws.{then_passes}
 use Rattle.rules.proofs.Places.{part_is, tests_placed}
 use Rattle.suite.specs.Tables.{Holds}

@@ -10,7 +10,8 @@ use Rattle.rules.specs.Graph.{WellFormed, edge_count, entry, exit, kind_at, kind
 use Rattle.rules.specs.ProgramFile.{Listing, read_listing, read_program}
 use Rattle.rules.specs.Places.{Placed}
 use Rattle.rules.proofs.Places.{listing_placed, part_is}
-use Rattle.rules.proofs.ProgramLaws.{Sound, read_sound, read_well_formed}
+use Rattle.rules.specs.Kept.{Sound}
+use Rattle.rules.proofs.ProgramLaws.{read_sound, read_well_formed}
 use Rattle.rules.proofs.TextLaws.{then_passes}
 use Rattle.graph.specs.Table.{callees_from, edge_base, head_base, node_base, proc_base}
 use Rattle.graph.specs.Keys.{word_key}
