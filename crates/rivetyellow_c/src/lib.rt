@@ -1,7 +1,5 @@
-// The calls for host programs in C. They return number * 4,294,967,296 + place, where nothing else is said: the number is 0 for success, and the
-// place is then how many bytes were written. Those of the first part take texts, numbers and an output and run a whole job in their own frames.
-// Those of the second part are the calls of a lent job: they work over a job record, nodes, tables and scratch that the caller lends. They answer
-// for every text, number and lent memory; a refusal leaves the output as it was.
+// The calls of `rivetyellow`, exported to host programs in C under their names: each is one call, with its contract. `include/rivetyellow.h` declares
+// them.
 #![tactic(auto)]
 
 ghost use Rattle.std.specs.Prelude.{◌≡◌, length};
