@@ -1,9 +1,9 @@
--- The turns and the returns of the functions that add edges, as `search` finds them: the premises are what the code holds there.
+-- The turns and the returns of the functions that add edges: the premises are what the code holds there.
 use mathlib.Core.Path.{◌≡◌, refl, sym, ap, ◌∙◌}
 use mathlib.Core.Logic.{◌⊎◌, inl, inr, ⊎_elim}
 use mathlib.Core.Bool.{Bool, true, false}
 use mathlib.Core.List.{List}
-use Prim.Native.Nat.{ℕ, ◌+◌, ◌-◌, ◌%◌, ◌≤◌, ◌<◌}
+use Prim.Native.Nat.{ℕ, suc, ◌+◌, ◌-◌, ◌%◌, ◌≤◌, ◌<◌}
 use native.Mathlib.Omega.{arith}
 use borrow.Author.Tests.{eqb-true, eq-eqb, lt-ltb, le-ltb, ltb-true}
 use lib.Dec.{eqb, ltb}
@@ -61,12 +61,12 @@ pub record AddedTo (p : Program) (n : ℕ) (set₀ set : List ℕ) (place : ℕ)
   pub keeps : (f : ℕ) → bit_in set₀ f ≡ true → bit_in set f ≡ true
   pub only : (f : ℕ) → bit_in set f ≡ true → (bit_in set₀ f ≡ true) ⊎ ((f < edge_count p) × (source_at p f ≡ n))
 
+less_one : (e : ℕ) → suc e - 1 ≡ e
+less_one e = omega arith
+
 unfoldable pub Adding : List ℕ → ℕ → List ℕ → List ℕ → ℕ → Type 0
 Adding links n set₀ set place =
     (t nodes : List ℕ) (s : Listing) → InMemory (memory t nodes links) s → 16 ≤ length set₀ → n < node_count s.program → AddedTo s.program n set₀ set place
-
-pub add_less : (place e r x : ℕ) → 0 < place → e ≡ place - 1 → r ≡ up_to e x → r < place
-add_less place e r x pos d q = omega (arith, up_to_le e x)
 
 module _ (links : List ℕ) (n : ℕ) (set₀ : List ℕ) where
   pub add_start : (place : ℕ) → place ≡ get_or links (head_base n) 0 → Sized set₀ set₀ (Adding links n set₀ set₀ place)
@@ -77,41 +77,41 @@ module _ (links : List ℕ) (n : ℕ) (set₀ : List ℕ) where
         claim = λ t nodes s h room i. record { walk = rw e (walk_start (edges_chained (memory t nodes links) s h) n i); keeps = λ f b. b; only = λ f b. inl b };
       }
 
-  module _ (set : List ℕ) (place : ℕ) (inv : Sized set₀ set (Adding links n set₀ set place)) where
-    pub add_on : (e x : ℕ) (set' : List ℕ) → 0 < place → e ≡ place - 1 → set' ≡ with_bit set e → x ≡ up_to e (get_or links (edge_base e + 4) 0) → Sized set₀ set' (Adding links n set₀ set' x)
-    unfolding Adding
-    add_on e x set' pos d q r =
-        record {
-          size = ap length q ∙ with_size set e ∙ inv.size;
-          claim = λ t nodes s h room i.
-              let a = inv.claim t nodes s h room i in
-              let k : e < edge_count s.program = omega (arith, a.walk.within) in
-              let own : source_at s.program e ≡ n = ap (source_at s.program) d ∙ a.walk.owner pos in
-              let bit : (f : ℕ) → bit_in set' f ≡ (eqb e f or bit_in set f)
-              = λ f. ap (λ (l : List ℕ). bit_in l f) q ∙ bit_with set e f (omega (arith, (sound _ s h).few_edges, inv.size)) in
-              let on : (f : ℕ) → bit_in set f ≡ true → bit_in set' f ≡ true = λ f b. bit f ∙ or_right _ b in
-              record {
-                walk = rw (r, d)
-                    (walk_step (edges_chained (memory t nodes links) s h) {Q = λ f. bit_in set' f ≡ true} a.walk pos on (rw (← d) (bit e ∙ or_left _ (eqb_self e))));
-                keeps = λ f b. on f (a.keeps f b);
-                only = λ f b.
-                    ⊎_elim (λ y. let z : e ≡ f = eqb-true _ _ y in inr (rw (← z) k, ap (source_at s.program) (sym z) ∙ own)) (a.only f) (or_cases _ _ (sym (bit f) ∙ b));
-              };
-        }
+  pub add_on : (set : List ℕ) (e x : ℕ) (set' : List ℕ) → Sized set₀ set (Adding links n set₀ set (suc e)) → set' ≡ with_bit set e → x ≡ up_to e (get_or links (edge_base e + 4) 0)
+      → Sized set₀ set' (Adding links n set₀ set' x)
+  unfolding Adding
+  add_on set e x set' inv q r =
+      record {
+        size = ap length q ∙ with_size set e ∙ inv.size;
+        claim = λ t nodes s h room i.
+            let a = inv.claim t nodes s h room i in
+            let k : e < edge_count s.program = omega (arith, a.walk.within) in
+            let own : source_at s.program e ≡ n = ap (source_at s.program) (sym (less_one e)) ∙ a.walk.owner (omega arith) in
+            let bit : (f : ℕ) → bit_in set' f ≡ (eqb e f or bit_in set f)
+            = λ f. ap (λ (l : List ℕ). bit_in l f) q ∙ bit_with set e f (omega (arith, (sound _ s h).few_edges, inv.size)) in
+            let on : (f : ℕ) → bit_in set f ≡ true → bit_in set' f ≡ true = λ f b. bit f ∙ or_right _ b in
+            record {
+              walk = rw (r, ← less_one e)
+                  (walk_step (edges_chained (memory t nodes links) s h) {Q = λ f. bit_in set' f ≡ true} a.walk (omega arith) on (rw (less_one e) (bit e ∙ or_left _ (eqb_self e))));
+              keeps = λ f b. on f (a.keeps f b);
+              only = λ f b.
+                  ⊎_elim (λ y. let z : e ≡ f = eqb-true _ _ y in inr (rw (← z) k, ap (source_at s.program) (sym z) ∙ own)) (a.only f) (or_cases _ _ (sym (bit f) ∙ b));
+            };
+      }
 
-    pub add_end : place ≤ 0 → Sized set₀ set (AddsLeaving links n set₀ set)
-    unfolding Adding AddsLeaving Adds
-    add_end z =
-        record {
-          size = inv.size;
-          claim = λ t nodes s h room i f.
-              let a = inv.claim t nodes s h room i in
-              same_test _ _
-              (λ b. ⊎_elim (or_left _) (λ y. or_right _ (and_both (lt-ltb _ _ y.0) (eq-eqb _ _ y.1))) (a.only f b))
-              (λ b. ⊎_elim (a.keeps f) (λ y. walk_end a.walk z f (ltb-true _ _ (and_left _ _ y)) (eqb-true _ _ (and_right _ _ y))) (or_cases _ _ b));
-        }
+  pub add_end : (set : List ℕ) → Sized set₀ set (Adding links n set₀ set 0) → Sized set₀ set (AddsLeaving links n set₀ set)
+  unfolding Adding AddsLeaving Adds
+  add_end set inv =
+      record {
+        size = inv.size;
+        claim = λ t nodes s h room i f.
+            let a = inv.claim t nodes s h room i in
+            same_test _ _
+            (λ b. ⊎_elim (or_left _) (λ y. or_right _ (and_both (lt-ltb _ _ y.0) (eq-eqb _ _ y.1))) (a.only f b))
+            (λ b. ⊎_elim (a.keeps f) (λ y. walk_end a.walk (omega arith) f (ltb-true _ _ (and_left _ _ y)) (eqb-true _ _ (and_right _ _ y))) (or_cases _ _ b));
+      }
 
-pub ruleset leaving = (add_less, add_start, add_on, add_end)
+pub ruleset leaving = (up_to_le, add_start, add_on, add_end)
 
 -- ---- `goes_on_at`
 
@@ -120,22 +120,22 @@ pub numbered : (j k : Kind) → kind_number j ≡ kind_number k → j ≡ k
 unfolding same_kind
 numbered j k e = same_kind_true j k (eq-eqb _ _ e)
 
-module _ (nodes links : List ℕ) (n k : ℕ) (ek : k ≡ get_or nodes (node_base n) 0) where
-  pub on_here : (k ≡ 2 → ⊥) → GoesOnAt nodes links n n
+module _ (nodes links : List ℕ) (n : ℕ) (call : Bool) (told : call ≡ eqb (get_or nodes (node_base n) 0) 2) where
+  pub on_here : call ≡ false → GoesOnAt nodes links n n
   unfolding GoesOnAt goes_on_from
   on_here d t s h i x = (i, λ j. go j (kind_at s.program n) refl)
     where
       go : (j : ℕ) (c : Kind) → kind_at s.program n ≡ c → goes_on_from s.program c n j ≡ eqb j n
       go j E e = refl
       go j S e = refl
-      go j C e = absurd (d (ek ∙ kind_is _ s h n i ∙ ap kind_number e))
+      go j C e = absurd (both_ways (told ∙ eq-eqb _ _ (kind_is _ s h n i ∙ ap kind_number e)) d)
       go j X e = absurd (x e)
 
-  pub on_call : (c q r : ℕ) → k ≡ 2 → c ≡ get_or nodes (node_base n + 3) 0 → q ≡ c % 256 - 1 → r ≡ get_or links (proc_base q + 5) 0 → GoesOnAt nodes links n r
+  pub on_call : (c q r : ℕ) → call ≡ true → c ≡ get_or nodes (node_base n + 3) 0 → q ≡ c % 256 - 1 → r ≡ get_or links (proc_base q + 5) 0 → GoesOnAt nodes links n r
   unfolding GoesOnAt goes_on_from
   on_call c q r d ec eq er t s h i x =
       let p : Program = s.program in
-      let kind : kind_at p n ≡ C = numbered _ C (sym (ek ∙ kind_is _ s h n i) ∙ d) in
+      let kind : kind_at p n ≡ C = numbered _ C (sym (kind_is _ s h n i) ∙ eqb-true _ _ (sym told ∙ d)) in
       let is : r ≡ entry p (called p n 0) = er ∙ its_entry t nodes links s h n 0 c (ec ∙ callees_are _ s h n i) q eq in
       let wf = well_formed _ s h in
       (rw is (entry_is p wf (called p n 0) (called_below p wf n 0)).0, λ j. rw (kind, is) refl)

@@ -1,6 +1,7 @@
--- The turns and the returns of the functions that find owners and note returns, as `search` finds them: the premises are what the code holds there.
+-- The turns and the returns of the functions that find owners and note returns: the premises are what the code holds there.
 use mathlib.Core.Path.{◌≡◌, refl, sym, ap, ap₂, ◌∙◌, subst}
 use mathlib.Core.Bool.{Bool, true, false}
+use mathlib.Core.Logic.{◌⊎◌, ⊎_elim}
 use mathlib.Core.List.{List}
 use Prim.Native.Nat.{ℕ, suc, ◌+◌, ◌-◌, ◌*◌, ◌/◌, ◌%◌, ◌≤◌, ◌<◌}
 use native.Mathlib.Numerals.{add-one}
@@ -10,7 +11,7 @@ use lib.Dec.{eqb}
 use lib.ListN.{length, get_or, set, length-set}
 use lib.Seq.{get_or-set_same, get_or-set_other}
 use Rattle.laws.specs.Tests.{◌and◌, ◌or◌, any, choose}
-use Rattle.laws.specs.TestLaws.{and_both, and_left, and_right, any_at, fails, or_assoc, or_none, or_swap, same_test}
+use Rattle.laws.specs.TestLaws.{and_both, and_left, and_right, any_at, both_ways, fails, or_assoc, or_none, or_swap, same_test}
 use Rattle.laws.specs.Lists.{choose_yes, choose_no}
 use Rattle.laws.specs.Slices.{same_or}
 use Rattle.laws.specs.Those.{any_more}
@@ -46,14 +47,15 @@ module _ (links owners₀ : List ℕ) where
       }
 
   module _ (owners : List ℕ) (above : ℕ) (inv : Sized owners₀ owners (Owning links owners₀ owners above)) where
-    pub owners_turn : (q n : ℕ) (owners' : List ℕ) → 0 < above → q ≡ above - 1 → n ≡ get_or links (proc_base q + 6) 0 → owners' ≡ set owners n q
-        → Sized owners₀ owners' (Owning links owners₀ owners' q)
+    pub owners_turn : (n : ℕ) (owners' : List ℕ) → 0 < above → n ≡ get_or links (proc_base (above - 1) + 6) 0 → owners' ≡ set owners n (above - 1)
+        → Sized owners₀ owners' (Owning links owners₀ owners' (above - 1))
     unfolding Owning
-    owners_turn q n owners' pos eq en d =
+    owners_turn n owners' pos en d =
         record {
-          size = ap length d ∙ length-set owners n q ∙ inv.size;
+          size = ap length d ∙ length-set owners n (above - 1) ∙ inv.size;
           claim = λ t nodes s h room m x l.
               let p : Program = s.program in
+              let q : ℕ = above - 1 in
               let wf = well_formed _ s h in
               let b = wf.owners m x.below in
               let is : n ≡ exit p q = en ∙ exit_is _ s h q (omega arith) in
@@ -131,7 +133,7 @@ one_bit q j r l h k =
     (λ b. let e : q ≡ r = eqb-true q r (and_left _ _ b) in let d : l ≡ j = eqb-true l j (and_right _ _ b) in eq-eqb (512 * q + j) (512 * r + l) (omega arith))
 
 module _ (links : List ℕ) (k callees : ℕ) (returns : List ℕ) (q j : ℕ) (eq : q ≡ callees % 256 - 1) (at : ResumesAt links k (callees / 256) j) where
-  pub first_far : 64 ≤ q → Sized returns returns (NotesFirst links k callees returns returns)
+  first_far : 64 ≤ q → Sized returns returns (NotesFirst links k callees returns returns)
   unfolding NotesFirst
   first_far far =
       record {
@@ -141,7 +143,7 @@ module _ (links : List ℕ) (k callees : ℕ) (returns : List ℕ) (q j : ℕ) (
             (let z : ⊥ = omega (arith, (sound _ s h).few_procs, callee_is t nodes links s h k i callees e q eq, called_below s.program (well_formed _ s h) k i) in z);
       }
 
-  pub first_none : 512 ≤ j → Sized returns returns (NotesFirst links k callees returns returns)
+  first_none : 512 ≤ j → Sized returns returns (NotesFirst links k callees returns returns)
   unfolding NotesFirst ResumesAt
   first_none far =
       record {
@@ -149,6 +151,9 @@ module _ (links : List ℕ) (k callees : ℕ) (returns : List ℕ) (q j : ℕ) (
         claim = λ t nodes s h c i e.
             absurd (let z : ⊥ = omega (arith, (sound _ s h).few_nodes, (at t nodes s h c i (callees_on t nodes links s h k i callees e)).0) in z);
       }
+
+  pub first_past : (q < 64) × (512 ≤ j) ⊎ (64 ≤ q) → Sized returns returns (NotesFirst links k callees returns returns)
+  first_past = ⊎_elim (λ u. first_none u.1) first_far
 
   pub first_noted : (returns' : List ℕ) → q < 64 → j < 512 → returns' ≡ with_bit returns (512 * q + j) → Sized returns returns' (NotesFirst links k callees returns returns')
   unfolding NotesFirst ResumesAt Notes
@@ -215,25 +220,25 @@ module _ (links : List ℕ) (k callees : ℕ) (returns₀ : List ℕ) where
               subst (λ (m : ℕ). Notes s.program (λ q j. any m (from_callee s.program q k j)) returns₀ returns) all i.notes;
         }
 
-module _ (nodes links : List ℕ) (k : ℕ) (returns : List ℕ) (v : ℕ) (ev : v ≡ get_or nodes (node_base k) 0) where
-  pub call_none : (v ≡ 2 → ⊥) → Sized returns returns (NotesCall nodes links k returns returns)
+module _ (nodes links : List ℕ) (k : ℕ) (returns : List ℕ) (call : Bool) (told : call ≡ eqb (get_or nodes (node_base k) 0) 2) where
+  pub call_none : call ≡ false → Sized returns returns (NotesCall nodes links k returns returns)
   unfolding NotesCall ◌and◌
   call_none d =
       record {
         size = refl;
         claim = λ t s h i.
-            let no_call : same_kind (kind_at s.program k) C ≡ false = fails _ (λ b. d (ev ∙ kind_is _ s h k i ∙ ap kind_number (same_kind_true _ _ b))) in
+            let no_call : same_kind (kind_at s.program k) C ≡ false = fails _ (λ b. both_ways (told ∙ eq-eqb _ _ (kind_is _ s h k i ∙ ap kind_number (same_kind_true _ _ b))) d) in
             notes_none s.program _ returns (λ q j. ap (λ (b : Bool). b and any (callee_count s.program k) (from_callee s.program q k j)) no_call);
       }
 
-  pub call_callees : (c : ℕ) (returns' : List ℕ) → v ≡ 2 → c ≡ get_or nodes (node_base k + 3) 0 → Sized returns returns' (NotesCallees links k c returns returns')
+  pub call_callees : (c : ℕ) (returns' : List ℕ) → call ≡ true → c ≡ get_or nodes (node_base k + 3) 0 → Sized returns returns' (NotesCallees links k c returns returns')
       → Sized returns returns' (NotesCall nodes links k returns returns')
   unfolding NotesCall NotesCallees ◌and◌
   call_callees c returns' d ec a =
       record {
         size = a.size;
         claim = λ t s h i.
-            let kind : kind_at s.program k ≡ C = numbered _ C (sym (ev ∙ kind_is _ s h k i) ∙ d) in
+            let kind : kind_at s.program k ≡ C = numbered _ C (sym (kind_is _ s h k i) ∙ eqb-true _ _ (sym told ∙ d)) in
             notes_same s.program _ _ returns returns'
             (λ q j. ap (λ (b : Bool). b and any (callee_count s.program k) (from_callee s.program q k j)) (same_kind_of kind))
             (a.claim t nodes s h (record { below = i; kind = kind }) (ec ∙ callees_are _ s h k i));
@@ -275,4 +280,4 @@ module _ (nodes links : List ℕ) (count : ℕ) (returns₀ : List ℕ) where
               (inv.claim t s h e);
         }
 
-pub ruleset noting = (owners_start, owners_turn, owners_end, resumes_call, resumes_next, first_far, first_none, first_noted, fewer_callees, callees_start, callees_turn, callees_done, call_none, call_callees, all_start, all_turn, all_done)
+pub ruleset noting = (owners_start, owners_turn, owners_end, resumes_call, resumes_next, first_past, first_noted, fewer_callees, callees_start, callees_turn, callees_done, call_none, call_callees, all_start, all_turn, all_done)

@@ -1,14 +1,14 @@
--- The turns and the returns of the functions of the worklist, as `search` finds them: the premises are what the code holds there.
+-- The turns and the returns of the functions of the worklist: the premises are what the code holds there.
 use mathlib.Core.Path.{◌≡◌, refl, sym, ap, ap₂, ◌∙◌, subst}
 use mathlib.Core.Logic.{⊎_elim}
 use mathlib.Core.Bool.{Bool, true, false}
-use mathlib.Core.Option.{none}
+use mathlib.Core.Option.{none, some}
 use mathlib.Core.List.{List}
 use Prim.Native.Nat.{ℕ, ◌+◌, ◌*◌, ◌/◌, ◌%◌, ◌≤◌, ◌<◌}
 use native.Mathlib.Omega.{arith}
-use borrow.Author.Tests.{eq-eqb, lt-ltb, ltb-true, ne_eqb}
+use borrow.Author.Tests.{eqb-true, eq-eqb, lt-ltb, ltb-true, ne_eqb}
 use lib.Dec.{eqb, ltb}
-use lib.ListN.{length, get_or, take, drop, replicate, length-replicate, length-take}
+use lib.ListN.{length, get_or, drop, replicate, length-replicate, length-take}
 use Rattle.laws.specs.Tests.{◌and◌, ◌or◌, count, has, isnt}
 use Rattle.laws.specs.TestLaws.{and_both, and_ends, and_left, and_right, both_ways, fails, first_at, first_none, or_cases, or_left, or_none, or_right, passes?, same_test, true_isnt}
 use Rattle.laws.specs.Counting.{count_same}
@@ -20,10 +20,7 @@ use Rattle.rules.specs.Graph.{Kind, Program, WellFormed, X, edge_count, kind_at,
 use Rattle.rules.specs.After.{edges_after, goes_on_from, leads}
 use Rattle.rules.specs.ProgramFile.{Listing}
 use Rattle.graph.specs.Table.{edge_base, node_base}
-use Rattle.coverage.specs.declared.Found.{Found}
-use Rattle.coverage.specs.declared.Found.TheVariants.{At, Nothing}
-use Rattle.coverage.specs.Rows.{edge_found, first_common}
-use Rattle.coverage.specs.RowLaws.{at_is, nothing_is}
+use Rattle.coverage.specs.Rows.{first_common}
 use Rattle.versions.specs.Memory.{InMemory, Memory, memory}
 use Rattle.versions.specs.MemoryLaws.{kind_is, sound, target_is, well_formed}
 use Rattle.after.specs.State.{Adds, BothSized, Gone, Has, Owners, Reaches, Sized, State, Worked, noted, on_from, returns_to}
@@ -38,16 +35,13 @@ few_sources m s h f l = omega (arith, (sound m s h).few_nodes, (well_formed m s 
 -- ---- the next one of a set, and that there are fewer then
 
 -- What a search for a bit that two sets have found: one of both; or that there is none.
-module _ (a b : List ℕ) (found : Found) (told : edge_found found ≡ first_common a b) where
-  common_at : (i : ℕ) → found ≡ At i → (i < 1024) × (bit_in a i ≡ true) × (bit_in b i ≡ true)
-  unfolding first_common
-  common_at i is =
-      let r = first_at (λ j. bit_in a j and bit_in b j) 1024 i (sym told ∙ (at_is found i).0 is) in
-      (r.0, and_left _ _ r.1, and_right _ _ r.1)
-
-none_common : (a b : List ℕ) → first_common a b ≡ none → (i : ℕ) → i < 1024 → bit_in b i ≡ true → bit_in a i ≡ false
+common_at : (a b : List ℕ) (i : ℕ) → some i ≡ first_common a b → (i < 1024) × (bit_in a i ≡ true) × (bit_in b i ≡ true)
 unfolding first_common
-none_common a b e i l y = fails _ (λ x. first_none (λ j. bit_in a j and bit_in b j) 1024 e i l (and_both x y))
+common_at a b i told = let r = first_at (λ j. bit_in a j and bit_in b j) 1024 i (sym told) in (r.0, and_left _ _ r.1, and_right _ _ r.1)
+
+none_common : (a b : List ℕ) → none ≡ first_common a b → (i : ℕ) → i < 1024 → bit_in b i ≡ true → bit_in a i ≡ false
+unfolding first_common
+none_common a b e i l y = fails _ (λ x. first_none (λ j. bit_in a j and bit_in b j) 1024 (sym e) i l (and_both x y))
 
 -- Fewer pass, where one no longer does and none does that did not.
 fewer : (f g : ℕ → Bool) (n i : ℕ) → ((j : ℕ) → f j ≡ true → g j ≡ true) → i < n → g i ≡ true → f i ≡ false → count n f < count n g
@@ -154,7 +148,7 @@ module _ (p : Program) (first : ℕ → Bool) where
   state_end left returns set st ended few e l =
       same_test _ _ (st.only e (omega arith))
       (λ b. (reached_only (edge_count p) (leads p) first (λ i. (i < edge_count p) × (bit_in set i ≡ true)) (λ i m t. (m, st.begun i m t))
-      (λ d f y m t. (m, st.edges d f y.0 (none_common left set ended d (omega (arith, y.0)) y.1) m t)) e b).1)
+      (λ d f y m t. (m, st.edges d f y.0 (none_common left set (sym ended) d (omega (arith, y.0)) y.1) m t)) e b).1)
 
   state_below : (left returns set : List ℕ) → State p first left returns set → (e : ℕ) → e < 1024 → bit_in set e ≡ true → e < edge_count p
   unfolding edges_after
@@ -162,30 +156,26 @@ module _ (p : Program) (first : ℕ → Bool) where
 
 -- ---- `next_return`, `take_return`, `leave`
 
-pub row_searched : (returns row : List ℕ) (q : ℕ) (found : Found) → row ≡ take 8 (drop (8 * q) returns) → edge_found found ≡ first_common row row
-    → edge_found found ≡ first_common (return_row returns q) (return_row returns q)
-row_searched returns row q found e told = told ∙ ap (λ (l : List ℕ). first_common l l) e
-
 -- What a search of a row against itself says of the row: the lowest node noted at q, or that there is none.
-module _ (returns : List ℕ) (q : ℕ) (found : Found) (told : edge_found found ≡ first_common (return_row returns q) (return_row returns q)) where
+module _ (returns : List ℕ) (q : ℕ) where
   row_noted : (j : ℕ) → j < 512 → bit_in (return_row returns q) j ≡ noted returns q j
   unfolding bit_in
   row_noted j l =
       ap (λ (w : ℕ). bit_at w (j % 64)) (get_d_part returns (8 * q) 8 (j / 64) 0 (omega arith))
       ∙ ap₂ (λ (a b : ℕ). bit_at (get_or returns a 0) b) (let z : 8 * q + j / 64 ≡ (512 * q + j) / 64 = omega arith in z) (let z : j % 64 ≡ (512 * q + j) % 64 = omega arith in z)
 
-  at_node : (j : ℕ) → found ≡ At j → (j < 512) × (noted returns q j ≡ true)
-  at_node j is =
-      let b = (common_at (return_row returns q) (return_row returns q) found told j is).1 in
+  at_node : (j : ℕ) → some j ≡ first_common (return_row returns q) (return_row returns q) → (j < 512) × (noted returns q j ≡ true)
+  at_node j told =
+      let b = (common_at (return_row returns q) (return_row returns q) j told).1 in
       let l : j < 512 = below_or j 512 (λ l. l) (λ l. absurd (both_ways b (past_bit (return_row returns q) j (omega (arith, length-take 8 (drop (8 * q) returns)))))) in
       (l, sym (row_noted j l) ∙ b)
 
-  no_node : found ≡ Nothing → (j : ℕ) → j < 512 → noted returns q j ≡ false
-  no_node is j l =
+  no_node : none ≡ first_common (return_row returns q) (return_row returns q) → (j : ℕ) → j < 512 → noted returns q j ≡ false
+  no_node told j l =
       fails _
       (λ b.
       let u = row_noted j l ∙ b in
-      both_ways u (none_common (return_row returns q) (return_row returns q) (sym told ∙ (nothing_is found).0 is) j (omega arith) u))
+      both_ways u (none_common (return_row returns q) (return_row returns q) told j (omega arith) u))
 
 -- The nodes noted at q at first and now no more were gone on from.
 pub record LeavingTo (p : Program) (q : ℕ) (returns₀ set₀ returns set : List ℕ) : Type 0 where
@@ -231,16 +221,16 @@ module _ (links : List ℕ) (q : ℕ) (returns₀ set₀ : List ℕ) where
       and_none true false = refl
       and_none false b = refl
 
-  module _ (returns set : List ℕ) (found : Found) (told : edge_found found ≡ first_common (return_row returns q) (return_row returns q)) where
-    module _ (j : ℕ) (at : found ≡ At j) where
+  module _ (returns set : List ℕ) where
+    module _ (j : ℕ) (told : some j ≡ first_common (return_row returns q) (return_row returns q)) where
       pub node_below : j < 512
-      node_below = (at_node returns q found told j at).0
+      node_below = (at_node returns q j told).0
 
       pub leave_less : (returns' set' : List ℕ) → Taken links q j returns set returns' set' → noted_at q returns' < noted_at q returns
       unfolding noted_at
       leave_less returns' set' w =
           let d = w.out in
-          let r = at_node returns q found told j at in
+          let r = at_node returns q j told in
           fewer (noted returns' q) (noted returns q) 512 j (λ i b. bit_before returns (512 * q + j) (512 * q + i) (rw d at b)) r.0 r.1
           (ap (λ (w : List ℕ). noted w q j) d ∙ bit_cleared returns (512 * q + j))
 
@@ -250,7 +240,7 @@ module _ (links : List ℕ) (q : ℕ) (returns₀ set₀ : List ℕ) where
       leave_on returns' set' inv w =
           let a = w.adds in
           let d = w.out in
-          let r = at_node returns q found told j at in
+          let r = at_node returns q j told in
           record {
             returns_size = ap length d ∙ without_size returns (512 * q + j) ∙ inv.returns_size;
             size = a.size ∙ inv.size;
@@ -275,16 +265,16 @@ module _ (links : List ℕ) (q : ℕ) (returns₀ set₀ : List ℕ) where
                 };
           }
 
-    pub leave_end : BothSized returns₀ set₀ returns set (Leaving links q returns₀ set₀ returns set) → found ≡ Nothing
+    pub leave_end : BothSized returns₀ set₀ returns set (Leaving links q returns₀ set₀ returns set) → none ≡ first_common (return_row returns q) (return_row returns q)
         → BothSized returns₀ set₀ returns set (Leaves links returns₀ set₀ q returns set)
     unfolding Leaving Leaves isnt ◌and◌
-    leave_end inv is =
+    leave_end inv told =
         record {
           returns_size = inv.returns_size;
           size = inv.size;
           claim = λ t nodes s h room i v.
               let g = inv.claim t nodes s h room i v in
-              let none_noted = no_node returns q found told is in
+              let none_noted = no_node returns q told in
               record {
                 adds = adds_same s.program _ (noted returns₀ q) set₀ set
                     (λ f l.
@@ -301,8 +291,8 @@ module _ (links : List ℕ) (q : ℕ) (returns₀ set₀ : List ℕ) where
 
 -- ---- `go_on`
 
-module _ (nodes links owners returns set : List ℕ) (n v : ℕ) (ev : v ≡ get_or nodes (node_base n) 0) where
-  pub on_exit : (q : ℕ) (returns' set' : List ℕ) → v ≡ 3 → q ≡ get_or owners n 0 → BothSized returns set returns' set' (Leaves links returns set q returns' set')
+module _ (nodes links owners returns set : List ℕ) (n : ℕ) (exit : Bool) (told : exit ≡ eqb (get_or nodes (node_base n) 0) 3) where
+  pub on_exit : (q : ℕ) (returns' set' : List ℕ) → exit ≡ true → q ≡ get_or owners n 0 → BothSized returns set returns' set' (Leaves links returns set q returns' set')
       → BothSized returns set returns' set' (GoesOn nodes links owners returns set n returns' set')
   unfolding Leaves GoesOn Owners
   on_exit q returns' set' z eq w =
@@ -311,7 +301,7 @@ module _ (nodes links owners returns set : List ℕ) (n v : ℕ) (ev : v ≡ get
         size = w.size;
         claim = λ t left s first h own st i r.
             let p : Program = s.program in
-            let kind : kind_at p n ≡ X = numbered _ X (sym (ev ∙ kind_is _ s h n i) ∙ z) in
+            let kind : kind_at p n ≡ X = numbered _ X (sym (kind_is _ s h n i) ∙ eqb-true _ _ (sym told ∙ z)) in
             let is : q ≡ owner_at p n = eq ∙ own n (record { below = i; kind = kind }) in
             let b = (well_formed _ s h).owners n i in
             let l : q < proc_count p = rw is b in
@@ -319,7 +309,7 @@ module _ (nodes links owners returns set : List ℕ) (n v : ℕ) (ev : v ≡ get
             (subst (λ (o : ℕ). Leave p o returns set returns' set') is (w.claim t nodes s h st.room l (λ j k y. (st.notes q j l k y).0))) r;
       }
 
-  pub on_other : (j : ℕ) (set' : List ℕ) → (v ≡ 3 → ⊥) → GoesOnAt nodes links n j → Sized set set' (AddsLeaving links j set set')
+  pub on_other : (j : ℕ) (set' : List ℕ) → exit ≡ false → GoesOnAt nodes links n j → Sized set set' (AddsLeaving links j set set')
       → BothSized returns set returns set' (GoesOn nodes links owners returns set n returns set')
   unfolding GoesOn GoesOnAt AddsLeaving
   on_other j set' z at a =
@@ -327,17 +317,18 @@ module _ (nodes links owners returns set : List ℕ) (n v : ℕ) (ev : v ≡ get
         returns_size = refl;
         size = a.size;
         claim = λ t left s first h own st i r.
-            let y = at t s h i (λ x. z (ev ∙ kind_is _ s h n i ∙ ap kind_number x)) in
+            let y = at t s h i (λ x. both_ways (told ∙ eq-eqb _ _ (kind_is _ s h n i ∙ ap kind_number x)) z) in
             gone_adds s.program first n left returns set set' st a.size (adds_same s.program _ _ set set' (λ f l. y.1 (source_at s.program f)) (a.claim t nodes s h st.room y.0)) r;
       }
 
 -- ---- `visit`
 
-pub visit_done : (nodes links owners left returns set : List ℕ) (e n : ℕ) (left' returns' set' : List ℕ) → n ≡ get_or links (edge_base e + 3) 0
-    → BothSized returns set returns' set' (GoesOn nodes links owners returns set n returns' set') → left' ≡ without_bit left e
+pub visit_done : (nodes links owners left returns set : List ℕ) (e n : ℕ) (left₁ left' returns' set' : List ℕ) → n ≡ get_or links (edge_base e + 3) 0
+    → BothSized returns set returns' set' (GoesOn nodes links owners returns set n returns' set') → left₁ ≡ left → left' ≡ without_bit left₁ e
     → Worked left returns set left' returns' set' (Visit nodes links owners left returns set e left' returns' set')
 unfolding GoesOn Visits Reaches leads edges_after
-visit_done nodes links owners left returns set e n left' returns' set' en w q =
+visit_done nodes links owners left returns set e n left₁ left' returns' set' en w kept cleared =
+    let q : left' ≡ without_bit left e = cleared ∙ ap (λ (l : List ℕ). without_bit l e) kept in
     record {
       left_size = ap length q ∙ without_size left e;
       returns_size = w.returns_size;
@@ -361,41 +352,47 @@ visit_done nodes links owners left returns set e n left' returns' set' en w q =
 unfoldable pub edges_left : List ℕ → ℕ
 edges_left left = count 1024 (bit_in left)
 
-module _ (nodes links owners : List ℕ) where
-  pub run_start : (left returns set : List ℕ) → Worked left returns set left returns set (Runs nodes links owners left returns set left returns set)
-  unfolding Runs
-  run_start left returns set = record { left_size = refl; returns_size = refl; size = refl; less = λ i b. b; claim = λ t s first h own st. st }
+module _ (nodes links owners₀ left₀ returns₀ set₀ : List ℕ) where
+  -- The state so far: the procedures of the exits are the same, and the run was one.
+  pub record RunTo (owners left returns set : List ℕ) : Type 0 where
+    pub same : owners ≡ owners₀
+    pub work : Worked left₀ returns₀ set₀ left returns set (Runs nodes links owners₀ left₀ returns₀ set₀ left returns set)
 
-  module _ (left returns set : List ℕ) (found : Found) (told : edge_found found ≡ first_common left set) where
-    module _ (e : ℕ) (at : found ≡ At e) (left' returns' set' : List ℕ) (w : Worked left returns set left' returns' set' (Visit nodes links owners left returns set e left' returns' set')) where
+  pub run_start : RunTo owners₀ left₀ returns₀ set₀
+  unfolding Runs
+  run_start = record { same = refl; work = record { left_size = refl; returns_size = refl; size = refl; less = λ i b. b; claim = λ t s first h own st. st } }
+
+  module _ (owners left returns set : List ℕ) where
+    module _ (e : ℕ) (told : some e ≡ first_common left set) (left' returns' set' : List ℕ) (w : Worked left returns set left' returns' set' (Visit nodes links owners left returns set e left' returns' set')) where
       pub run_less : edges_left left' < edges_left left
       unfolding edges_left
       run_less =
-          let r = common_at left set found told e at in
+          let r = common_at left set e told in
           fewer (bit_in left') (bit_in left) 1024 e w.less r.0 r.1 w.claim.dropped
 
-      pub run_on : (left₀ returns₀ set₀ : List ℕ) → Worked left₀ returns₀ set₀ left returns set (Runs nodes links owners left₀ returns₀ set₀ left returns set)
-          → Worked left₀ returns₀ set₀ left' returns' set' (Runs nodes links owners left₀ returns₀ set₀ left' returns' set')
+      pub run_on : (owners' : List ℕ) → owners' ≡ owners → RunTo owners left returns set → RunTo owners' left' returns' set'
       unfolding Runs Visits
-      run_on left₀ returns₀ set₀ inv =
-          let r = common_at left set found told e at in
+      run_on owners' kept inv =
+          let r = common_at left set e told in
           record {
-            left_size = w.left_size ∙ inv.left_size;
-            returns_size = w.returns_size ∙ inv.returns_size;
-            size = w.size ∙ inv.size;
-            less = λ i b. inv.less i (w.less i b);
-            claim = λ t s first h own st. w.claim.visits t s first h own (inv.claim t s first h own st) r.0 r.2;
+            same = kept ∙ inv.same;
+            work = record {
+              left_size = w.left_size ∙ inv.work.left_size;
+              returns_size = w.returns_size ∙ inv.work.returns_size;
+              size = w.size ∙ inv.work.size;
+              less = λ i b. inv.work.less i (w.less i b);
+              claim = λ t s first h own st. w.claim.visits t s first h (rw inv.same own) (inv.work.claim t s first h own st) r.0 r.2;
+            };
           }
 
-    pub run_end : (left₀ returns₀ set₀ : List ℕ) → Worked left₀ returns₀ set₀ left returns set (Runs nodes links owners left₀ returns₀ set₀ left returns set) → found ≡ Nothing
-        → Worked left₀ returns₀ set₀ left returns set (Ends nodes links owners left₀ returns₀ set₀ left returns set)
-    run_end left₀ returns₀ set₀ inv q =
+    pub run_end : RunTo owners left returns set → none ≡ first_common left set → Worked left₀ returns₀ set₀ left returns set (Ends nodes links owners₀ left₀ returns₀ set₀ left returns set)
+    run_end inv told =
         record {
-          left_size = inv.left_size;
-          returns_size = inv.returns_size;
-          size = inv.size;
-          less = inv.less;
-          claim = record { none_left = sym told ∙ (nothing_is found).0 q; runs = inv.claim };
+          left_size = inv.work.left_size;
+          returns_size = inv.work.returns_size;
+          size = inv.work.size;
+          less = inv.work.less;
+          claim = record { none_left = sym told; runs = inv.work.claim };
         }
 
 -- ---- `spread`
@@ -423,4 +420,4 @@ spread_done nodes links c owners₀ owners left returns₀ returns set left' ret
         room (λ e l b. b)
         (λ e l b. below_or e (edge_count s.program) (λ m. (m, b)) (λ m. absurd (both_ways b (out e l m)))))
 
-pub ruleset searching = (row_searched, leave_past, leave_start, node_below, leave_less, leave_on, leave_end, on_exit, on_other, visit_done, run_start, run_less, run_on, run_end, spread_done)
+pub ruleset searching = (leave_past, leave_start, node_below, leave_less, leave_on, leave_end, on_exit, on_other, visit_done, run_start, run_less, run_on, run_end, spread_done)

@@ -6,7 +6,7 @@ use Rattle.laws.specs.Lists.{choose_yes}
 use Rattle.rules.specs.Text.{Bytes}
 use Rattle.rules.specs.Job.{Outcome, number_of, output_after, packed, place_of, refusal}
 use Rattle.rules.specs.Promises.{Plain}
-use Rattle.answer.specs.declared.Answer.{Answer}
+use Rattle.answer.specs.Refusals.{Answer}
 
 -- The answer is the outcome's number and place.
 pub record Answered (x : Outcome) (r : Answer) : Type 0 where

@@ -1,5 +1,5 @@
 -- The turns and the returns of every function, as one set.
-use Rattle.checker.proofs.Laws.{rule1_is, listings, kept, walks, edges, pairs, keeping, tests}
+use Rattle.checker.proofs.Laws.{rule1_is, listings, kept, walks, edges, tests}
 use Rattle.checker.proofs.Checks.{judges, checks}
 
-pub ruleset all = (rule1_is, listings, kept, walks, edges, pairs, keeping, tests, judges, checks)
+pub ruleset all = (rule1_is, listings, kept, walks, edges, tests, judges, checks)

@@ -31,30 +31,26 @@ fn main(rt: HostRuntime) -> io::Result<()> {
         return Ok(());
     }
     let mut old = [0u8; 65537];
-    let o = files::load(&rt, 1, &mut old)?;
-    if !o.came {
+    let Some(o) = files::load(&rt, 1, &mut old)? else {
         return Ok(());
-    }
+    };
     let mut new = [0u8; 65537];
-    let n = files::load(&rt, 2, &mut new)?;
-    if !n.came {
+    let Some(n) = files::load(&rt, 2, &mut new)? else {
         return Ok(());
-    }
+    };
     let mut tests = [0u8; 65537];
-    let t = files::load(&rt, 3, &mut tests)?;
-    if !t.came {
+    let Some(t) = files::load(&rt, 3, &mut tests)? else {
         return Ok(());
-    }
+    };
     let mut sheet = [0u8; 65537];
-    let s = files::load(&rt, 4, &mut sheet)?;
-    if !s.came {
+    let Some(s) = files::load(&rt, 4, &mut sheet)? else {
         return Ok(());
-    }
+    };
     check(
         &mut rt.stdout(),
-        text::front(&old, o.size),
-        text::front(&new, n.size),
-        text::front(&tests, t.size),
-        text::front(&sheet, s.size),
+        text::front(&old, o),
+        text::front(&new, n),
+        text::front(&tests, t),
+        text::front(&sheet, s),
     )
 }

@@ -3,7 +3,7 @@ use mathlib.Core.Path.{◌≡◌, refl, sym, ap₂, ◌∙◌}
 use mathlib.Core.Logic.{⊎_elim}
 use mathlib.Core.Bool.{Bool, true, false}
 use mathlib.Core.List.{List}
-use Prim.Native.Nat.{ℕ, ◌+◌, ◌≤◌, ◌<◌}
+use Prim.Native.Nat.{ℕ, suc, ◌+◌, ◌≤◌, ◌<◌}
 use native.Mathlib.Omega.{arith}
 use borrow.Author.Tests.{eqb-true, eq-eqb}
 use lib.Dec.{eqb}
@@ -17,13 +17,13 @@ use Rattle.rules.proofs.Closure.{danger_of, pair_alike}
 use Rattle.rules.proofs.ClosingLaws.{fits_ends, fits_word, opposite_at}
 use Rattle.graph.specs.Table.{edge_base, proc_base}
 use Rattle.pairset.specs.Store.{Appended, DangerMarked, Has, pairs_in}
-use Rattle.versions.specs.Memory.{InMemory, Memory, memory}
+use Rattle.versions.specs.Memory.{InMemory, Memory}
 use Rattle.versions.specs.MemoryLaws.{entry_is, exit_is, sound, target_is, well_formed}
 use Rattle.versions.specs.Claims.{Alike}
 use Rattle.versions.specs.Opposite.{WordLost}
 use Rattle.versions.specs.Groups.{InGroups, Known}
 use Rattle.closure.specs.State.{CalleeDone, EdgeDone, EndsDone, EntriesDone, Formed, LostDone, State, Step}
-use Rattle.closure.specs.Step.{pair_inside, step_map, step_mark, step_more, step_none, step_over, step_shows}
+use Rattle.closure.specs.Step.{pair_inside, step_map, step_mark, step_more, step_none, step_over, step_past, step_shows}
 use Rattle.closure.specs.Claims.{AddsEntries, EntersCallee, Grows, MarksLost, Sized, TriesEnds}
 
 -- Programs in memory are well-formed, and their nodes and edges have heads and bits.
@@ -33,7 +33,7 @@ formed_in a b o p h g = record { old_formed = well_formed a o h; new_formed = we
 -- ---- `grow`
 
 module _ (limit : ℕ) (w : List ℕ) (c a b : ℕ) where
-  pub grow_full : limit ≤ c → Sized w w (Grows limit w c a b w (limit + 1))
+  pub grow_full : limit ≤ c → Sized w w (Grows limit w c a b w (suc limit))
   unfolding Grows
   grow_full h = record { size = refl; claim = λ old new f s p n. step_over f s p n h }
 
@@ -45,38 +45,52 @@ pub ruleset grows = (grow_full, grow_more)
 
 -- ---- `add_entries`, `enter_callee`
 
-module _ (ol nl : List ℕ) (limit : ℕ) (w : List ℕ) (c q k a b : ℕ) (d : a ≡ get_or ol (proc_base q + 5) 0) (e : b ≡ get_or nl (proc_base k + 5) 0) (t : Bool) (is : Has w a b t) where
+module _ (mo mn : Memory) (limit : ℕ) (w : List ℕ) (c q k : ℕ) where
+  abbrev entry_old : ℕ
+  entry_old = get_or mo.links (proc_base q + 5) 0
+
+  abbrev entry_new : ℕ
+  entry_new = get_or mn.links (proc_base k + 5) 0
+
   -- The entries are a pair, by whatever step.
   entries_listed : (v : List ℕ) (r : ℕ)
-      → ((old new : Program) → Formed old new → State old new limit w c → (c ≤ limit → Pair old new a b) → Step old new limit w c (λ M _. listed M a b ≡ true) v r)
-      → AddsEntries ol nl limit w c q k v r
+      → ((old new : Program) → Formed old new → State old new limit w c → (c ≤ limit → Pair old new entry_old entry_new) → Step old new limit w c (λ M _. listed M entry_old entry_new ≡ true) v r)
+      → AddsEntries mo mn limit w c q k v r
   unfolding AddsEntries EntriesDone
-  entries_listed v r x ot on nt nn o p h g s i j y =
-      let m : a ≡ entry o.program q = d ∙ entry_is (memory ot on ol) o h q i in
-      let n : b ≡ entry p.program k = e ∙ entry_is (memory nt nn nl) p g k j in
+  entries_listed v r x o p h g s i j y =
+      let m : entry_old ≡ entry o.program q = entry_is mo o h q i in
+      let n : entry_new ≡ entry p.program k = entry_is mn p g k j in
       step_map (λ t. rw (← m, ← n) t) (x o.program p.program (formed_in _ _ o p h g) s (λ few. rw (m, n) (y few)))
 
-  pub entries_there : t ≡ true → Sized w w (AddsEntries ol nl limit w c q k w c)
+  pub entries_there : Has w (get_or mo.links (proc_base q + 5) 0) (get_or mn.links (proc_base k + 5) 0) true → Sized w w (AddsEntries mo mn limit w c q k w c)
   unfolding Has
-  entries_there y = record { size = refl; claim = entries_listed w c (λ old new f s p. step_none s (λ h. sym (is c (s.kept h).store) ∙ y)) }
+  entries_there is = record { size = refl; claim = entries_listed w c (λ old new f s p. step_none s (λ h. sym (is c (s.kept h).store))) }
 
-  pub entries_new : (v : List ℕ) (r : ℕ) → t ≡ false → Sized w v (Grows limit w c a b v r) → Sized w v (AddsEntries ol nl limit w c q k v r)
+  pub entries_more : (v : List ℕ) (r : ℕ) → Has w (get_or mo.links (proc_base q + 5) 0) (get_or mn.links (proc_base k + 5) 0) false
+      → Sized w v (Grows limit w c (get_or mo.links (proc_base q + 5) 0) (get_or mn.links (proc_base k + 5) 0) v r) → Sized w v (AddsEntries mo mn limit w c q k v r)
   unfolding Has Grows
-  entries_new v r y x =
-      record { size = x.size; claim = entries_listed v r (λ old new f s p. x.claim old new f s p (λ h. sym (is c (s.kept h).store) ∙ y)) }
+  entries_more v r is x =
+      record { size = x.size; claim = entries_listed v r (λ old new f s p. x.claim old new f s p (λ h. sym (is c (s.kept h).store))) }
 
-pub callee_done : (ol nl : List ℕ) (limit : ℕ) (w : List ℕ) (c q k : ℕ) (v : List ℕ) (r : ℕ) (z : Bool) → Sized w v (AddsEntries ol nl limit w c q k v r)
-    → Has v (get_or ol (proc_base q + 6) 0) (get_or nl (proc_base k + 6) 0) z → Sized w v (EntersCallee ol nl limit w c q k v r z)
-unfolding AddsEntries EntersCallee EntriesDone CalleeDone Has
-callee_done ol nl limit w c q k v r z x is =
-    record {
-      size = x.size;
-      claim = λ ot on nt nn o p h g s i j y.
-          let a = x.claim ot on nt nn o p h g s i j y in
-          step_shows a (λ l. (a.done l, is r (a.state.kept l).store ∙ ap₂ (listed (pairs_in v r)) (exit_is (memory ot on ol) o h q i) (exit_is (memory nt nn nl) p g k j)));
-    }
+  pub callee_done : (v : List ℕ) (r : ℕ) (z : Bool) → Sized w v (AddsEntries mo mn limit w c q k v r)
+      → Has v (get_or mo.links (proc_base q + 6) 0) (get_or mn.links (proc_base k + 6) 0) z → Sized w v (EntersCallee mo mn limit w c q k v r z)
+  unfolding AddsEntries EntersCallee EntriesDone CalleeDone Has
+  callee_done v r z x is =
+      record {
+        size = x.size;
+        claim = λ o p h g s i j y.
+            let a = x.claim o p h g s i j y in
+            step_shows a (λ l. (a.done l, is r (a.state.kept l).store ∙ ap₂ (listed (pairs_in v r)) (exit_is mo o h q i) (exit_is mn p g k j)));
+      }
 
-pub ruleset callees = (entries_there, entries_new, callee_done)
+  -- There are more pairs than the limit.
+  pub callee_past : (v : List ℕ) → Sized w v (AddsEntries mo mn limit w c q k v (suc limit)) → Sized w v (EntersCallee mo mn limit w c q k v (suc limit) true)
+  unfolding AddsEntries EntersCallee
+  callee_past v x = record { size = x.size; claim = λ o p h g s i j y. step_past (x.claim o p h g s i j y) }
+
+pub ruleset entries = (entries_there, entries_more)
+
+pub ruleset callees = (callee_done, callee_past)
 
 -- ---- an old edge e and a new node m
 
@@ -112,49 +126,50 @@ module _ (old new : Program) (e m : ℕ) where
 
 -- ---- `mark_lost`
 
-module _ (ol nl w : List ℕ) (e m last : ℕ) (t : Bool) (is : WordLost ol nl e m last t) where
-  pub lost_marked : (v : List ℕ) → t ≡ true → DangerMarked w e v → Sized w v (MarksLost ol nl w e m last v)
+module _ (mo mn : Memory) (w : List ℕ) (e m last : ℕ) where
+  pub lost_marked : (v : List ℕ) → WordLost mo.links mn.links e m last true → DangerMarked w e v → Sized w v (MarksLost mo mn w e m last v)
   unfolding MarksLost WordLost LostDone
-  lost_marked v y k =
+  lost_marked v is k =
       record {
         size = k.size;
-        claim = λ ot on nt nn o p h g limit c s i z x q.
+        claim = λ o p h g limit c s i z x q.
             let f = formed_in _ _ o p h g in
-            let u = isnt_true _ (sym (is ot on nt nn o p h g i (pair_inside f z).1 q) ∙ y) in
+            let u = isnt_true _ (sym (is mo.text mo.nodes mn.text mn.nodes o p h g i (pair_inside f z).1 q)) in
             step_mark f s (danger_of o.program p.program f.old_formed f.new_formed e m i z x (lost_unfitted o.program p.program e m u)) k (λ _ d _. d);
       }
 
-  pub lost_none : t ≡ false → Sized w w (MarksLost ol nl w e m last w)
+  pub lost_none : WordLost mo.links mn.links e m last false → Sized w w (MarksLost mo mn w e m last w)
   unfolding MarksLost WordLost LostDone
-  lost_none y =
+  lost_none is =
       record {
         size = refl;
-        claim = λ ot on nt nn o p h g limit c s i z x q.
+        claim = λ o p h g limit c s i z x q.
             let f = formed_in _ _ o p h g in
-            step_none s (λ _ u. absurd (both_ways (isnt_false _ (sym (is ot on nt nn o p h g i (pair_inside f z).1 q) ∙ y)) u));
+            step_none s (λ _ u. absurd (both_ways (isnt_false _ (sym (is mo.text mo.nodes mn.text mn.nodes o p h g i (pair_inside f z).1 q))) u));
       }
+
+pub ruleset losts = (lost_marked, lost_none)
 
 -- ---- `try_ends`
 
-module _ (ot on ol nt nn nl groups : List ℕ) (limit : ℕ) (w : List ℕ) (c e f a b : ℕ) (t : Bool) (d : a ≡ get_or ol (edge_base e + 3) 0) (d' : b ≡ get_or nl (edge_base f + 3) 0)
-    (has : Has w a b t) where
-  old_end : (o : Listing) → InMemory (memory ot on ol) o → e < edge_count o.program → a ≡ target_at o.program e
-  old_end o h i = d ∙ target_is (memory ot on ol) o h e i
+module _ (mo mn : Memory) (groups : List ℕ) (limit : ℕ) (w : List ℕ) (c e f : ℕ) where
+  abbrev old_end : ℕ
+  old_end = get_or mo.links (edge_base e + 3) 0
 
-  new_end : (p : Listing) → InMemory (memory nt nn nl) p → f < edge_count p.program → b ≡ target_at p.program f
-  new_end p g j = d' ∙ target_is (memory nt nn nl) p g f j
+  abbrev new_end : ℕ
+  new_end = get_or mn.links (edge_base f + 3) 0
 
-  pub ends_there : t ≡ true → Sized w w (TriesEnds (memory ot on ol) (memory nt nn nl) groups limit w c e f w c)
+  pub ends_there : Has w (get_or mo.links (edge_base e + 3) 0) (get_or mn.links (edge_base f + 3) 0) true → Sized w w (TriesEnds mo mn groups limit w c e f w c)
   unfolding TriesEnds Has
-  ends_there y =
+  ends_there has =
       record {
         size = refl;
         claim = λ o p h g s i j k z x.
             let fm = formed_in _ _ o p h g.memory in
-            let m = old_end o h i in
-            let n = new_end p g.memory j in
+            let m : old_end ≡ target_at o.program e = target_is mo o h e i in
+            let n : new_end ≡ target_at p.program f = target_is mn p g.memory f j in
             step_none s (λ l.
-            let there : listed (pairs_in w c) (target_at o.program e) (target_at p.program f) ≡ true = rw (← m, ← n) (sym (has c (s.kept l).store) ∙ y) in
+            let there : listed (pairs_in w c) (target_at o.program e) (target_at p.program f) ≡ true = rw (← m, ← n) (sym (has c (s.kept l).store)) in
             record {
               ends = λ _. there;
               danger = λ u. absurd (both_ways (pair_alike o.program p.program fm.old_formed fm.new_formed ((s.kept l).sound _ _ there)) u);
@@ -162,55 +177,57 @@ module _ (ot on ol nt nn nl groups : List ℕ) (limit : ℕ) (w : List ℕ) (c e
       }
 
   -- The ends, which are no pair yet and alike, become one.
-  ends_grown : (v : List ℕ) (r : ℕ) → t ≡ false
-      → ((o p : Listing) → InMemory (memory ot on ol) o → InGroups (memory nt nn nl) groups p → State o.program p.program limit w c → a < node_count o.program → b < node_count p.program
-      → c ≤ limit → alike o.program p.program a b ≡ true)
-      → Sized w v (Grows limit w c a b v r) → Sized w v (TriesEnds (memory ot on ol) (memory nt nn nl) groups limit w c e f v r)
+  ends_grown : (v : List ℕ) (r : ℕ) → Has w old_end new_end false
+      → ((o p : Listing) → InMemory mo o → InGroups mn groups p → State o.program p.program limit w c → old_end < node_count o.program → new_end < node_count p.program
+      → c ≤ limit → alike o.program p.program old_end new_end ≡ true)
+      → Sized w v (Grows limit w c old_end new_end v r) → Sized w v (TriesEnds mo mn groups limit w c e f v r)
   unfolding TriesEnds Grows Has
-  ends_grown v r y like q =
+  ends_grown v r has like q =
       record {
         size = q.size;
         claim = λ o p h g s i j k z x.
             let fm = formed_in _ _ o p h g.memory in
-            let m = old_end o h i in
-            let n = new_end p g.memory j in
+            let m : old_end ≡ target_at o.program e = target_is mo o h e i in
+            let n : new_end ≡ target_at p.program f = target_is mn p g.memory f j in
             let word = opposite_at o.program p.program fm.old_formed fm.new_formed e f i j k in
             let alike_ends : c ≤ limit → alike o.program p.program (target_at o.program e) (target_at p.program f) ≡ true
             = λ l. rw (← m, ← n) (like o p h g s (rw m (fm.old_formed.targets e i)) (rw n (fm.new_formed.targets f j)) l) in
             let grown = q.claim o.program p.program fm s (λ l. rw (m, n) (edge_ends {e = e} {e' = f} z x word.0 word.1 word.2 (alike_ends l)))
-            (λ l. sym (has c (s.kept l).store) ∙ y) in
+            (λ l. sym (has c (s.kept l).store)) in
             step_shows grown (λ l. record { ends = λ _. rw (← m, ← n) (grown.done l); danger = λ u. absurd (both_ways (alike_ends (omega (arith, grown.more))) u) });
       }
 
-  module _ (u : Bool) (like : Alike (memory ot on ol) (memory nt nn nl) a b u) where
-    pub ends_unlike : (v : List ℕ) → u ≡ false → DangerMarked w e v → Sized w v (TriesEnds (memory ot on ol) (memory nt nn nl) groups limit w c e f v c)
+  module _ (v : List ℕ) where
+    pub ends_unlike : Alike mo mn (get_or mo.links (edge_base e + 3) 0) (get_or mn.links (edge_base f + 3) 0) false → DangerMarked w e v
+        → Sized w v (TriesEnds mo mn groups limit w c e f v c)
     unfolding TriesEnds Alike
-    ends_unlike v y q =
+    ends_unlike like q =
         record {
           size = q.size;
           claim = λ o p h g s i j k z x.
               let fm = formed_in _ _ o p h g.memory in
-              let m = old_end o h i in
-              let n = new_end p g.memory j in
+              let m : old_end ≡ target_at o.program e = target_is mo o h e i in
+              let n : new_end ≡ target_at p.program f = target_is mn p g.memory f j in
               let unlike : alike o.program p.program (target_at o.program e) (target_at p.program f) ≡ false
-              = rw (← m, ← n) (sym (like o p h g.memory (rw m (fm.old_formed.targets e i)) (rw n (fm.new_formed.targets f j))) ∙ y) in
+              = rw (← m, ← n) (sym (like o p h g.memory (rw m (fm.old_formed.targets e i)) (rw n (fm.new_formed.targets f j)))) in
               step_mark fm s
               (danger_of o.program p.program fm.old_formed fm.new_formed e _ i z x (ends_unfitted o.program p.program e _ f j refl k unlike)) q
               (λ _ t. record { ends = λ v. absurd (both_ways v unlike); danger = λ _. t });
         }
 
-    pub ends_new : (v : List ℕ) (r : ℕ) → t ≡ false → u ≡ true → Sized w v (Grows limit w c a b v r) → Sized w v (TriesEnds (memory ot on ol) (memory nt nn nl) groups limit w c e f v r)
-    unfolding Alike
-    ends_new v r y y' q = ends_grown v r y (λ o p h g s i j l. sym (like o p h g.memory i j) ∙ y') q
+    module _ (r : ℕ) (has : Has w (get_or mo.links (edge_base e + 3) 0) (get_or mn.links (edge_base f + 3) 0) false)
+        (q : Sized w v (Grows limit w c (get_or mo.links (edge_base e + 3) 0) (get_or mn.links (edge_base f + 3) 0) v r)) where
+      pub ends_new : Alike mo mn (get_or mo.links (edge_base e + 3) 0) (get_or mn.links (edge_base f + 3) 0) true → Sized w v (TriesEnds mo mn groups limit w c e f v r)
+      unfolding Alike
+      ends_new like = ends_grown v r has (λ o p h g s i j l. sym (like o p h g.memory i j)) q
 
-  pub ends_known : (u : Bool) (v : List ℕ) (r : ℕ) → t ≡ false → Known w groups a b u → u ≡ true → Sized w v (Grows limit w c a b v r)
-      → Sized w v (TriesEnds (memory ot on ol) (memory nt nn nl) groups limit w c e f v r)
-  unfolding Known
-  ends_known u v r y known y' q =
-      ends_grown v r y
-      (λ o p h g s i j l.
-      let fm = formed_in _ _ o p h g.memory in
-      known o.program p.program c (s.kept l).store g.groups
-      (λ x z k. let pair = (s.kept l).sound x z k in (pair_alike o.program p.program fm.old_formed fm.new_formed pair, (pair_inside fm pair).1)) j y') q
+      pub ends_known : Known w groups (get_or mo.links (edge_base e + 3) 0) (get_or mn.links (edge_base f + 3) 0) true → Sized w v (TriesEnds mo mn groups limit w c e f v r)
+      unfolding Known
+      ends_known known =
+          ends_grown v r has
+          (λ o p h g s i j l.
+          let fm = formed_in _ _ o p h g.memory in
+          known o.program p.program c (s.kept l).store g.groups
+          (λ x z k. let pair = (s.kept l).sound x z k in (pair_alike o.program p.program fm.old_formed fm.new_formed pair, (pair_inside fm pair).1)) j refl) q
 
-pub ruleset ends = (lost_marked, lost_none, ends_there, ends_known, ends_unlike, ends_new)
+pub ruleset ends = (ends_there, ends_known, ends_unlike, ends_new)

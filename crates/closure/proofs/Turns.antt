@@ -1,12 +1,12 @@
 -- The turns of the loops, and the returns of the functions over them, as `search` finds them: the premises are what the code holds there.
 use mathlib.Core.Path.{◌≡◌, refl, sym, ap, ap₂, ◌∙◌, subst, subst₂}
 use mathlib.Core.Logic.{⊎_elim}
-use mathlib.Core.Bool.{Bool, true, false, not, false≢true}
+use mathlib.Core.Bool.{Bool, true, false, false≢true}
 use mathlib.Core.List.{List}
 use Prim.Native.Nat.{ℕ, suc, ◌+◌, ◌-◌, ◌*◌, ◌/◌, ◌%◌, ◌≤◌, ◌<◌}
-use native.Mathlib.Numerals.{add-one}
 use native.Mathlib.Omega.{arith}
-use borrow.Author.Tests.{eq-eqb, le-leb, lt-leb, not-false, not-true}
+use borrow.Author.Tests.{eq-eqb, eqb-true, le-leb, lt-leb}
+use lib.Dec.{eqb}
 use lib.ListN.{length, get_or, replicate}
 use Rattle.laws.specs.Tests.{listed}
 use Rattle.laws.specs.TestLaws.{below_suc, both_ways, fails}
@@ -23,13 +23,13 @@ use Rattle.graph.specs.Table.{edge_base, head_base, node_base}
 use Rattle.graph.specs.Reads.{up_to, up_to_le}
 use Rattle.pairset.specs.Store.{Emptied, Empties, danger_in, new_at, old_at, pairs_in}
 use Rattle.pairset.specs.StoreLaws.{listed_at, listed_of}
-use Rattle.versions.specs.Memory.{InMemory, Memory, memory}
+use Rattle.versions.specs.Memory.{InMemory, Memory}
 use Rattle.versions.specs.MemoryLaws.{callees_are, edges_chained, kind_is}
 use Rattle.versions.specs.Called.{CalleesAt, at_end, at_here, at_next, callee_is, fewer_callees}
 use Rattle.versions.specs.Opposite.{FindsBefore, LastOpposite, OppositeBefore, SoleOpposite, opposites, side_at, side_of_lem, side_of}
 use Rattle.versions.specs.Groups.{Groups, InGroups, Regrouped, grouped_none}
 use Rattle.closure.specs.State.{AllDone, AllEntered, CallDone, CalleeDone, Claim, EachDone, EdgeDone, EdgesDone, EndsDone, Entered, Lasts, MetAt, MetTo, OnDone, PairDone, PairFollowed, State, Step, Turn}
-use Rattle.closure.specs.Step.{done_lasts, edge_lasts, ends_lasts, entered_done, entered_lasts, entries_lasts, followed_lasts, lost_lasts, met_lasts, pair_inside, state_none, step_lasts, step_map, step_none, step_same, step_shows, step_then}
+use Rattle.closure.specs.Step.{done_lasts, edge_lasts, ends_lasts, entered_done, entered_lasts, entries_lasts, followed_lasts, lost_lasts, met_lasts, pair_inside, state_none, step_lasts, step_map, step_none, step_past, step_same, step_shows, step_then}
 use Rattle.closure.specs.Full.{all_counted, all_dangers, all_same}
 use Rattle.closure.specs.Claims.{AddsEntries, Closes, Enters, EntersCallee, EntersCallees, Finds, Follows, MarksLost, Passes, Sized, TriesEdge, TriesEnds, Visits}
 use Rattle.closure.proofs.Laws.{edge_done, formed_in, lost_none}
@@ -48,11 +48,11 @@ Trying a b t limit w₀ c₀ e m w c place =
     → TriedTo o.program p.program limit w₀ c₀ e m w c place
 
 -- The walk goes down.
-pub try_less : (ol nl : List ℕ) (e f r place : ℕ) → 0 < place → f ≡ place - 1 → OppositeBefore ol nl e f r → r < place
-try_less ol nl e f r place pos d q = omega (arith, q.below)
+pub try_less : (ol nl : List ℕ) (e f r : ℕ) → OppositeBefore ol nl e f r → r ≤ f
+try_less ol nl e f r q = q.below
 
-module _ (ot on ol nt nn nl groups : List ℕ) (limit : ℕ) (w₀ : List ℕ) (c₀ e m : ℕ) where
-  pub try_start : (last : ℕ) → LastOpposite ol nl e m last → Sized w₀ w₀ (Trying (memory ot on ol) (memory nt nn nl) groups limit w₀ c₀ e m w₀ c₀ last)
+module _ (mo mn : Memory) (groups : List ℕ) (limit : ℕ) (w₀ : List ℕ) (c₀ e m : ℕ) where
+  pub try_start : (last : ℕ) → LastOpposite mo.links mn.links e m last → Sized w₀ w₀ (Trying mo mn groups limit w₀ c₀ e m w₀ c₀ last)
   unfolding Trying LastOpposite
   try_start last q =
       record {
@@ -61,62 +61,101 @@ module _ (ot on ol nt nn nl groups : List ℕ) (limit : ℕ) (w₀ : List ℕ) (
             let j = pair_inside (formed_in _ _ o p h g.memory) y in
             record {
               step = step_none s (λ _. refl);
-              walk = rw (q ot on nt nn o p h g.memory i j.1) (walk_start (opposites o.program p.program e m) 0 (omega arith));
+              walk = rw (q mo.text mo.nodes mn.text mn.nodes o p h g.memory i j.1) (walk_start (opposites o.program p.program e m) 0 (omega arith));
             };
       }
 
-  module _ (w : List ℕ) (c place : ℕ) (inv : Sized w₀ w (Trying (memory ot on ol) (memory nt nn nl) groups limit w₀ c₀ e m w c place)) where
-    pub try_on : (f : ℕ) (v : List ℕ) (r x : ℕ) → 0 < place → f ≡ place - 1 → Sized w v (TriesEnds (memory ot on ol) (memory nt nn nl) groups limit w c e f v r)
-        → OppositeBefore ol nl e f x → Sized w₀ v (Trying (memory ot on ol) (memory nt nn nl) groups limit w₀ c₀ e m v r x)
-    unfolding Trying TriesEnds Lasts FindsBefore
-    try_on f v r x pos d t q =
+  module _ (w : List ℕ) (c f : ℕ) (inv : Sized w₀ w (Trying mo mn groups limit w₀ c₀ e m w c (suc f))) (v : List ℕ) where
+    -- The edge at the place leaves m and is opposite.
+    own_side : (o p : Listing) → TriedTo o.program p.program limit w₀ c₀ e m w c (suc f) → side_of o.program p.program e m f ≡ 0
+    own_side o p k = ap (side_of o.program p.program e m) (let d : f ≡ suc f - 1 = omega arith in d) ∙ k.walk.owner (omega arith)
+
+    -- Rule 3 for it.
+    tried_one : (r : ℕ) → Sized w v (TriesEnds mo mn groups limit w c e f v r) → (o p : Listing) → InMemory mo o → InGroups mn groups p → e < edge_count o.program
+        → Pair o.program p.program (source_at o.program e) m → MayGoOn o.program p.program (source_at o.program e) m
+        → TriedTo o.program p.program limit w₀ c₀ e m w c (suc f) → Step o.program p.program limit w c (EndsDone o.program p.program e f) v r
+    unfolding TriesEnds
+    tried_one r t o p h g i y z k =
+        let side = side_at o.program p.program e m f (own_side o p k) in
+        t.claim o p h g k.step.state i (omega (arith, k.walk.within)) side.1 (rw side.0 y) (rw side.0 z)
+
+    pub try_on : (r x : ℕ) → Sized w v (TriesEnds mo mn groups limit w c e f v r) → OppositeBefore mo.links mn.links e f x
+        → Sized w₀ v (Trying mo mn groups limit w₀ c₀ e m v r x)
+    unfolding Trying Lasts FindsBefore
+    try_on r x t q =
         record {
           size = t.size ∙ inv.size;
           claim = λ o p h g s i y z.
               let k = inv.claim o p h g s i y z in
-              let l : f < edge_count p.program = omega (arith, k.walk.within) in
-              let own : side_of o.program p.program e m f ≡ 0 = ap (side_of o.program p.program e m) d ∙ k.walk.owner pos in
-              let side = side_at o.program p.program e m f own in
-              let j = t.claim o p h g k.step.state i l side.1 (rw side.0 y) (rw side.0 z) in
-              let next : x ≡ latest (side_of o.program p.program e m) (side_of o.program p.program e m (place - 1)) (place - 1)
-              = q.finds ot on nt nn o p h g.memory i l m own
-              ∙ ap₂ (latest (side_of o.program p.program e m)) (sym (k.walk.owner pos)) d in
+              let own = own_side o p k in
+              let d : f ≡ suc f - 1 = omega arith in
+              let j = tried_one r t o p h g i y z k in
+              let next : x ≡ latest (side_of o.program p.program e m) (side_of o.program p.program e m (suc f - 1)) (suc f - 1)
+              = q.finds mo.text mo.nodes mn.text mn.nodes o p h g.memory i (omega (arith, k.walk.within)) m own
+              ∙ ap₂ (latest (side_of o.program p.program e m)) (sym (k.walk.owner (omega arith))) d in
               record {
                 step = step_then (λ M S N T _ _. refl) k.step j (λ _ _. refl);
                 walk = rw next
-                    (walk_step (opposites o.program p.program e m) {Q = λ f. r ≤ limit → EndsDone o.program p.program e f (pairs_in v r) (danger_in v)} k.walk pos
+                    (walk_step (opposites o.program p.program e m) {Q = λ f. r ≤ limit → EndsDone o.program p.program e f (pairs_in v r) (danger_in v)} k.walk (omega arith)
                     (λ f u b. step_lasts j _ (ends_lasts o.program p.program e f) b (u (omega (arith, j.more))))
                     (rw (← d) j.done));
               };
         }
 
-  pub try_end : (u w : List ℕ) (c place last : ℕ) → LastOpposite ol nl e m last → Sized w₀ u (MarksLost ol nl w₀ e m last u)
-      → Sized u w (Trying (memory ot on ol) (memory nt nn nl) groups limit u c₀ e m w c place) → place ≤ 0
-      → Sized w₀ w (TriesEdge (memory ot on ol) (memory nt nn nl) groups limit w₀ c₀ e m w c)
+    -- There are more pairs than the limit.
+    tried_past : Sized w v (TriesEnds mo mn groups limit w c e f v (suc limit)) → (o p : Listing) → InMemory mo o → InGroups mn groups p → State o.program p.program limit w₀ c₀
+        → e < edge_count o.program → Pair o.program p.program (source_at o.program e) m → MayGoOn o.program p.program (source_at o.program e) m
+        → Step o.program p.program limit w₀ c₀ (λ M _. M ≡ M) v (suc limit)
+    unfolding Trying Lasts
+    tried_past t o p h g s i y z =
+        let k = inv.claim o p h g s i y z in
+        step_then (λ M S N T _ _. refl) k.step (tried_one (suc limit) t o p h g i y z k) (λ _ _. refl)
+
+  pub try_end : (u w : List ℕ) (c last : ℕ) → LastOpposite mo.links mn.links e m last → Sized w₀ u (MarksLost mo mn w₀ e m last u)
+      → Sized u w (Trying mo mn groups limit u c₀ e m w c 0) → Sized w₀ w (TriesEdge mo mn groups limit w₀ c₀ e m w c)
   unfolding Trying TriesEdge MarksLost LastOpposite
-  try_end u w c place last q lost inv z =
+  try_end u w c last q lost inv =
       record {
         size = inv.size ∙ lost.size;
         claim = λ o p h g s i y x.
             let j = pair_inside (formed_in _ _ o p h g.memory) y in
-            let a = lost.claim ot on nt nn o p h g.memory limit c₀ s i y x (q ot on nt nn o p h g.memory i j.1) in
+            let a = lost.claim o p h g.memory limit c₀ s i y x (q mo.text mo.nodes mn.text mn.nodes o p h g.memory i j.1) in
             let b = inv.claim o p h g a.state i y x in
             step_then (lost_lasts o.program p.program e m) a
             (step_shows b.step {E = λ M S. (f : ℕ) → f < edge_count p.program → side_of o.program p.program e m f ≡ 0 → EndsDone o.program p.program e f M S}
-            (λ few f l own. walk_end b.walk z f l own few))
+            (λ few f l own. walk_end b.walk (omega arith) f l own few))
             (λ t each. edge_done o.program p.program e m _ _ t (λ f l own k. each f l (side_of_lem o.program p.program e m f own k)));
       }
 
-  -- The only opposite edge is one turn of such a walk.
-  pub try_sole : (own f : ℕ) (v : List ℕ) (r : ℕ) → (own ≡ 0 → ⊥) → f ≡ own - 1 → SoleOpposite ol nl e m own
-      → Sized w₀ v (TriesEnds (memory ot on ol) (memory nt nn nl) groups limit w₀ c₀ e f v r) → Sized w₀ v (TriesEdge (memory ot on ol) (memory nt nn nl) groups limit w₀ c₀ e m v r)
-  unfolding SoleOpposite
-  try_sole own f v r d q so t =
-      let s = so (omega arith) in
-      let b : OppositeBefore ol nl e f 0 = rw q s.before in
-      try_end w₀ v r 0 own s.last (lost_none ol nl w₀ e m own false s.kept refl) (try_on w₀ c₀ own (try_start own s.last) f v r 0 (omega arith) q t b) (omega arith)
+-- The same in the middle of the walk.
+module _ (mo mn : Memory) (groups : List ℕ) (limit : ℕ) (w₀ : List ℕ) (c₀ e m : ℕ) where
+  pub try_past : (u w : List ℕ) (c last f : ℕ) (v : List ℕ) → LastOpposite mo.links mn.links e m last → Sized w₀ u (MarksLost mo mn w₀ e m last u)
+      → Sized u w (Trying mo mn groups limit u c₀ e m w c (suc f)) → Sized w v (TriesEnds mo mn groups limit w c e f v (suc limit))
+      → Sized w₀ v (TriesEdge mo mn groups limit w₀ c₀ e m v (suc limit))
+  unfolding TriesEdge MarksLost LastOpposite
+  try_past u w c last f v q lost inv t =
+      record {
+        size = t.size ∙ inv.size ∙ lost.size;
+        claim = λ o p h g s i y x.
+            let j = pair_inside (formed_in _ _ o p h g.memory) y in
+            let a = lost.claim o p h g.memory limit c₀ s i y x (q mo.text mo.nodes mn.text mn.nodes o p h g.memory i j.1) in
+            step_past (step_then {F = λ M _. M ≡ M} (lost_lasts o.program p.program e m) a (tried_past mo mn groups limit u c₀ e m w c f inv v t o p h g a.state i y x) (λ _ _. refl));
+      }
 
-pub ruleset tries = (try_less, try_start, try_on, try_end, try_sole)
+  -- The only opposite edge is one turn of such a walk.
+  pub try_sole : (f : ℕ) (v : List ℕ) (r : ℕ) → SoleOpposite mo.links mn.links e m (suc f)
+      → Sized w₀ v (TriesEnds mo mn groups limit w₀ c₀ e f v r) → Sized w₀ v (TriesEdge mo mn groups limit w₀ c₀ e m v r)
+  unfolding SoleOpposite
+  try_sole f v r so t =
+      let s = so (omega arith) in
+      let d : suc f - 1 ≡ f = omega arith in
+      let b : OppositeBefore mo.links mn.links e f 0 = subst (λ (f : ℕ). OppositeBefore mo.links mn.links e f 0) d s.before in
+      try_end mo mn groups limit w₀ c₀ e m w₀ v r (suc f) s.last (lost_none mo mn w₀ e m (suc f) s.kept)
+      (try_on mo mn groups limit w₀ c₀ e m w₀ c₀ f (try_start mo mn groups limit w₀ c₀ e m (suc f) s.last) v r 0 t b)
+
+pub ruleset tries = (try_less, try_start, try_on, try_past, try_end)
+
+pub ruleset soles = (try_sole)
 
 -- ---- `follow`
 
@@ -130,54 +169,67 @@ Following a b t limit w₀ c₀ n m w c place =
     (o p : Listing) → InMemory a o → InGroups b t p → State o.program p.program limit w₀ c₀ → Pair o.program p.program n m → MayGoOn o.program p.program n m
     → FollowedTo o.program p.program limit w₀ c₀ n m w c place
 
--- The walk goes down.
-pub follow_less : (place e r x : ℕ) → 0 < place → e ≡ place - 1 → r ≡ up_to e x → r < place
-follow_less place e r x pos d q = omega (arith, up_to_le e x)
-
-module _ (ot on ol nt nn nl groups : List ℕ) (limit : ℕ) (w₀ : List ℕ) (c₀ n m : ℕ) where
-  pub follow_start : (place : ℕ) → place ≡ get_or ol (head_base n) 0
-      → Sized w₀ w₀ (Following (memory ot on ol) (memory nt nn nl) groups limit w₀ c₀ n m w₀ c₀ place)
+module _ (mo mn : Memory) (groups : List ℕ) (limit : ℕ) (w₀ : List ℕ) (c₀ n m : ℕ) where
+  pub follow_start : Sized w₀ w₀ (Following mo mn groups limit w₀ c₀ n m w₀ c₀ (get_or mo.links (head_base n) 0))
   unfolding Following
-  follow_start place e =
+  follow_start =
       record {
         size = refl;
         claim = λ o p h g s y z.
             let i = pair_inside (formed_in _ _ o p h g.memory) y in
-            record { step = step_none s (λ _. refl); walk = rw e (walk_start (edges_chained (memory ot on ol) o h) n i.0) };
+            record { step = step_none s (λ _. refl); walk = walk_start (edges_chained mo o h) n i.0 };
       }
 
-  module _ (w : List ℕ) (c place : ℕ) (inv : Sized w₀ w (Following (memory ot on ol) (memory nt nn nl) groups limit w₀ c₀ n m w c place)) where
-    pub follow_on : (e : ℕ) (v : List ℕ) (r x : ℕ) → 0 < place → e ≡ place - 1 → Sized w v (TriesEdge (memory ot on ol) (memory nt nn nl) groups limit w c e m v r)
-        → x ≡ up_to e (get_or ol (edge_base e + 4) 0) → Sized w₀ v (Following (memory ot on ol) (memory nt nn nl) groups limit w₀ c₀ n m v r x)
-    unfolding Following TriesEdge Lasts
-    follow_on e v r x pos d t q =
+  module _ (w : List ℕ) (c e : ℕ) (inv : Sized w₀ w (Following mo mn groups limit w₀ c₀ n m w c (suc e))) (v : List ℕ) where
+    -- Rule 3 for the edge at the place.
+    followed_one : (r : ℕ) → Sized w v (TriesEdge mo mn groups limit w c e m v r) → (o p : Listing) → InMemory mo o → InGroups mn groups p → Pair o.program p.program n m
+        → MayGoOn o.program p.program n m → FollowedTo o.program p.program limit w₀ c₀ n m w c (suc e) → Step o.program p.program limit w c (EdgeDone o.program p.program e m) v r
+    unfolding TriesEdge
+    followed_one r t o p h g y z i =
+        let own : source_at o.program e ≡ n = ap (source_at o.program) (let d : e ≡ suc e - 1 = omega arith in d) ∙ i.walk.owner (omega arith) in
+        t.claim o p h g i.step.state (omega (arith, i.walk.within)) (rw own y) (rw own z)
+
+    pub follow_on : (r : ℕ) → Sized w v (TriesEdge mo mn groups limit w c e m v r)
+        → Sized w₀ v (Following mo mn groups limit w₀ c₀ n m v r (up_to e (get_or mo.links (edge_base e + 4) 0)))
+    unfolding Following Lasts
+    follow_on r t =
         record {
           size = t.size ∙ inv.size;
           claim = λ o p h g s y z.
               let i = inv.claim o p h g s y z in
-              let k : e < edge_count o.program = omega (arith, i.walk.within) in
-              let own : source_at o.program e ≡ n = ap (source_at o.program) d ∙ i.walk.owner pos in
-              let j = t.claim o p h g i.step.state k (rw own y) (rw own z) in
+              let d : e ≡ suc e - 1 = omega arith in
+              let j = followed_one r t o p h g y z i in
               record {
                 step = step_then (λ M S N T _ _. refl) i.step j (λ _ _. refl);
-                walk = rw (q, d)
-                    (walk_step (edges_chained (memory ot on ol) o h) {Q = λ f. r ≤ limit → EdgeDone o.program p.program f m (pairs_in v r) (danger_in v)} i.walk pos
+                walk = rw d
+                    (walk_step (edges_chained mo o h) {Q = λ f. r ≤ limit → EdgeDone o.program p.program f m (pairs_in v r) (danger_in v)} i.walk (omega arith)
                     (λ f u b. step_lasts j _ (edge_lasts o.program p.program f m) b (u (omega (arith, j.more))))
                     (rw (← d) j.done));
               };
         }
 
-    pub follow_end : place ≤ 0 → Sized w₀ w (Follows (memory ot on ol) (memory nt nn nl) groups limit w₀ c₀ n m w c)
-    unfolding Following Follows EdgesDone
-    follow_end l =
+    -- There are more pairs than the limit.
+    pub follow_past : Sized w v (TriesEdge mo mn groups limit w c e m v (suc limit)) → Sized w₀ v (Follows mo mn groups limit w₀ c₀ n m v (suc limit))
+    unfolding Following Follows Lasts
+    follow_past t =
         record {
-          size = inv.size;
+          size = t.size ∙ inv.size;
           claim = λ o p h g s y z.
               let i = inv.claim o p h g s y z in
-              step_shows i.step (λ b e k own. walk_end i.walk l e k own b);
+              step_past (step_then {F = λ M _. M ≡ M} (λ M S N T _ _. refl) i.step (followed_one (suc limit) t o p h g y z i) (λ _ _. refl));
         }
 
-pub ruleset follows = (follow_less, follow_start, follow_on, follow_end)
+  pub follow_end : (w : List ℕ) (c : ℕ) → Sized w₀ w (Following mo mn groups limit w₀ c₀ n m w c 0) → Sized w₀ w (Follows mo mn groups limit w₀ c₀ n m w c)
+  unfolding Following Follows EdgesDone
+  follow_end w c inv =
+      record {
+        size = inv.size;
+        claim = λ o p h g s y z.
+            let i = inv.claim o p h g s y z in
+            step_shows i.step (λ b e k own. walk_end i.walk (omega arith) e k own b);
+      }
+
+pub ruleset follows = (up_to_le, follow_start, follow_on, follow_past, follow_end)
 
 -- ---- `enter_callees`, `enter`
 
@@ -187,29 +239,29 @@ pub record EnteredTo (o p : Listing) (limit : ℕ) (w₀ : List ℕ) (c₀ n m :
   pub left : CalleesAt o p n m first a b
   pub step : Step o.program p.program limit w₀ c₀ (MetTo o.program p.program n m first) w c
 
-unfoldable pub Entering : List ℕ → List ℕ → ℕ → List ℕ → ℕ → ℕ → ℕ → List ℕ → ℕ → ℕ → ℕ → Type 0
-Entering ol nl limit w₀ c₀ k l w c a b =
-    (ot on nt nn : List ℕ) (o p : Listing) → InMemory (memory ot on ol) o → InMemory (memory nt nn nl) p → State o.program p.program limit w₀ c₀
+unfoldable pub Entering : Memory → Memory → ℕ → List ℕ → ℕ → ℕ → ℕ → List ℕ → ℕ → ℕ → ℕ → Type 0
+Entering mo mn limit w₀ c₀ k l w c a b =
+    (o p : Listing) → InMemory mo o → InMemory mn p → State o.program p.program limit w₀ c₀
     → (n m : ℕ) → Pair o.program p.program n m → CalleesAt o p n m 0 k l → EnteredTo o p limit w₀ c₀ n m w c a b
 
-module _ (ol nl : List ℕ) (limit : ℕ) (w₀ : List ℕ) (c₀ k l : ℕ) where
-  pub enter_start : Sized w₀ w₀ (Entering ol nl limit w₀ c₀ k l w₀ c₀ k l)
+module _ (mo mn : Memory) (limit : ℕ) (w₀ : List ℕ) (c₀ k l : ℕ) where
+  pub enter_start : Sized w₀ w₀ (Entering mo mn limit w₀ c₀ k l w₀ c₀ k l)
   unfolding Entering MetTo
   enter_start =
       record {
         size = refl;
-        claim = λ ot on nt nn o p h g s n m y at. record { first = 0; left = at; step = step_none s (λ _ j i. absurd (let z : ⊥ = omega arith in z)) };
+        claim = λ o p h g s n m y at. record { first = 0; left = at; step = step_none s (λ _ j i. absurd (let z : ⊥ = omega arith in z)) };
       }
 
-  module _ (w : List ℕ) (c a b : ℕ) (inv : Sized w₀ w (Entering ol nl limit w₀ c₀ k l w c a b)) where
+  module _ (w : List ℕ) (c a b : ℕ) (inv : Sized w₀ w (Entering mo mn limit w₀ c₀ k l w c a b)) where
     -- All callees were entered, and all exits are pairs.
-    pub enter_all : a ≤ 0 → Sized w₀ w (EntersCallees ol nl limit w₀ c₀ k l w c true)
+    pub enter_all : a ≤ 0 → Sized w₀ w (EntersCallees mo mn limit w₀ c₀ k l w c true)
     unfolding Entering EntersCallees MetTo CallDone AllEntered
     enter_all z =
         record {
           size = inv.size;
-          claim = λ ot on nt nn o p h g s n m y at.
-              let e = inv.claim ot on nt nn o p h g s n m y at in
+          claim = λ o p h g s n m y at.
+              let e = inv.claim o p h g s n m y at in
               let all = at_end h g e.left z in
               step_map
               (λ t.
@@ -222,53 +274,53 @@ module _ (ol nl : List ℕ) (limit : ℕ) (w₀ : List ℕ) (c₀ k l : ℕ) whe
               e.step;
         }
 
-    module _ (q q' r : ℕ) (v : List ℕ) (t : Bool) (pos : 0 < a) (eq : q ≡ a % 256 - 1) (eq' : q' ≡ b % 256 - 1) (one : Sized w v (EntersCallee ol nl limit w c q q' v r t)) where
+    module _ (v : List ℕ) (r : ℕ) (t : Bool) (pos : 0 < a) (one : Sized w v (EntersCallee mo mn limit w c (a % 256 - 1) (b % 256 - 1) v r t)) where
       -- The callees at the place: their entries are a pair, as the exits of those before are.
-      entered_one : (ot on nt nn : List ℕ) (o p : Listing) → InMemory (memory ot on ol) o → InMemory (memory nt nn nl) p → (n m : ℕ) → Pair o.program p.program n m
+      entered_one : (o p : Listing) → InMemory mo o → InMemory mn p → (n m : ℕ) → Pair o.program p.program n m
           → (e : EnteredTo o p limit w₀ c₀ n m w c a b)
           → Step o.program p.program limit w c (CalleeDone o.program p.program (called o.program n e.first) (called p.program m e.first) t) v r
       unfolding EntersCallee MetTo
-      entered_one ot on nt nn o p h g n m y e =
+      entered_one o p h g n m y e =
           let f = formed_in _ _ o p h g in
-          let d = callee_is ot on ol o h n e.first a e.left.old_from q eq in
-          let d' = callee_is nt nn nl p g m e.first b e.left.new_from q' eq' in
+          let d : a % 256 - 1 ≡ called o.program n e.first = callee_is mo.text mo.nodes mo.links o h n e.first a e.left.old_from (a % 256 - 1) refl in
+          let d' : b % 256 - 1 ≡ called p.program m e.first = callee_is mn.text mn.nodes mn.links p g m e.first b e.left.new_from (b % 256 - 1) refl in
           let km : kind_at p.program m ≡ C = alike_kind o.program p.program n m (pair_alike o.program p.program f.old_formed f.new_formed y) ∙ e.left.call in
           subst₂ (λ (i j : ℕ). Step o.program p.program limit w c (CalleeDone o.program p.program i j t) v r) d d'
-          (one.claim ot on nt nn o p h g e.step.state
+          (one.claim o p h g e.step.state
           (rw d (called_below o.program f.old_formed n e.first))
           (rw d' (called_below p.program f.new_formed m e.first))
           (λ few. rw (d, d') (callee_entries y e.left.call km e.first (at_here h g e.left pos) (λ j u. (e.step.state.kept few).sound _ _ (e.step.done few j u).1))))
 
-      pub enter_on : not t ≡ false → Sized w₀ v (Entering ol nl limit w₀ c₀ k l v r (a / 256) (b / 256))
+      pub enter_on : t ≡ true → Sized w₀ v (Entering mo mn limit w₀ c₀ k l v r (a / 256) (b / 256))
       unfolding Entering MetTo CalleeDone
       enter_on z =
           record {
             size = one.size ∙ inv.size;
-            claim = λ ot on nt nn o p h g s n m y at.
-                let e = inv.claim ot on nt nn o p h g s n m y at in
+            claim = λ o p h g s n m y at.
+                let e = inv.claim o p h g s n m y at in
                 record {
                   first = suc e.first;
                   left = at_next h g e.left pos;
-                  step = step_then (met_lasts o.program p.program n m e.first) e.step (entered_one ot on nt nn o p h g n m y e)
+                  step = step_then (met_lasts o.program p.program n m e.first) e.step (entered_one o p h g n m y e)
                       (λ met new j u.
                       ⊎_elim (λ (i : j < e.first). met j i)
-                      (λ (i : j ≡ e.first). subst (MetAt o.program p.program n m (pairs_in v r)) (sym i) (new.0, sym new.1 ∙ not-false t z))
+                      (λ (i : j ≡ e.first). subst (MetAt o.program p.program n m (pairs_in v r)) (sym i) (new.0, sym new.1 ∙ z))
                       (below_suc j e.first u));
                 };
           }
 
       -- The exits are no pair: no callee behind them comes in, and the pair does not go on.
-      pub enter_stop : not t ≡ true → Sized w₀ v (EntersCallees ol nl limit w₀ c₀ k l v r false)
+      pub enter_stop : t ≡ false → Sized w₀ v (EntersCallees mo mn limit w₀ c₀ k l v r false)
       unfolding Entering EntersCallees MetTo CalleeDone CallDone
       enter_stop z =
           record {
             size = one.size ∙ inv.size;
-            claim = λ ot on nt nn o p h g s n m y at.
-                let e = inv.claim ot on nt nn o p h g s n m y at in
-                step_then (met_lasts o.program p.program n m e.first) e.step (entered_one ot on nt nn o p h g n m y e)
+            claim = λ o p h g s n m y at.
+                let e = inv.claim o p h g s n m y at in
+                step_then (met_lasts o.program p.program n m e.first) e.step (entered_one o p h g n m y e)
                 (λ met new.
                 let off : listed (pairs_in v r) (exit o.program (called o.program n e.first)) (exit p.program (called p.program m e.first)) ≡ false
-                = sym new.1 ∙ not-true t z in
+                = sym new.1 ∙ z in
                 record {
                   call = λ _ _ i u x.
                       below_or i e.first (λ d. (met i d).0)
@@ -282,16 +334,27 @@ module _ (ol nl : List ℕ) (limit : ℕ) (w₀ : List ℕ) (c₀ k l : ℕ) whe
                 });
           }
 
-module _ (on ol nn nl : List ℕ) (limit : ℕ) (w : List ℕ) (c n m t : ℕ) (et : t ≡ get_or on (node_base n) 0) where
+      -- There are more pairs than the limit.
+      pub enter_past : r ≡ suc limit → Sized w₀ v (EntersCallees mo mn limit w₀ c₀ k l v (suc limit) true)
+      unfolding Entering EntersCallees Lasts
+      enter_past z =
+          record {
+            size = one.size ∙ inv.size;
+            claim = λ o p h g s n m y at.
+                let e = inv.claim o p h g s n m y at in
+                step_past (rw z at (step_then {F = λ M _. M ≡ M} (met_lasts o.program p.program n m e.first) e.step (entered_one o p h g n m y e) (λ _ _. refl)));
+          }
+
+module _ (mo mn : Memory) (limit : ℕ) (w : List ℕ) (c n m : ℕ) where
   -- No call: it goes on.
-  pub enter_none : (t ≡ 2 → ⊥) → Sized w w (Enters on ol nn nl limit w c n m w c true)
+  pub enter_none : eqb (get_or mo.nodes (node_base n) 0) 2 ≡ false → Sized w w (Enters mo mn limit w c n m w c true)
   unfolding Enters CallDone AllEntered
   enter_none d =
       record {
         size = refl;
-        claim = λ ot nt o p h g s y.
+        claim = λ o p h g s y.
             let i = pair_inside (formed_in _ _ o p h g) y in
-            let no_call : kind_at o.program n ≡ C → ⊥ = λ e. d (et ∙ kind_is _ o h n i.0 ∙ ap kind_number e) in
+            let no_call : kind_at o.program n ≡ C → ⊥ = λ e. both_ways (eq-eqb _ _ (kind_is _ o h n i.0 ∙ ap kind_number e)) d in
             step_none s (λ _. record {
               call = λ e. absurd (no_call e);
               goes = goes_on_of o.program p.program (pairs_in w c) n m (λ e. absurd (no_call e));
@@ -299,52 +362,52 @@ module _ (on ol nn nl : List ℕ) (limit : ℕ) (w : List ℕ) (c n m t : ℕ) (
             });
       }
 
-  pub enter_call : (k l : ℕ) (v : List ℕ) (r : ℕ) (z : Bool) → t ≡ 2 → k ≡ get_or on (node_base n + 3) 0 → l ≡ get_or nn (node_base m + 3) 0
-      → Sized w v (EntersCallees ol nl limit w c k l v r z) → Sized w v (Enters on ol nn nl limit w c n m v r z)
+  pub enter_call : (v : List ℕ) (r : ℕ) (z : Bool) → eqb (get_or mo.nodes (node_base n) 0) 2 ≡ true
+      → Sized w v (EntersCallees mo mn limit w c (get_or mo.nodes (node_base n + 3) 0) (get_or mn.nodes (node_base m + 3) 0) v r z) → Sized w v (Enters mo mn limit w c n m v r z)
   unfolding Enters EntersCallees same_kind
-  enter_call k l v r z d ek el x =
+  enter_call v r z d x =
       record {
         size = x.size;
-        claim = λ ot nt o p h g s y.
+        claim = λ o p h g s y.
             let i = pair_inside (formed_in _ _ o p h g) y in
-            x.claim ot on nt nn o p h g s n m y
+            x.claim o p h g s n m y
             (record {
               old_node = i.0;
-              call = same_kind_true (kind_at o.program n) C (eq-eqb _ _ (sym (et ∙ kind_is _ o h n i.0) ∙ d));
+              call = same_kind_true (kind_at o.program n) C (eq-eqb _ _ (sym (kind_is _ o h n i.0) ∙ eqb-true _ _ d));
               within = omega arith;
-              old_from = ek ∙ callees_are _ o h n i.0;
-              new_from = el ∙ callees_are _ p g m i.1;
+              old_from = callees_are _ o h n i.0;
+              new_from = callees_are _ p g m i.1;
             });
       }
 
-pub ruleset enters = (fewer_callees, enter_start, enter_all, enter_on, enter_stop, enter_none, enter_call)
+pub ruleset enters = (fewer_callees, enter_start, enter_all, enter_on, enter_stop, enter_past)
+
+pub ruleset calls = (enter_none, enter_call)
 
 -- ---- `visit`
 
-module _ (ot on ol nt nn nl groups : List ℕ) (limit : ℕ) (w : List ℕ) (c n m x : ℕ) (u : List ℕ) (k : ℕ) (t : Bool) (d : n ≡ old_at w x) (e : m ≡ new_at w x)
-    (entered : Sized w u (Enters on ol nn nl limit w c n m u k t)) where
+module _ (mo mn : Memory) (groups : List ℕ) (limit : ℕ) (w : List ℕ) (c x : ℕ) (u : List ℕ) (k : ℕ) (t : Bool) (entered : Sized w u (Enters mo mn limit w c (old_at w x) (new_at w x) u k t)) where
   -- Rule 2, then what is shown from there.
   visit_turn : (v : List ℕ) (r : ℕ) (z : Bool) → length v ≡ length u
-      → ((o p : Listing) → InMemory (memory ot on ol) o → InGroups (memory nt nn nl) groups p → Pair o.program p.program n m
-      → Step o.program p.program limit w c (Entered o.program p.program n m t) u k
-      → Turn o.program p.program limit w c (PairFollowed o.program p.program n m) (PairDone o.program p.program n m) v r z)
-      → Sized w v (Visits (memory ot on ol) (memory nt nn nl) groups limit w c x v r z)
+      → ((o p : Listing) → InMemory mo o → InGroups mn groups p → Pair o.program p.program (old_at w x) (new_at w x)
+      → Step o.program p.program limit w c (Entered o.program p.program (old_at w x) (new_at w x) t) u k
+      → Turn o.program p.program limit w c (PairFollowed o.program p.program (old_at w x) (new_at w x)) (PairDone o.program p.program (old_at w x) (new_at w x)) v r z)
+      → Sized w v (Visits mo mn groups limit w c x v r z)
   unfolding Enters Visits
   visit_turn v r z size turn =
       record {
         size = size ∙ entered.size;
         claim = λ o p h g s few l.
-            let pair : Pair o.program p.program n m = (s.kept few).sound n m (listed_of w n m c x l (sym d) (sym e)) in
-            let q = turn o p h g pair (entered.claim ot nt o p h g.memory s pair) in
-            rw (← d, ← e) q;
+            let pair : Pair o.program p.program (old_at w x) (new_at w x) = (s.kept few).sound _ _ (listed_of w (old_at w x) (new_at w x) c x l refl refl) in
+            turn o p h g pair (entered.claim o p h g.memory s pair);
       }
 
-  pub visit_over : limit < k → Sized w u (Visits (memory ot on ol) (memory nt nn nl) groups limit w c x u k true)
-  visit_over l =
-      visit_turn u k true refl
-      (λ o p h g y i. record { step = step_shows i (λ b. absurd (let z : ⊥ = omega arith in z)); still = λ _ b. absurd (let z : ⊥ = omega arith in z) })
+  pub visit_past : k ≡ suc limit → Sized w u (Visits mo mn groups limit w c x u (suc limit) true)
+  visit_past e =
+      visit_turn u (suc limit) true refl
+      (λ o p h g y i. record { step = step_past (rw e at i); still = λ _ b. absurd (let z : ⊥ = omega arith in z) })
 
-  pub visit_wait : t ≡ false → Sized w u (Visits (memory ot on ol) (memory nt nn nl) groups limit w c x u k t)
+  pub visit_wait : t ≡ false → Sized w u (Visits mo mn groups limit w c x u k t)
   unfolding OnDone
   visit_wait f =
       visit_turn u k t refl
@@ -353,13 +416,15 @@ module _ (ot on ol nt nn nl groups : List ℕ) (limit : ℕ) (w : List ℕ) (c n
         still = λ _ b. record { call = (i.done b).call; on = λ z. absurd (both_ways z ((i.done b).goes ∙ f)) };
       })
 
-  pub visit_on : (v : List ℕ) (r : ℕ) → t ≡ true → k ≤ limit → Sized u v (Follows (memory ot on ol) (memory nt nn nl) groups limit u k n m v r)
-      → Sized w v (Visits (memory ot on ol) (memory nt nn nl) groups limit w c x v r t)
+  pub visit_on : (v : List ℕ) (r : ℕ) → t ≡ true → k ≤ limit → Sized u v (Follows mo mn groups limit u k (old_at w x) (new_at w x) v r)
+      → Sized w v (Visits mo mn groups limit w c x v r true)
   unfolding Follows OnDone
   visit_on v r f few q =
-      visit_turn v r t q.size
+      visit_turn v r true q.size
       (λ o p h g y i.
       let met = i.done few in
+      let n = old_at w x in
+      let m = new_at w x in
       let a = q.claim o p h g i.state y (λ z j b. (i.state.kept few).sound _ _ (goes_on_at o.program p.program (pairs_in u k) n m (met.goes ∙ f) z j b)) in
       let all : Step o.program p.program limit w c (PairFollowed o.program p.program n m) v r
       = step_then (entered_lasts o.program p.program n m) (step_map (λ z. z.all f) i) a (λ b z. record { call = b; edges = z }) in
@@ -368,7 +433,7 @@ module _ (ot on ol nt nn nl groups : List ℕ) (limit : ℕ) (w : List ℕ) (c n
         still = λ _ b. let z = all.done b in record { call = entered_done o.program p.program n m _ _ z.call; on = λ _. z.edges };
       })
 
-pub ruleset visits = (visit_over, visit_wait, visit_on)
+pub ruleset visits = (visit_past, visit_wait, visit_on)
 
 -- ---- `pass`
 
@@ -455,21 +520,23 @@ module _ (a b : Memory) (t : List ℕ) (limit : ℕ) (w₀ : List ℕ) (c₀ : �
               };
         }
 
-    pub all_on : (v : List ℕ) (r : ℕ) (z' : Bool) → not z' ≡ false → x < c → c ≤ limit → Sized w v (Visits a b t limit w c x v r z') → Sized w₀ v (Visiting a b t limit w₀ c₀ v r z (x + 1))
-    all_on v r z' n l few y = all_next v r z' z (λ e. (e, not-false z' n)) l few y
+    pub all_on : (v : List ℕ) (r : ℕ) (z' : Bool) → z' ≡ true → x < c → c ≤ limit → Sized w v (Visits a b t limit w c x v r z') → Sized w₀ v (Visiting a b t limit w₀ c₀ v r z (x + 1))
+    all_on v r z' n l few y = all_next v r z' z (λ e. (e, n)) l few y
 
     pub all_wait : (v : List ℕ) (r : ℕ) (z' : Bool) → x < c → c ≤ limit → Sized w v (Visits a b t limit w c x v r z') → Sized w₀ v (Visiting a b t limit w₀ c₀ v r false (x + 1))
     all_wait v r z' l few y = all_next v r z' false (λ e. absurd (false≢true e)) l few y
 
-    all_over : limit < c → Sized w₀ w (VisitsAll a b t limit w₀ c₀ w c z)
-    unfolding Visiting VisitsAll
-    all_over l =
+    -- There are more pairs than the limit.
+    all_past : (v : List ℕ) (z' : Bool) → x < c → c ≤ limit → Sized w v (Visits a b t limit w c x v (suc limit) z') → Sized w₀ v (VisitsAll a b t limit w₀ c₀ v (suc limit) true)
+    unfolding Visiting VisitsAll Visits Lasts
+    all_past v z' l few y =
         record {
-          size = inv.size;
+          size = y.size ∙ inv.size;
           claim = λ o p h g s.
               let i = inv.claim o p h g s in
+              let j = y.claim o p h g i.step.state few l in
               record {
-                step = step_shows i.step (λ few. absurd (let z : ⊥ = omega arith in z));
+                step = step_past (step_then {F = λ M _. M ≡ M} (λ M S N T _ _. refl) i.step j.step (λ _ _. refl));
                 still = λ _ few. absurd (let z : ⊥ = omega arith in z);
               };
         }
@@ -487,15 +554,15 @@ module _ (a b : Memory) (t : List ℕ) (limit : ℕ) (w₀ : List ℕ) (c₀ : �
               };
         }
 
-pass_done : (ot on ol nt nn nl groups : List ℕ) (limit : ℕ) (w u v : List ℕ) (c k r : ℕ) (z : Bool) → Sized w u (AddsEntries ol nl limit w c 0 0 u k)
-    → Sized u v (VisitsAll (memory ot on ol) (memory nt nn nl) groups limit u k v r z) → Sized w v (Passes (memory ot on ol) (memory nt nn nl) groups limit w c v r z)
+pass_done : (mo mn : Memory) (groups : List ℕ) (limit : ℕ) (w u v : List ℕ) (c k r : ℕ) (z : Bool) → Sized w u (AddsEntries mo mn limit w c 0 0 u k)
+    → Sized u v (VisitsAll mo mn groups limit u k v r z) → Sized w v (Passes mo mn groups limit w c v r z)
 unfolding AddsEntries VisitsAll Passes
-pass_done ot on ol nt nn nl groups limit w u v c k r z x y =
+pass_done mo mn groups limit w u v c k r z x y =
     record {
       size = y.size ∙ x.size;
       claim = λ o p h g s.
           let f = formed_in _ _ o p h g.memory in
-          let i = x.claim ot on nt nn o p h g.memory s f.old_formed.begins f.new_formed.begins (λ _. first_entries) in
+          let i = x.claim o p h g.memory s f.old_formed.begins f.new_formed.begins (λ _. first_entries) in
           let j = y.claim o p h g i.state in
           let lasts = entries_lasts o.program p.program 0 0 in
           record {
@@ -507,15 +574,29 @@ pass_done ot on ol nt nn nl groups limit w u v c k r z x y =
           };
     }
 
-module _ (ot on ol nt nn nl groups : List ℕ) (limit : ℕ) (w : List ℕ) (c : ℕ) (u : List ℕ) (k : ℕ) (start : Sized w u (AddsEntries ol nl limit w c 0 0 u k))
-    (v : List ℕ) (r : ℕ) (z : Bool) (x : ℕ) (inv : Sized u v (Visiting (memory ot on ol) (memory nt nn nl) groups limit u k v r z x)) where
-  pub pass_over : limit < r → Sized w v (Passes (memory ot on ol) (memory nt nn nl) groups limit w c v r z)
-  pass_over l = pass_done ot on ol nt nn nl groups limit w u v c k r z start (all_over _ _ groups limit u k v r z x inv l)
+module _ (mo mn : Memory) (groups : List ℕ) (limit : ℕ) (w : List ℕ) (c : ℕ) (u : List ℕ) where
+  -- The entries of the first procedures are one pair too many.
+  pub pass_full : Sized w u (AddsEntries mo mn limit w c 0 0 u (suc limit)) → Sized w u (Passes mo mn groups limit w c u (suc limit) true)
+  unfolding AddsEntries Passes
+  pass_full x =
+      record {
+        size = x.size;
+        claim = λ o p h g s.
+            let f = formed_in _ _ o p h g.memory in
+            record {
+              step = step_past (x.claim o p h g.memory s f.old_formed.begins f.new_formed.begins (λ _. first_entries));
+              still = λ _ few. absurd (let z : ⊥ = omega arith in z);
+            };
+      }
 
-  pub pass_end : r ≤ x → Sized w v (Passes (memory ot on ol) (memory nt nn nl) groups limit w c v r z)
-  pass_end l = pass_done ot on ol nt nn nl groups limit w u v c k r z start (all_end _ _ groups limit u k v r z x inv l)
+  module _ (k : ℕ) (start : Sized w u (AddsEntries mo mn limit w c 0 0 u k)) (v : List ℕ) (r : ℕ) (z : Bool) (x : ℕ) (inv : Sized u v (Visiting mo mn groups limit u k v r z x)) where
+    pub pass_past : (v' : List ℕ) (z' : Bool) → x < r → r ≤ limit → Sized v v' (Visits mo mn groups limit v r x v' (suc limit) z') → Sized w v' (Passes mo mn groups limit w c v' (suc limit) true)
+    pass_past v' z' l few y = pass_done mo mn groups limit w u v' c k (suc limit) true start (all_past _ _ groups limit u k v r z x inv v' z' l few y)
 
-pub ruleset passes = (all_start, all_on, all_wait, pass_over, pass_end)
+    pub pass_end : r ≤ x → Sized w v (Passes mo mn groups limit w c v r z)
+    pass_end l = pass_done mo mn groups limit w u v c k r z start (all_end _ _ groups limit u k v r z x inv l)
+
+pub ruleset passes = (all_start, all_on, all_wait, pass_full, pass_past, pass_end)
 
 -- ---- `repeat`, `close`
 
@@ -533,15 +614,15 @@ module _ (a b : Memory) (t : List ℕ) (limit : ℕ) (w₀ w : List ℕ) (c : �
   unfolding Repeating Passes
   repeat_on = record { size = x.size ∙ inv.size; claim = λ o p h g s. (x.claim o p h g (inv.claim o p h g s)).step.state }
 
-  pub repeat_over : limit < r → Sized w₀ v (Finds a b t limit w₀ v (limit + 1))
+  pub repeat_past : r ≡ suc limit → Sized w₀ v (Finds a b t limit w₀ v (suc limit))
   unfolding Repeating Passes Finds
-  repeat_over l =
+  repeat_past e =
       record {
         size = x.size ∙ inv.size;
         claim = λ o p h g s.
             let i = x.claim o p h g (inv.claim o p h g s) in
             record {
-              answer = add-one limit ∙ sym (choose_no _ _ (lt-leb (length (pairs o.program p.program)) limit (i.step.state.over l)));
+              answer = sym (choose_no _ _ (lt-leb (length (pairs o.program p.program)) limit (i.step.state.over (omega arith))));
               held = λ k. absurd (let z : ⊥ = omega arith in z);
               marked = λ k. absurd (let z : ⊥ = omega arith in z);
             };
@@ -588,8 +669,10 @@ close_done a b limit w u v t r e q x =
     }
 
 -- A table without room for as many pairs as the limit says.
-pub close_short : (a b : Memory) (limit : ℕ) (w : List ℕ) → length w < 4624 + 3 * limit → Sized w w (Closes a b limit w w 0)
+pub close_short : (a b : Memory) (limit : ℕ) (w : List ℕ) (r : ℕ) → length w < 4624 + 3 * limit → Sized w w (Closes a b limit w w r)
 unfolding Closes
-close_short a b limit w s = record { size = refl; claim = λ o p h g l. absurd (let z : ⊥ = omega arith in z) }
+close_short a b limit w r s = record { size = refl; claim = λ o p h g l. absurd (let z : ⊥ = omega arith in z) }
 
-pub ruleset repeats = (repeat_start, repeat_on, repeat_over, repeat_still, repeat_settled, close_done, close_short)
+pub ruleset closes = (close_done, close_short)
+
+pub ruleset repeats = (repeat_start, repeat_on, repeat_past, repeat_still, repeat_settled)

@@ -1,17 +1,31 @@
 -- What the functions of the search promise: whatever programs the memories hold, for a table in a state of the search. Each adds pairs of the rules only, and
 -- the rules that it looks at then hold within the list; those of pairs that have to wait do where it adds none.
-use Rattle.std.specs.Prelude.{◌≡◌, Bool, false, true, List, ℕ, suc, ◌+◌, ◌*◌, ◌≤◌, ◌<◌, leb, length}
+use Rattle.std.specs.Prelude.{◌≡◌, Bool, false, true, List, Option, Some, None, ℕ, suc, ◌+◌, ◌*◌, ◌≤◌, ◌<◌, leb, length}
 use Rattle.laws.specs.Tests.{choose, has, listed}
 use Rattle.rules.specs.Graph.{Program, edge_count, entry, proc_count, source_at}
 use Rattle.rules.specs.Closing.{MayGoOn, Pair, dangers, pairs, opposite}
 use Rattle.rules.specs.ProgramFile.{Listing}
 use Rattle.pairset.specs.Store.{danger_in, new_at, old_at, pair_base, pairs_in}
-use Rattle.versions.specs.Memory.{InMemory, Memory, memory}
+use Rattle.versions.specs.Memory.{InMemory, Memory}
 use Rattle.versions.specs.Called.{CalleesAt}
 use Rattle.versions.specs.Opposite.{opposite_below}
 use Rattle.versions.specs.PairsHeld.{PairsHeld}
 use Rattle.versions.specs.Groups.{InGroups}
+use Rattle.closure.specs.declared.Growth.{Growth}
 use Rattle.closure.specs.State.{AllDone, CalleeDone, EdgeDone, EdgesDone, EndsDone, Entered, EntriesDone, Formed, LostDone, PairDone, PairFollowed, State, Step, Turn}
+
+-- The count of an answer: one more than the limit for None, by which there are more pairs than the limit; the same of a growth, and whether it is settled.
+abbrev pub counted : ℕ → Option ℕ → ℕ
+counted limit None = suc limit
+counted limit (Some c) = c
+
+abbrev pub grown : ℕ → Option Growth → ℕ
+grown limit None = suc limit
+grown limit (Some g) = g.count
+
+abbrev pub is_settled : Option Growth → Bool
+is_settled None = true
+is_settled (Some g) = g.settled
 
 -- A claim, and the table as long as it was.
 pub record Sized (w v : List ℕ) (X : Type 0) : Type 0 where
@@ -24,41 +38,40 @@ Grows limit w c a b v r =
     (old new : Program) → Formed old new → State old new limit w c → (c ≤ limit → Pair old new a b) → (c ≤ limit → listed (pairs_in w c) a b ≡ false)
     → Step old new limit w c (λ M _. listed M a b ≡ true) v r
 
--- `add_entries`: the entries of the old procedure q and the new procedure k.
-unfoldable pub AddsEntries : List ℕ → List ℕ → ℕ → List ℕ → ℕ → ℕ → ℕ → List ℕ → ℕ → Type 0
-AddsEntries ol nl limit w c q k v r =
-    (ot on nt nn : List ℕ) (o p : Listing) → InMemory (memory ot on ol) o → InMemory (memory nt nn nl) p → State o.program p.program limit w c
-    → q < proc_count o.program → k < proc_count p.program → (c ≤ limit → Pair o.program p.program (entry o.program q) (entry p.program k))
-    → Step o.program p.program limit w c (EntriesDone o.program p.program q k) v r
+module _ (a b : Memory) (limit : ℕ) (w : List ℕ) (c : ℕ) where
+  -- `add_entries`: the entries of the old procedure q and the new procedure k.
+  unfoldable pub AddsEntries : ℕ → ℕ → List ℕ → ℕ → Type 0
+  AddsEntries q k v r =
+      (o p : Listing) → InMemory a o → InMemory b p → State o.program p.program limit w c → q < proc_count o.program → k < proc_count p.program
+      → (c ≤ limit → Pair o.program p.program (entry o.program q) (entry p.program k)) → Step o.program p.program limit w c (EntriesDone o.program p.program q k) v r
 
--- `enter_callee`: the same, and whether their exits are a pair.
-unfoldable pub EntersCallee : List ℕ → List ℕ → ℕ → List ℕ → ℕ → ℕ → ℕ → List ℕ → ℕ → Bool → Type 0
-EntersCallee ol nl limit w c q k v r settled =
-    (ot on nt nn : List ℕ) (o p : Listing) → InMemory (memory ot on ol) o → InMemory (memory nt nn nl) p → State o.program p.program limit w c
-    → q < proc_count o.program → k < proc_count p.program → (c ≤ limit → Pair o.program p.program (entry o.program q) (entry p.program k))
-    → Step o.program p.program limit w c (CalleeDone o.program p.program q k settled) v r
+  -- `enter_callee`: the same, and whether their exits are a pair.
+  unfoldable pub EntersCallee : ℕ → ℕ → List ℕ → ℕ → Bool → Type 0
+  EntersCallee q k v r settled =
+      (o p : Listing) → InMemory a o → InMemory b p → State o.program p.program limit w c → q < proc_count o.program → k < proc_count p.program
+      → (c ≤ limit → Pair o.program p.program (entry o.program q) (entry p.program k)) → Step o.program p.program limit w c (CalleeDone o.program p.program q k settled) v r
 
--- `enter_callees`: rule 2 for the pair (n, m) of calls, whose callees are the digits of k and l.
-unfoldable pub EntersCallees : List ℕ → List ℕ → ℕ → List ℕ → ℕ → ℕ → ℕ → List ℕ → ℕ → Bool → Type 0
-EntersCallees ol nl limit w c k l v r settled =
-    (ot on nt nn : List ℕ) (o p : Listing) → InMemory (memory ot on ol) o → InMemory (memory nt nn nl) p → State o.program p.program limit w c
-    → (n m : ℕ) → Pair o.program p.program n m → CalleesAt o p n m 0 k l → Step o.program p.program limit w c (Entered o.program p.program n m settled) v r
+  -- `enter_callees`: rule 2 for the pair (n, m) of calls, whose callees are the digits of k and l.
+  unfoldable pub EntersCallees : ℕ → ℕ → List ℕ → ℕ → Bool → Type 0
+  EntersCallees k l v r settled =
+      (o p : Listing) → InMemory a o → InMemory b p → State o.program p.program limit w c → (n m : ℕ) → Pair o.program p.program n m → CalleesAt o p n m 0 k l
+      → Step o.program p.program limit w c (Entered o.program p.program n m settled) v r
 
--- `enter`: rule 2 for the pair (n, m).
-unfoldable pub Enters : List ℕ → List ℕ → List ℕ → List ℕ → ℕ → List ℕ → ℕ → ℕ → ℕ → List ℕ → ℕ → Bool → Type 0
-Enters on ol nn nl limit w c n m v r settled =
-    (ot nt : List ℕ) (o p : Listing) → InMemory (memory ot on ol) o → InMemory (memory nt nn nl) p → State o.program p.program limit w c → Pair o.program p.program n m
-    → Step o.program p.program limit w c (Entered o.program p.program n m settled) v r
+  -- `enter`: rule 2 for the pair (n, m).
+  unfoldable pub Enters : ℕ → ℕ → List ℕ → ℕ → Bool → Type 0
+  Enters n m v r settled =
+      (o p : Listing) → InMemory a o → InMemory b p → State o.program p.program limit w c → Pair o.program p.program n m
+      → Step o.program p.program limit w c (Entered o.program p.program n m settled) v r
 
 -- `mark_lost`: the old edge e is marked if the new node m takes no edge for its word, where their pair may go on and `last` is what `last_opposite` answers.
-unfoldable pub MarksLost : List ℕ → List ℕ → List ℕ → ℕ → ℕ → ℕ → List ℕ → Type 0
-MarksLost ol nl w e m last v =
-    (ot on nt nn : List ℕ) (o p : Listing) → InMemory (memory ot on ol) o → InMemory (memory nt nn nl) p → (limit c : ℕ) → State o.program p.program limit w c
+unfoldable pub MarksLost : Memory → Memory → List ℕ → ℕ → ℕ → ℕ → List ℕ → Type 0
+MarksLost a b w e m last v =
+    (o p : Listing) → InMemory a o → InMemory b p → (limit c : ℕ) → State o.program p.program limit w c
     → e < edge_count o.program → Pair o.program p.program (source_at o.program e) m → MayGoOn o.program p.program (source_at o.program e) m
     → last ≡ opposite_below o.program p.program e m (edge_count p.program) → Step o.program p.program limit w c (LostDone o.program p.program e m) v c
 
 module _ (a b : Memory) (t : List ℕ) (limit : ℕ) (w : List ℕ) where
-  -- `try_ends`, `try_other`: rule 3 for the old edge e and the new edge f, which are opposite and leave a pair that may go on.
+  -- `try_ends`: rule 3 for the old edge e and the new edge f, which are opposite and leave a pair that may go on.
   unfoldable pub TriesEnds : ℕ → ℕ → ℕ → List ℕ → ℕ → Type 0
   TriesEnds c e f v r =
       (o p : Listing) → InMemory a o → InGroups b t p → State o.program p.program limit w c → e < edge_count o.program → f < edge_count p.program

@@ -136,6 +136,10 @@ module _ {old new : Program} {limit : ℕ} where
     pub step_shows : {E : Claim} → (r ≤ limit → E (pairs_in v r) (danger_in v)) → Step old new limit w c E v r
     step_shows f = record { state = x.state; more = x.more; keeps = x.keeps; stays = x.stays; done = f }
 
+  -- Where there are more pairs than the limit, every claim is kept.
+  pub step_past : {w v : List ℕ} {c : ℕ} {D E : Claim} → Step old new limit w c D v (suc limit) → Step old new limit w c E v (suc limit)
+  step_past x = step_shows x (λ l. absurd (let z : ⊥ = omega arith in z))
+
   -- One step after another.
   pub step_then : {w v u : List ℕ} {c r q : ℕ} {D E F : Claim} → Lasts D → Step old new limit w c D v r → Step old new limit v r E u q
       → (D (pairs_in u q) (danger_in u) → E (pairs_in u q) (danger_in u) → F (pairs_in u q) (danger_in u)) → Step old new limit w c F u q
@@ -160,11 +164,11 @@ module _ {old new : Program} {limit : ℕ} where
   module _ {w : List ℕ} {c a b : ℕ} (fm : Formed old new) (s : State old new limit w c) (p : c ≤ limit → Pair old new a b)
       (new_one : c ≤ limit → listed (pairs_in w c) a b ≡ false) where
     -- One more than the limit is found, or was found before.
-    pub step_over : limit ≤ c → Step old new limit w c (λ M _. listed M a b ≡ true) w (limit + 1)
+    pub step_over : limit ≤ c → Step old new limit w c (λ M _. listed M a b ≡ true) w (suc limit)
     step_over h =
         record {
           state = record { wide = s.wide; few = omega arith; kept = λ l. absurd (let z : ⊥ = omega arith in z); over = λ _. over };
-          more = s.few;
+          more = omega (arith, s.few);
           keeps = λ _ k _. (refl, refl);
           stays = λ _ e t. t;
           done = λ l. absurd (let z : ⊥ = omega arith in z);

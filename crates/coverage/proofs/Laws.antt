@@ -1,4 +1,4 @@
--- The turns and the returns of this crate's functions, as `search` finds them: the premises are what the code holds there.
+-- The turns and the returns of this crate's functions: the premises are what the code holds there.
 use mathlib.Core.Path.{◌≡◌, refl, sym, ap, ap₂, ◌∙◌}
 use mathlib.Core.Bool.{Bool, true, false}
 use mathlib.Core.Option.{Option, none, some}
@@ -8,22 +8,13 @@ use native.Mathlib.Omega.{arith}
 use lib.Bits.{bit_and, and_zero_l, and_zero_r}
 use lib.Count.{ones, ones-le, count_trailing_zeros, trailing_le}
 use lib.Dec.{eqb}
-use lib.ListN.{length, get_or}
+use lib.ListN.{length, get_or, get_or-eq_default}
 use Rattle.laws.specs.Tests.{◌and◌, after, count, first}
 use Rattle.laws.specs.Counting.{count_few}
-use Rattle.laws.specs.Bits.{bit_at, bit_in, bit_and_lem, count_word, first_word, first_no_word, zeros_fit}
+use Rattle.laws.specs.Bits.{bit_at, bit_in, bit_and_lem, count_word, first_word, first_no_word}
 use Rattle.laws.specs.BitSets.{bit_in_lem, bit_out, without_in, without_out, word_bit}
-use Rattle.text.proofs.Laws.{get_out}
-use Rattle.coverage.specs.declared.Found.{Found}
-use Rattle.coverage.specs.declared.Found.TheVariants.{At, Nothing}
+use Rattle.std.specs.Prelude.{is_some, Option as CodeOption, Some, None}
 use Rattle.coverage.specs.Rows.{edge_bit, edge_found, first_common, row_meets, row_ones, row_words}
-
--- ---- `word_at`, `ones_of`, `zeros_below`
-
-pub ones_fit : (w : ℕ) → w < 2 ^ 64 → ones w < 2 ^ 64
-ones_fit w h = omega (arith, ones-le 64 w h)
-
-pub ruleset words = (get_out, ones_fit, zeros_fit)
 
 -- ---- `covers`, `in_set`, `set_bit`, `clear_bit`, `ones`
 
@@ -67,10 +58,10 @@ pub ruleset counts = (covers_is, set_bit, bit_out, bit_in_lem, without_out, with
 -- ---- `common_word`
 
 pub row_ended : (row set : List ℕ) (k : ℕ) → length row ≤ k → 0 ≡ bit_and (get_or row k 0) (get_or set k 0)
-row_ended row set k h = sym (and_zero_l (get_or set k 0)) ∙ ap (λ (w : ℕ). bit_and w (get_or set k 0)) (get_out row k h)
+row_ended row set k h = sym (and_zero_l (get_or set k 0)) ∙ ap (λ (w : ℕ). bit_and w (get_or set k 0)) (sym (get_or-eq_default row 0 h))
 
 pub set_ended : (row set : List ℕ) (k : ℕ) → length set ≤ k → 0 ≡ bit_and (get_or row k 0) (get_or set k 0)
-set_ended row set k h = sym (and_zero_r (get_or row k 0)) ∙ ap (λ (w : ℕ). bit_and (get_or row k 0) w) (get_out set k h)
+set_ended row set k h = sym (and_zero_r (get_or row k 0)) ∙ ap (λ (w : ℕ). bit_and (get_or row k 0) w) (sym (get_or-eq_default set 0 h))
 
 -- ---- `first_danger`
 
@@ -93,8 +84,8 @@ module _ (row set : List ℕ) (k w : ℕ) (inv : NoneTo row set k) (is : w ≡ b
       ∙ sym (bit_and_lem (get_or row k 0) (get_or set k 0) j)
       ∙ ap (λ (x : ℕ). bit_at x j) (sym is)
 
-  pub danger_found : (z n : ℕ) → k < n → n ≤ 16 → (w ≡ 0 → ⊥) → z ≡ count_trailing_zeros 64 w → edge_found (At (64 * k + z)) ≡ first_common row set
-  unfolding NoneTo first_common edge_found
+  pub danger_found : (z n : ℕ) → k < n → n ≤ 16 → (w ≡ 0 → ⊥) → z ≡ count_trailing_zeros 64 w → edge_found (Some (64 * k + z)) ≡ first_common row set
+  unfolding NoneTo first_common
   danger_found z n h l some_bit e = ap (λ (y : ℕ). some (64 * k + y)) e ∙ sym (first_word (both row set) k w fits both_word 16 (omega arith) (omega arith) inv)
 
   pub danger_on : w ≡ 0 → NoneTo row set (k + 1)
@@ -104,27 +95,22 @@ module _ (row set : List ℕ) (k w : ℕ) (inv : NoneTo row set k) (is : w ≡ b
 pub danger_room : (k z n w : ℕ) → k < n → n ≤ 16 → z ≡ count_trailing_zeros 64 w → 64 * k + z < 2 ^ 64
 danger_room k z n w h l e = omega (arith, trailing_le 64 w)
 
-pub danger_none : (row set : List ℕ) (k : ℕ) → NoneTo row set k → k ≤ 16 → 16 ≤ k → edge_found Nothing ≡ first_common row set
-unfolding NoneTo first_common edge_found
+pub danger_none : (row set : List ℕ) (k : ℕ) → NoneTo row set k → k ≤ 16 → 16 ≤ k → edge_found None ≡ first_common row set
+unfolding NoneTo first_common
 danger_none row set k inv h l =
     let q : k ≡ 16 = omega arith in
     sym (ap (λ (n : ℕ). first (64 * n) (both row set)) (sym q) ∙ inv)
 
 -- ---- `row_meets`
 
-module _ (rows set row : List ℕ) (i : ℕ) (found_in : Found) (is : row ≡ row_words rows i) (searched : edge_found found_in ≡ first_common row set) where
-  tells : after (edge_found found_in) false (λ e. true) ≡ row_meets rows set i
-  unfolding row_meets
-  tells = ap (λ (o : Option ℕ). after o false (λ e. true)) (searched ∙ ap (λ (r : List ℕ). first_common r set) is)
+some_told : (o : CodeOption ℕ) → is_some o ≡ after (edge_found o) false (λ e. true)
+some_told (Some e) = refl
+some_told None = refl
 
-  pub meets_one : (e : ℕ) → found_in ≡ At e → true ≡ row_meets rows set i
-  unfolding edge_found
-  meets_one e p = sym (ap (λ (f : Found). after (edge_found f) false (λ x. true)) p) ∙ tells
+pub meets_told : (o : CodeOption ℕ) (rows set : List ℕ) (i : ℕ) → edge_found o ≡ first_common (row_words rows i) set → is_some o ≡ row_meets rows set i
+unfolding row_meets
+meets_told o rows set i searched = some_told o ∙ ap (λ (x : Option ℕ). after x false (λ e. true)) searched
 
-  pub meets_none : found_in ≡ Nothing → false ≡ row_meets rows set i
-  unfolding edge_found
-  meets_none p = sym (ap (λ (f : Found). after (edge_found f) false (λ x. true)) p) ∙ tells
+pub ruleset searches = (row_ended, set_ended, danger_start, danger_found, danger_on, danger_room, danger_none, meets_told)
 
-pub ruleset searches = (row_ended, set_ended, danger_start, danger_found, danger_on, danger_room, danger_none, meets_one, meets_none)
-
-pub ruleset all = (words, counts, searches)
+pub ruleset all = (counts, searches)

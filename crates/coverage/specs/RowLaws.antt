@@ -1,5 +1,5 @@
 -- What a table says of the coverage that it holds: the edges that a test covers, counted, and searched for one of a list.
-use Rattle.std.specs.Prelude.{◌≡◌, refl, ◌↔◌, true, List}
+use Rattle.std.specs.Prelude.{◌≡◌, refl, ◌↔◌, true, List, Option as CodeOption, Some, None}
 use Rattle.std.proofs.Common.{sym, ◌∙◌, true≢false, arith}
 use Rattle.std.proofs.Math.Path.{ap, ap₂}
 use Rattle.std.proofs.Math.Bool.{Bool, false}
@@ -12,20 +12,16 @@ use Rattle.laws.specs.Slices.{get_d_part}
 use Rattle.laws.specs.Bits.{bit_at, bit_in, count_within, first_within}
 use Rattle.rules.specs.Closing.{Coverage, first_danger, holds, meets}
 use Rattle.rules.proofs.Search.{search_meets}
-use Rattle.coverage.specs.declared.Found.{Found}
-use Rattle.coverage.specs.declared.Found.TheVariants.{At, Nothing}
 use Rattle.coverage.specs.Rows.{Row, edge_bit, edge_found, first_common, row_meets, row_ones, row_words}
 
 -- An answer of a search by its case: it is at an edge exactly if that edge is found, and nothing exactly if none is.
-pub at_is : (f : Found) (e : ℕ) → (f ≡ At e) ↔ (edge_found f ≡ some e)
-unfolding edge_found
-at_is (At x) e = (λ p. ap edge_found p, λ q. let t : x ≡ e = cc in ap At t)
-at_is Nothing e = (λ p. ap edge_found p, λ q. absurd (true≢false (let z : true ≡ false = cc in z)))
+pub some_is : (f : CodeOption ℕ) (e : ℕ) → (f ≡ Some e) ↔ (edge_found f ≡ some e)
+some_is (Some x) e = (λ p. ap edge_found p, λ q. let t : x ≡ e = cc in ap Some t)
+some_is None e = (λ p. ap edge_found p, λ q. absurd (true≢false (let z : true ≡ false = cc in z)))
 
-pub nothing_is : (f : Found) → (f ≡ Nothing) ↔ (edge_found f ≡ none)
-unfolding edge_found
-nothing_is (At x) = (λ p. ap edge_found p, λ q. absurd (true≢false (let z : true ≡ false = cc in z)))
-nothing_is Nothing = (λ p. refl, λ q. refl)
+pub none_is : (f : CodeOption ℕ) → (f ≡ None) ↔ (edge_found f ≡ none)
+none_is (Some x) = (λ p. ap edge_found p, λ q. absurd (true≢false (let z : true ≡ false = cc in z)))
+none_is None = (λ p. refl, λ q. refl)
 
 -- The bit of an edge among the words of a row.
 row_bit : (rows : List ℕ) (i e : ℕ) → e < 1024 → bit_in (row_words rows i) e ≡ edge_bit rows i e

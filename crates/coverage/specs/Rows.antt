@@ -1,11 +1,9 @@
 -- How a table holds coverage: 16 words of 64 bits a test, its row. What the functions answer of it.
-use Rattle.std.specs.Prelude.{◌≡◌, Bool, true, false, List, ℕ, ◌+◌, ◌*◌, ◌/◌, ◌%◌, ◌≤◌, ◌<◌, get_or, take, drop}
+use Rattle.std.specs.Prelude.{◌≡◌, Bool, true, false, List, ℕ, ◌+◌, ◌*◌, ◌/◌, ◌%◌, ◌≤◌, ◌<◌, get_or, take, drop, Option as CodeOption, Some, None}
 use Rattle.std.proofs.Math.Option.{Option, none, some}
 use Rattle.laws.specs.Tests.{◌and◌, after, count, first}
 use Rattle.laws.specs.Bits.{bit_at, bit_in, words_of}
 use Rattle.rules.specs.Closing.{Coverage, holds}
-use Rattle.coverage.specs.declared.Found.{Found}
-use Rattle.coverage.specs.declared.Found.TheVariants.{At, Nothing}
 
 -- The bit of the edge e in the row of the test i: bit e mod 64 of word 16 i + e / 64, lowest bit first.
 unfoldable pub edge_bit : List ℕ → ℕ → ℕ → Bool
@@ -28,9 +26,9 @@ abbrev pub row_words : List ℕ → ℕ → List ℕ
 row_words rows i = take 16 (drop (16 * i) rows)
 
 -- An answer of a search: the edge that it found, or none.
-unfoldable pub edge_found : Found → Option ℕ
-edge_found (At e) = some e
-edge_found Nothing = none
+abbrev pub edge_found : CodeOption ℕ → Option ℕ
+edge_found (Some e) = some e
+edge_found None = none
 
 -- `first_danger`: the lowest of the 1,024 edges that a row and a set both have, or none.
 unfoldable pub first_common : List ℕ → List ℕ → Option ℕ

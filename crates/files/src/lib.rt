@@ -11,13 +11,6 @@ use std::io::{ErrorKind, Read, Write};
 use std::rt::{Env, Files};
 use std::{fs, io, str};
 
-// What came of a file: whether it could be read, and how many bytes stand at the start of the buffer.
-#[derive(Clone, Copy)]
-pub struct Loaded {
-    pub came: bool,
-    pub size: usize,
-}
-
 // Says on standard error what failed, and why.
 fn fail(rt: &impl Eprint, what: &str, why: &io::Error) -> io::Result<()> {
     eprintln!(rt; "{what}: {why}")
@@ -51,35 +44,37 @@ fn read_full<R: Read>(reader: &mut R, buffer: &mut [u8]) -> io::Result<usize>
     Ok(done)
 }
 
-// Reads the file that the path names, as far as the buffer goes. Where it cannot, a line on standard error says why.
-fn load_path<R: Files + Eprint>(rt: &R, path: &str, buffer: &mut [u8]) -> io::Result<Loaded> {
-    let nothing = Loaded {
-        came: false,
-        size: 0,
-    };
+// Reads the file that the path names, as far as the buffer goes, and answers how many bytes came. Where it cannot, a line on standard error says
+// why.
+fn load_path<R: Files + Eprint>(
+    rt: &R,
+    path: &str,
+    buffer: &mut [u8],
+) -> io::Result<Option<usize>> {
     let Some(mut file) = open(rt, path)? else {
-        return Ok(nothing);
+        return Ok(None);
     };
     match read_full(&mut file, buffer) {
-        Ok(size) => Ok(Loaded { came: true, size }),
+        Ok(size) => Ok(Some(size)),
         Err(e) => {
             fail(rt, path, &e)?;
-            Ok(nothing)
+            Ok(None)
         }
     }
 }
 
 // Says on standard error that an argument does not name a file, and answers that nothing came.
-fn no_argument<R: Eprint>(rt: &R, why: ErrorKind) -> io::Result<Loaded> {
+fn no_argument<R: Eprint>(rt: &R, why: ErrorKind) -> io::Result<Option<usize>> {
     fail(rt, "argument", &io::Error::from(why))?;
-    Ok(Loaded {
-        came: false,
-        size: 0,
-    })
+    Ok(None)
 }
 
 // The same of the file that argument i names.
-pub fn load<R: Files + Env + Eprint>(rt: &R, i: usize, buffer: &mut [u8]) -> io::Result<Loaded> {
+pub fn load<R: Files + Env + Eprint>(
+    rt: &R,
+    i: usize,
+    buffer: &mut [u8],
+) -> io::Result<Option<usize>> {
     let mut path = [0u8; 4096];
     match rt.arg(i, &mut path) {
         Ok(n) => match str::from_utf8(&path[..n]) {
@@ -94,10 +89,7 @@ pub fn load<R: Files + Env + Eprint>(rt: &R, i: usize, buffer: &mut [u8]) -> io:
 // Whether the program was started with a word i; its own name is word 0.
 fn has_word<R: Env>(rt: &R, i: usize) -> bool {
     let mut none = [0u8; 0];
-    match rt.arg(i, &mut none) {
-        Err(FillError::NotPresent) => false,
-        _ => true,
-    }
+    !matches!(rt.arg(i, &mut none), Err(FillError::NotPresent))
 }
 
 // Whether the program was started with n words, its own name among them; else a line, for standard error, says how it is used.
@@ -112,24 +104,19 @@ pub fn has_args<R: Env, W: Write>(rt: &R, to: &mut W, n: usize, usage: &[u8]) ->
 // ---- cases, one after another in a file
 
 // The field k between the bytes b, empty where there are not so many.
+#[tactic(auto, using(crate::proofs::Laws::fields))]
 pub fn field(s: &[u8], b: u8, k: usize) -> &[u8]
     ensures { result.now ≡ get_or (split b s.now) k [] }
 {
-    let mut at = 0;
-    let mut j = k;
-    while at <= s.len() {
-        let rest = text::after(s, at);
+    let mut rest = s;
+    for i in 0..k {
         let n = text::find(rest, b);
-        if j == 0 {
-            return text::front(rest, n);
-        }
         if rest.len() <= n {
             return text::front(rest, 0);
         }
-        at = at + n + 1;
-        j -= 1;
+        rest = text::after(rest, n + 1);
     }
-    text::front(s, 0)
+    text::first(rest, b)
 }
 
 // The number that six digits spell, three by three: text::value goes only to 65,536, and a text may be longer.
@@ -152,15 +139,14 @@ pub fn fill<R: Read>(reader: &mut R, buffer: &mut [u8], n: usize) -> io::Result<
 // ---- outputs that were filled with 170
 
 // Whether every byte from the place on is 170 still.
+#[tactic(auto, using(crate::proofs::Laws::marks))]
 pub fn untouched(out: &[u8], from: usize) -> bool
     ensures { result ≡ all_bytes is_mark (drop from out.now) }
 {
-    let mut i = from;
-    while i < out.len() {
-        if out[i] != 170 {
+    for x in text::after(out, from) {
+        if *x != 170 {
             return false;
         }
-        i += 1;
     }
     true
 }

@@ -1,22 +1,22 @@
 -- The turns and the returns of this crate's functions, as `search` finds them: the premises are what the code holds there.
 use mathlib.Core.Path.{◌≡◌, refl, sym, ap, ap₂, ◌∙◌}
 use mathlib.Core.Bool.{Bool, true, false}
-use mathlib.Core.List.{List, ◌∷◌}
+use mathlib.Core.List.{List, [], ◌∷◌, ◌++◌}
 use mathlib.Core.Option.{Option, none, some}
 use Prim.Native.Nat.{ℕ, suc, ◌+◌, ◌-◌, ◌*◌, ◌^◌, ◌≤◌, ◌<◌}
 use native.Mathlib.Nat.{add-zero, pow-le-pow_right, pow-suc, zero-add}
 use native.Mathlib.Numerals.{add-one}
 use native.Mathlib.Omega.{arith}
 use lib.Dec.{eqb}
-use lib.ListN.{length, get_or, take, drop, length-take}
-use lib.Seq.{drop-length}
+use lib.ListN.{length, get_or, take, drop, length-append, length-take}
+use Rattle.std.proofs.Common.{append_assoc, lit<}
+use Rattle.std.proofs.lemmas.List.{append-nil, length_push}
 use borrow.Author.Tests.{eqb-true, eq-eqb, ne_eqb, le-leb, lt-leb}
 use Rattle.laws.specs.Tests.{◌and◌, ◌⇒◌, isnt, every, first, count, found, or_else}
 use Rattle.laws.specs.Digits.{number}
 use Rattle.laws.specs.TestLaws.{first_least, first_only, first_skip, count_skip, count_more, every_skip, every_at, fails, implied, implies}
 use Rattle.laws.specs.Lists.{choose_yes, choose_no}
-use Rattle.laws.specs.Slices.{below_or, drop_at}
-use Rattle.laws.specs.Chain.{Chained, Blind, Left, left_start, left_step, link_le}
+use Rattle.laws.specs.Chain.{Chained, Blind, Left, latest, left_at, left_start, link_le}
 use Rattle.rules.specs.Text.{Bytes, same, between, all_bytes, word_byte, is_word}
 use Rattle.rules.specs.Graph.{Program, name_at, source_at, word_at, proc_count, node_count, edge_count, dash, star, leaves, edge_taken, edge_with, degree}
 use Rattle.rules.specs.ProgramFile.{Listing}
@@ -25,7 +25,7 @@ use Rattle.rules.proofs.GraphLaws.{leaves_true, leaves_of}
 use Rattle.graph.specs.Table.{proc_base, edge_base, head_base}
 use Rattle.graph.specs.Keys.{word_key, key_spells, same_keys, star_key, star_word}
 use Rattle.graph.specs.Lookups.{in_table, Procs, Edges, ProcNamed, EdgeTaken, EdgeWith, Degree, Dashed}
-use Rattle.graph.specs.Reads.{part_at, up_to, past, part_past}
+use Rattle.graph.specs.Reads.{part_at, up_to, up_to_le, past, part_past}
 
 -- ---- `part_at`, `spells`, `name_is`
 
@@ -45,18 +45,14 @@ module _ (text links bytes : List ℕ) (i : ℕ) (t : Bool) where
   pub name_past : length links ≤ i → t ≡ same (part_at text links i) bytes → t ≡ same (part_at text links (proc_base i)) bytes
   name_past h e = e ∙ ap (λ (w : List ℕ). same w bytes) (part_past text links i (proc_base i) h (omega arith))
 
--- ---- `head`, `before`, `word_key`
+-- ---- `head`, `edge_number`, `before`
 
 module _ (links : List ℕ) (e : ℕ) where
   pub head_past : length links ≤ e → 0 ≡ get_or links (head_base e) 0
   head_past h = sym (past links e (head_base e) h (omega arith))
 
-  pub key_past : length links ≤ e → 0 ≡ get_or links (edge_base e + 2) 0
-  key_past h = sym (past links e (edge_base e + 2) h (omega arith))
-
-  pub before_past : length links ≤ e → 0 ≡ up_to e (get_or links (edge_base e + 4) 0)
-  unfolding up_to
-  before_past h = rw (past links e (edge_base e + 4) h (omega arith)) (sym (choose_yes 0 0 (le-leb 0 e (omega arith))))
+  pub number_past : (k : ℕ) → length links ≤ e → 0 ≡ get_or links (edge_base e + k) 0
+  number_past k h = sym (past links e (edge_base e + k) h (omega arith))
 
   module _ (place : ℕ) (p : place ≡ get_or links (edge_base e + 4) 0) where
     pub before_in : place ≤ e → place ≡ up_to e (get_or links (edge_base e + 4) 0)
@@ -67,7 +63,7 @@ module _ (links : List ℕ) (e : ℕ) where
     unfolding up_to
     before_out h = rw (← p) (sym (choose_no place 0 (lt-leb place e h)))
 
-pub ruleset reads = (part_none, part_at_is, spells_is, name_past, head_past, key_past, before_past, before_in, before_out)
+pub ruleset reads = (part_none, part_at_is, spells_is, name_past, head_past, number_past, before_in, before_out)
 
 -- ---- what the links of a program hold
 
@@ -103,27 +99,24 @@ module _ (text : Bytes) (links : List ℕ) (c : ℕ) (name : Bytes) where
   unfolding Unnamed first
   named_start s h e = refl
 
-  module _ (q : ℕ) (inv : Unnamed text links c name q) where
-    pub named_none : c ≤ q → q ≤ c → ProcNamed text links c name 0
+  pub named_none : Unnamed text links c name c → ProcNamed text links c name 0
+  unfolding Unnamed ProcNamed
+  named_none inv s h e = sym (ap found (rw e at (inv s h e)))
+
+  module _ (q : ℕ) (inv : Unnamed text links c name q) (l : q < c) where
+    pub named_hit : same (part_at text links (proc_base q)) name ≡ true → ProcNamed text links c name (suc q)
     unfolding Unnamed ProcNamed
-    named_none a b s h e =
-        let x : q ≡ proc_count s.program = omega arith in
-        sym (ap found (rw x at (inv s h e)))
+    named_hit y s h e =
+        let x : q < proc_count s.program = omega arith in
+        let f : same (name_at s.program q) name ≡ true = ap (λ (w : Bytes). same w name) (sym (proc_name text links s h q x)) ∙ y in
+        sym (ap found (first_least (is_named s.program name) (proc_count s.program) q x f (inv s h e)))
 
-    module _ (t : Bool) (l : q < c) (is : t ≡ same (part_at text links (proc_base q)) name) where
-      pub named_hit : t ≡ true → ProcNamed text links c name (q + 1)
-      unfolding Unnamed ProcNamed
-      named_hit y s h e =
-          let x : q < proc_count s.program = omega arith in
-          let f : same (name_at s.program q) name ≡ true = ap (λ (w : Bytes). same w name) (sym (proc_name text links s h q x)) ∙ sym is ∙ y in
-          add-one q ∙ sym (ap found (first_least (is_named s.program name) (proc_count s.program) q x f (inv s h e)))
-
-      pub named_on : t ≡ false → Unnamed text links c name (q + 1)
-      unfolding Unnamed
-      named_on y s h e =
-          let x : q < proc_count s.program = omega arith in
-          let f : same (name_at s.program q) name ≡ false = ap (λ (w : Bytes). same w name) (sym (proc_name text links s h q x)) ∙ sym is ∙ y in
-          ap (λ (k : ℕ). first k (is_named s.program name)) (add-one q) ∙ first_skip (is_named s.program name) q f ∙ inv s h e
+    pub named_on : same (part_at text links (proc_base q)) name ≡ false → Unnamed text links c name (q + 1)
+    unfolding Unnamed
+    named_on y s h e =
+        let x : q < proc_count s.program = omega arith in
+        let f : same (name_at s.program q) name ≡ false = ap (λ (w : Bytes). same w name) (sym (proc_name text links s h q x)) ∙ y in
+        ap (λ (k : ℕ). first k (is_named s.program name)) (add-one q) ∙ first_skip (is_named s.program name) q f ∙ inv s h e
 
 pub ruleset names = (named_start, named_none, named_hit, named_on)
 
@@ -135,27 +128,28 @@ Rest links n all F place =
     (s : Listing) → Edges (in_table links) s → n < node_count s.program
     → Left (source_at s.program) n (edge_count s.program) (all s.program) (F s.program) place
 
-module _ {X : Type 0} (links : List ℕ) (n : ℕ) (all : Program → X) (F : Program → ℕ → X) (b : (p : Program) → Blind (source_at p) n (F p)) (r : ℕ) where
-  rest_start : ((p : Program) → all p ≡ F p (edge_count p)) → r ≡ get_or links (head_base n) 0 → Rest links n all F r
-  unfolding Rest
-  rest_start w e s h l = rw (e, w s.program) (left_start (chained links s h) n l (b s.program))
+owner_of : {X : Type 0} {key : ℕ → ℕ} {a c : ℕ} {all : X} {F : ℕ → X} (e : ℕ) → Left key a c all F (suc e) → key e ≡ a
+owner_of {key = key} e i = ap key (let d : e ≡ suc e - 1 = omega arith in d) ∙ i.owner (omega arith)
 
-  rest_on : (G : Program → ℕ → X) (place e : ℕ) → Rest links n all G place → 0 < place → e ≡ place - 1 → r ≡ up_to e (get_or links (edge_base e + 4) 0)
-      → ((s : Listing) → Edges (in_table links) s → e < edge_count s.program → source_at s.program e ≡ n → G s.program (suc e) ≡ F s.program e)
-      → Rest links n all F r
+module _ {X : Type 0} (links : List ℕ) (n : ℕ) (all : Program → X) (F : Program → ℕ → X) (b : (p : Program) → Blind (source_at p) n (F p)) where
+  rest_start : ((p : Program) → all p ≡ F p (edge_count p)) → Rest links n all F (get_or links (head_base n) 0)
   unfolding Rest
-  rest_on G place e inv pos d q f s h l =
+  rest_start w s h l = rw (w s.program) (left_start (chained links s h) n l (b s.program))
+
+  rest_on : (G : Program → ℕ → X) (e : ℕ) → Rest links n all G (suc e)
+      → ((s : Listing) → Edges (in_table links) s → e < edge_count s.program → source_at s.program e ≡ n → G s.program (suc e) ≡ F s.program e)
+      → Rest links n all F (up_to e (get_or links (edge_base e + 4) 0))
+  unfolding Rest
+  rest_on G e inv f s h l =
       let i = inv s h l in
       let k : e < edge_count s.program = omega (arith, i.within) in
-      let j : suc e ≡ place = omega arith in
-      let g : G s.program place ≡ F s.program (place - 1)
-      = ap (G s.program) (sym j) ∙ f s h k (ap (source_at s.program) d ∙ i.owner pos) ∙ ap (F s.program) d in
-      rw (q, before_is links s h e k, d) (left_step (chained links s h) i pos (b s.program) g)
+      let o : source_at s.program e ≡ n = owner_of e i in
+      rw (before_is links s h e k)
+      (left_at n e _ (b s.program) (omega arith) ((chained links s h).link e k ∙ ap (λ (x : ℕ). latest (source_at s.program) x e) o) (i.rest ∙ f s h k o))
 
 -- The walk goes down.
 pub before_less : (place e r x : ℕ) → 0 < place → e ≡ place - 1 → r ≡ up_to e x → r < place
-unfolding up_to
-before_less place e r x pos d q = below_or e x (λ l. omega (arith, q ∙ choose_no x 0 (lt-leb x e l))) (λ l. omega (arith, q ∙ choose_yes x 0 (le-leb x e l)))
+before_less place e r x pos d q = omega (arith, up_to_le e x)
 
 -- ---- `edge_with`, `edge_taken`
 
@@ -169,36 +163,31 @@ unfolding Blind
 with_blind n word p k e = first_skip (leaves p n word) k (fails _ (λ y. e (leaves_true p n word k y).0))
 
 module _ (links : List ℕ) (n key : ℕ) where
-  pub with_start : (place : ℕ) → place ≡ get_or links (head_base n) 0 → WithBelow links n key place
+  pub with_start : WithBelow links n key (get_or links (head_base n) 0)
   unfolding WithBelow edge_with
-  with_start place e word v ek = rest_start links n _ _ (with_blind n word) place (λ p. refl) e
+  with_start word v ek = rest_start links n _ _ (with_blind n word) (λ p. refl)
 
-  module _ (place : ℕ) (inv : WithBelow links n key place) where
-    pub with_none : place ≤ 0 → EdgeWith links n key 0
-    unfolding WithBelow Rest EdgeWith first
-    with_none z s word h l v ek =
-        let q : place ≡ 0 = omega arith in
-        sym (ap found ((inv word v ek s h l).rest ∙ ap (λ (k : ℕ). first k (leaves s.program n word)) q))
+  pub with_none : WithBelow links n key 0 → EdgeWith links n key 0
+  unfolding WithBelow Rest EdgeWith first
+  with_none inv s word h l v ek = sym (ap found (inv word v ek s h l).rest)
 
-    module _ (e x : ℕ) (pos : 0 < place) (d : e ≡ place - 1) (is : x ≡ get_or links (edge_base e + 2) 0) where
-      pub with_hit : x ≡ key → EdgeWith links n key place
-      unfolding WithBelow Rest EdgeWith edge_with
-      with_hit y s word h l v ek =
-          let i = inv word v ek s h l in
-          let k : e < edge_count s.program = omega (arith, i.within) in
-          let a : source_at s.program e ≡ n = ap (source_at s.program) d ∙ i.owner pos in
-          let w : word_at s.program e ≡ word = key_spells _ _ (h.words e k) v (sym (edge_key links s h e k) ∙ sym is ∙ y ∙ ek) in
-          let o = first_only (leaves s.program n word) (edge_count s.program) e k (leaves_of s.program n word e a w)
-          (λ f m t. let g = leaves_true s.program n word f t in h.once e f k m (g.0 ∙ sym a) (g.1 ∙ sym w)) in
-          let q : place ≡ suc e = omega arith in
-          q ∙ sym (ap found o)
+  module _ (e : ℕ) (inv : WithBelow links n key (suc e)) where
+    pub with_hit : get_or links (edge_base e + 2) 0 ≡ key → EdgeWith links n key (suc e)
+    unfolding WithBelow Rest EdgeWith edge_with
+    with_hit y s word h l v ek =
+        let i = inv word v ek s h l in
+        let k : e < edge_count s.program = omega (arith, i.within) in
+        let a : source_at s.program e ≡ n = owner_of e i in
+        let w : word_at s.program e ≡ word = key_spells _ _ (h.words e k) v (sym (edge_key links s h e k) ∙ y ∙ ek) in
+        sym (ap found (first_only (leaves s.program n word) (edge_count s.program) e k (leaves_of s.program n word e a w)
+        (λ f m t. let g = leaves_true s.program n word f t in h.once e f k m (g.0 ∙ sym a) (g.1 ∙ sym w))))
 
-      pub with_on : (r : ℕ) → (x ≡ key → ⊥) → r ≡ up_to e (get_or links (edge_base e + 4) 0) → WithBelow links n key r
-      unfolding WithBelow
-      with_on r y q word v ek =
-          rest_on links n _ _ (with_blind n word) r _ place e (inv word v ek) pos d q
-          (λ s h k a. first_skip (leaves s.program n word) e
-          (fails _ (λ t. y (is ∙ edge_key links s h e k ∙ ap word_key (leaves_true s.program n word e t).1 ∙ sym ek))))
+    pub with_on : (get_or links (edge_base e + 2) 0 ≡ key → ⊥) → WithBelow links n key (up_to e (get_or links (edge_base e + 4) 0))
+    unfolding WithBelow
+    with_on y word v ek =
+        rest_on links n _ _ (with_blind n word) _ e (inv word v ek)
+        (λ s h k a. first_skip (leaves s.program n word) e
+        (fails _ (λ t. y (edge_key links s h e k ∙ ap word_key (leaves_true s.program n word e t).1 ∙ sym ek))))
 
 or_first : (o s : Option ℕ) → (found o ≡ 0 → ⊥) → found o ≡ found (or_else o s)
 unfolding or_else
@@ -220,7 +209,7 @@ module _ (links : List ℕ) (n key place : ℕ) (inv : EdgeWith links n key plac
   unfolding EdgeWith EdgeTaken edge_taken
   taken_else r z t s word h l v ek = t s star h l star_word (sym star_key) ∙ or_second (edge_with s.program n word) _ (sym (inv s word h l v ek) ∙ z)
 
-pub ruleset takes = (with_start, with_none, with_hit, with_on, taken_named, taken_else)
+pub ruleset takes = (with_start, with_none, with_hit, with_on, taken_named, taken_else, up_to_le)
 
 -- ---- `degree`
 
@@ -236,28 +225,20 @@ counted_blind : (n r : ℕ) (p : Program) → Blind (source_at p) n (λ k. r + c
 unfolding Blind
 counted_blind n r p k e = ap (λ (x : ℕ). r + x) (count_skip (from p n) k (ne_eqb _ _ e))
 
-pub degree_start : (links : List ℕ) (n place : ℕ) → place ≡ get_or links (head_base n) 0 → Counted links n 0 place
+pub degree_start : (links : List ℕ) (n : ℕ) → Counted links n 0 (get_or links (head_base n) 0)
 unfolding Counted degree
-degree_start links n place e = rest_start links n _ _ (counted_blind n 0) place (λ p. sym (zero-add _)) e
+degree_start links n = rest_start links n _ _ (counted_blind n 0) (λ p. sym (zero-add _))
 
-module _ (links : List ℕ) (n r place : ℕ) (inv : Counted links n r place) where
-  pub degree_on : (e x : ℕ) → 0 < place → e ≡ place - 1 → x ≡ up_to e (get_or links (edge_base e + 4) 0) → Counted links n (r + 1) x
+module _ (links : List ℕ) (n r : ℕ) where
+  pub degree_on : (e : ℕ) → Counted links n r (suc e) → Counted links n (r + 1) (up_to e (get_or links (edge_base e + 4) 0))
   unfolding Counted
-  degree_on e x pos d q =
-      rest_on links n _ _ (counted_blind n (r + 1)) x _ place e inv pos d q
-      (λ s h k a. omega (arith, count_more (from s.program n) e (eq-eqb _ _ a)))
+  degree_on e inv = rest_on links n _ _ (counted_blind n (r + 1)) _ e inv (λ s h k a. omega (arith, count_more (from s.program n) e (eq-eqb _ _ a)))
 
-  pub degree_end : place ≤ 0 → Degree links n r
+  pub degree_end : Counted links n r 0 → Degree links n r
   unfolding Counted Rest Degree count
-  degree_end z s h l =
-      let q : place ≡ 0 = omega arith in
-      sym ((inv s h l).rest ∙ ap (λ (k : ℕ). r + count k (from s.program n)) q ∙ add-zero r)
+  degree_end inv s h l = sym ((inv s h l).rest ∙ add-zero r)
 
--- The count and the place stay within the head.
-pub degree_room : (r place top e x y : ℕ) → r + place ≤ top → 0 < place → e ≡ place - 1 → x ≡ up_to e y → r + 1 + x ≤ top
-degree_room r place top e x y h pos d q = omega (arith, before_less place e x y pos d q)
-
-pub ruleset degrees = (degree_start, degree_on, degree_end, degree_room)
+pub ruleset degrees = (degree_start, degree_on, degree_end, up_to_le)
 
 -- ---- `dashed`
 
@@ -279,80 +260,64 @@ module _ (links : List ℕ) (n : ℕ) where
   unfolding Blind
   dashed_blind p k e = every_skip (dash_of p n) k (implies _ _ (λ y. absurd (e (eqb-true _ _ y))))
 
-  pub dashed_start : (place : ℕ) → place ≡ get_or links (head_base n) 0 → DashedBelow links n place
+  pub dashed_start : DashedBelow links n (get_or links (head_base n) 0)
   unfolding DashedBelow
-  dashed_start place e = rest_start links n _ _ dashed_blind place (λ p. refl) e
+  dashed_start = rest_start links n _ _ dashed_blind (λ p. refl)
 
-  module _ (place : ℕ) (inv : DashedBelow links n place) where
-    pub dashed_all : place ≤ 0 → Dashed links n true
-    unfolding DashedBelow Rest Dashed every
-    dashed_all z s h l =
-        let q : place ≡ 0 = omega arith in
-        sym ((inv s h l).rest ∙ ap (λ (k : ℕ). every k (dash_of s.program n)) q)
+  pub dashed_all : DashedBelow links n 0 → Dashed links n true
+  unfolding DashedBelow Rest Dashed every
+  dashed_all inv s h l = sym (inv s h l).rest
 
-    module _ (e x : ℕ) (pos : 0 < place) (d : e ≡ place - 1) (is : x ≡ get_or links (edge_base e + 2) 0) where
-      dash_is : (s : Listing) → Edges (in_table links) s → e < edge_count s.program → same (word_at s.program e) dash ≡ eqb x 45
-      dash_is s h k = dash_key _ (h.words e k) ∙ ap (λ (m : ℕ). eqb m 45) (sym (is ∙ edge_key links s h e k))
+  module _ (e : ℕ) (inv : DashedBelow links n (suc e)) where
+    dash_is : (s : Listing) → Edges (in_table links) s → e < edge_count s.program → same (word_at s.program e) dash ≡ eqb (get_or links (edge_base e + 2) 0) 45
+    dash_is s h k = dash_key _ (h.words e k) ∙ ap (λ (m : ℕ). eqb m 45) (sym (edge_key links s h e k))
 
-      pub dashed_not : (x ≡ 45 → ⊥) → Dashed links n false
-      unfolding DashedBelow Rest Dashed
-      dashed_not y s h l =
-          let i = inv s h l in
-          let k : e < edge_count s.program = omega (arith, i.within) in
-          let a : source_at s.program e ≡ n = ap (source_at s.program) d ∙ i.owner pos in
-          sym (fails _ (λ t. y (eqb-true _ _ (sym (dash_is s h k) ∙ implied _ _ (every_at (dash_of s.program n) (edge_count s.program) t e k) (eq-eqb _ _ a)))))
+    pub dashed_not : (get_or links (edge_base e + 2) 0 ≡ 45 → ⊥) → Dashed links n false
+    unfolding DashedBelow Rest Dashed
+    dashed_not y s h l =
+        let i = inv s h l in
+        let k : e < edge_count s.program = omega (arith, i.within) in
+        sym (fails _ (λ t. y (eqb-true _ _ (sym (dash_is s h k) ∙ implied _ _ (every_at (dash_of s.program n) (edge_count s.program) t e k) (eq-eqb _ _ (owner_of e i))))))
 
-      pub dashed_on : (r : ℕ) → x ≡ 45 → r ≡ up_to e (get_or links (edge_base e + 4) 0) → DashedBelow links n r
-      unfolding DashedBelow
-      dashed_on r y q =
-          rest_on links n _ _ dashed_blind r _ place e inv pos d q
-          (λ s h k a. every_skip (dash_of s.program n) e (implies _ _ (λ t. dash_is s h k ∙ eq-eqb _ _ y)))
+    pub dashed_on : get_or links (edge_base e + 2) 0 ≡ 45 → DashedBelow links n (up_to e (get_or links (edge_base e + 4) 0))
+    unfolding DashedBelow
+    dashed_on y =
+        rest_on links n _ _ dashed_blind _ e inv
+        (λ s h k a. every_skip (dash_of s.program n) e (implies _ _ (λ t. dash_is s h k ∙ eq-eqb _ _ y)))
 
-pub ruleset dashes = (dashed_start, dashed_all, dashed_not, dashed_on)
+pub ruleset dashes = (dashed_start, dashed_all, dashed_not, dashed_on, up_to_le)
 
 -- ---- `key`
 
--- Of at most 8 bytes, those from j on have the key k.
-pub record KeyFrom (s : Bytes) (j k : ℕ) : Type 0 where
-  pub few : length s ≤ 8
-  pub inside : j ≤ length s
-  pub is : k ≡ word_key (drop j s)
-  pub small : k < 256 ^ (length s - j)
+-- The first 8 bytes of the word from behind: `left` are not read yet, and those behind have the key k, which has room for one more.
+pub record KeyBehind (word left : Bytes) (k : ℕ) : Type 0 where
+  pub behind : Bytes
+  pub parts : left ++ behind ≡ take 8 word
+  pub is : k ≡ word_key behind
+  pub small : k < 256 ^ length behind
+  pub room : 0 < length left → k < 256 ^ 7
 
-pub key_start : (s word : Bytes) → s ≡ take 8 word → KeyFrom s (length s) 0
+pub key_start : (word s : Bytes) → s ≡ take 8 word → KeyBehind word s 0
 unfolding number
-key_start s word e =
-    let z : length s - length s ≡ 0 = omega arith in
-    record { few = omega (arith, ap length e, length-take 8 word); inside = omega arith; is = sym (ap word_key (drop-length s)); small = rw z (omega arith) }
+key_start word s e = record { behind = []; parts = append-nil s ∙ e; is = refl; small = lit< tt; room = λ _. lit< tt }
 
-module _ (s : Bytes) (j k : ℕ) (h : KeyFrom s j k) (pos : 0 < j) where
-  seven : k < 256 ^ 7
-  seven = omega (arith, h.small, pow-le-pow_right {n = 256} (omega arith) {i = length s - j} {j = 7} (omega (arith, h.few, h.inside)))
+pub key_on : (word left : Bytes) (b k : ℕ) → KeyBehind word (left ++ b ∷ []) k → b < 256 → KeyBehind word left (k * 256 + b)
+unfolding number
+key_on word left b k h l =
+    let fit : k * 256 + b < 256 ^ length (b ∷ h.behind) = rw (pow-suc 256 (length h.behind)) (omega (arith, h.small)) in
+    let parts : left ++ (b ∷ h.behind) ≡ take 8 word = sym (append_assoc left (b ∷ []) h.behind) ∙ h.parts in
+    record {
+      behind = b ∷ h.behind;
+      parts = parts;
+      is = ap (λ (x : ℕ). x * 256 + b) h.is;
+      small = fit;
+      room = λ r.
+          let short : length (b ∷ h.behind) ≤ 7 = omega (arith, ap length parts, length-append left (b ∷ h.behind), length-take 8 word) in
+          omega (arith, fit, pow-le-pow_right {n = 256} (omega arith) {i = length (b ∷ h.behind)} {j = 7} short);
+    }
 
-  pub key_room : k * 256 < 2 ^ 64
-  key_room = omega (arith, seven)
+pub key_end : (word left : Bytes) (k : ℕ) → KeyBehind word left k → length left ≡ 0 → k ≡ word_key (take 8 word)
+key_end word [] k h z = h.is ∙ ap word_key h.parts
+key_end word (b ∷ left) k h z = absurd (let y : ⊥ = omega arith in y)
 
-  pub key_fit : (d : ℕ) → d < 256 → k * 256 + d < 2 ^ 64
-  key_fit d l = omega (arith, seven)
-
-  pub key_on : (i d : ℕ) → i ≡ j - 1 → d ≡ get_or s i 0 → d < 256 → KeyFrom s i (k * 256 + d)
-  unfolding number
-  key_on i d ei ed l =
-      let m : length s - i ≡ suc (length s - j) = omega (arith, h.inside) in
-      let n : i + 1 ≡ j = omega arith in
-      let t : drop i s ≡ get_or s i 0 ∷ drop j s = drop_at s i 0 (omega (arith, h.inside)) ∙ ap (λ (x : ℕ). get_or s i 0 ∷ drop x s) n in
-      record {
-        few = h.few;
-        inside = omega (arith, h.inside);
-        is = (let z : k * 256 + d ≡ word_key (drop j s) * 256 + get_or s i 0 = omega (arith, h.is) in z) ∙ sym (ap word_key t);
-        small = rw (m, pow-suc 256 (length s - j)) (omega (arith, h.small));
-      }
-
-pub key_end : (s word : Bytes) (j k : ℕ) → KeyFrom s j k → j ≤ 0 → s ≡ take 8 word → k ≡ word_key (take 8 word)
-key_end s word j k h z e =
-    let q : j ≡ 0 = omega arith in
-    h.is ∙ ap (λ (x : ℕ). word_key (drop x s)) q ∙ ap word_key e
-
-pub ruleset keys = (key_start, key_room, key_fit, key_on, key_end)
-
-pub ruleset all = (reads, names, before_less, takes, degrees, dashes, keys)
+pub ruleset keys = (key_start, key_on, key_end, length_push)

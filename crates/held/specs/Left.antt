@@ -1,39 +1,35 @@
 -- What is held, as the functions tell it.
-use Rattle.std.specs.Prelude.{◌≡◌, refl}
-use Rattle.std.proofs.Math.Option.{Option, none, some}
-use Rattle.std.proofs.Common.{arith}
+use Rattle.std.specs.Prelude.{◌≡◌, refl, ℕ, Option, None, Some}
+use Rattle.std.proofs.Math.Option.{Option as Maybe, none, some}
+use Rattle.std.proofs.lemmas.Option.{same_Some}
+use Rattle.std.proofs.Common.{subst, sym}
 use Rattle.rules.specs.Kept.{Sound}
 use Rattle.rules.specs.ProgramFile.{Listing}
 use Rattle.rules.specs.SuiteFile.{TestListing, test_count}
-use Rattle.reader.specs.declared.Count.{Count}
-use Rattle.suite.specs.declared.Read.{Read}
-use Rattle.reader.specs.Result.{Small}
+use Rattle.reader.specs.Result.{Small, counts_of}
+use Rattle.reader.specs.declared.Counts.{Counts}
 use Rattle.lent_job.specs.Held.{Lent, counted, version_left}
 use Rattle.lent_job.proofs.HeldLaws.{version_sound}
 
--- `version_left`: 0 with the counts, or 14. What its work table holds afterwards is left open.
-unfoldable pub count_left : Option Listing → Count
-count_left none = record { number = 14; place = 0; procs = 0; nodes = 0; edges = 0 }
-count_left (some s) = counted s
+-- `version_left`: the counts of what the tables hold. What its work table holds afterwards is left open.
+unfoldable pub count_left : Maybe Listing → Option Counts
+count_left none = None
+count_left (some s) = Some (counted s)
 
--- `suite_left`: 0 with the count, or 14. What its two work tables hold afterwards is left open.
-unfoldable pub read_left : Option TestListing → Read
-read_left none = record { number = 14; place = 0; count = 0 }
-read_left (some l) = record { number = 0; place = 0; count = test_count l.suite }
+-- `suite_left`: how many tests the tables hold. What its two work tables hold afterwards is left open.
+unfoldable pub read_left : Maybe TestListing → Option ℕ
+read_left none = None
+read_left (some l) = Some (test_count l.suite)
 
 -- ---- the counts that are answered are within their limits
 
-count_none : Small (count_left none)
-unfolding count_left
-count_none = record { few_procs = omega arith; few_nodes = omega arith; few_edges = omega arith }
+counted_small : (s : Listing) → Sound s.program → Small (counts_of (counted s))
+counted_small s h = record { few_procs = h.few_procs; few_nodes = h.few_nodes; few_edges = h.few_edges }
 
-count_some : (s : Listing) → Sound s.program → Small (count_left (some s))
+pub count_small : (v : Lent) (c : Counts) → Some c ≡ count_left (version_left v) → Small (counts_of c)
 unfolding count_left
-count_some s h = record { few_procs = h.few_procs; few_nodes = h.few_nodes; few_edges = h.few_edges }
-
-pub count_small : (v : Lent) → Small (count_left (version_left v))
-count_small v = go (version_left v) refl
+count_small v c q = go (version_left v) refl q
   where
-    go : (x : Option Listing) → version_left v ≡ x → Small (count_left x)
-    go none e = count_none
-    go (some s) e = count_some s (version_sound v s e)
+    go : (x : Maybe Listing) → version_left v ≡ x → Some c ≡ count_left x → Small (counts_of c)
+    go none e q = cc
+    go (some s) e q = subst (λ (k : Counts). Small (counts_of k)) (sym (same_Some c (counted s) q)) (counted_small s (version_sound v s e))

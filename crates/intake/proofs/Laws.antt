@@ -1,7 +1,7 @@
 -- The returns of `read_job`.
 use mathlib.Core.Path.{◌≡◌, refl, sym, ap, ◌∙◌, subst}
 use mathlib.Core.List.{List}
-use Prim.Native.Nat.{ℕ, ◌<◌}
+use Prim.Native.Nat.{ℕ}
 use native.Mathlib.Omega.{arith}
 use Rattle.rules.specs.Text.{Bytes, Reading, accepted, refused, then}
 use Rattle.rules.specs.Graph.{edge_count}
@@ -9,14 +9,21 @@ use Rattle.rules.specs.ProgramFile.{Listing, read_listing, read_program}
 use Rattle.rules.specs.SuiteFile.{read_suite, read_tests}
 use Rattle.rules.specs.Job.{Given, read_job}
 use Rattle.rules.proofs.TextLaws.{then_passes}
-use Rattle.reader.specs.declared.Count.{Count}
-use Rattle.reader.specs.Result.{InTable, ReadInto, Told}
-use Rattle.suite.specs.declared.Read.{Read}
+use Rattle.std.specs.Prelude.{Result, Ok, Err}
+use Rattle.answer.specs.declared.Refusal.{Refusal}
+use Rattle.answer.specs.Refusals.{fault_number, fault_some}
+use Rattle.reader.specs.declared.Counts.{Counts as Program}
+use Rattle.reader.specs.Result.{Count, counts_of, seen, InTable, ReadInto, Told, links_of}
+use Rattle.suite.specs.Reads.{read_of}
 use Rattle.suite.specs.Tables.{Holds}
 use Rattle.suite.specs.Reading.{Reads, TestsRead, accepted_of, refused_of}
-use Rattle.versions.specs.MemoryLaws.{in_memory}
+use Rattle.versions.specs.Memory.{InMemory, memory}
 use Rattle.intake.specs.declared.Counts.{Counts}
-use Rattle.intake.specs.Ready.{Few, JobRead, JobTold, refused_counts}
+use Rattle.intake.specs.Ready.{JobRead, JobTold, Ready}
+
+-- What reading a text leaves in a work table is a memory.
+in_memory : (text w : List ℕ) (c : Count) (s : Listing) → read_listing text ≡ accepted s → InTable w c s → InMemory (memory text w (links_of w)) s
+in_memory text w c s e t = record { read = e; nodes = t.nodes; procs = t.procs; edges = t.edges; heads = t.heads }
 
 -- A refusal behind what passed is the refusal of all.
 then_stops : {A B : Type 0} {a : Reading A} (f : A → Reading B) {k q : ℕ} → a ≡ refused k q → then a f ≡ refused k q
@@ -24,13 +31,19 @@ unfolding then
 then_stops f e = ap (λ x. then x f) e
 
 -- What the reader told of a program text.
-told_accepted : (x : Reading Listing) (r : Count) (w : List ℕ) → Told x r w → r.number ≡ 0 → (s : Listing) × (x ≡ accepted s) × InTable w r s
-told_accepted (refused k p) r w t z = absurd (let y : ⊥ = omega (arith, t.0, t.2) in y)
-told_accepted (accepted s) r w t z = (s, refl, t.2)
+told_accepted : (text w : List ℕ) (c : Program) → ReadInto text (seen (Ok c)) w → (s : Listing) × (read_listing text ≡ accepted s) × InTable w (counts_of c) s
+told_accepted text w c h = go (read_listing text) h.told
+  where
+    go : (x : Reading Listing) → Told x (counts_of c) w → (s : Listing) × (x ≡ accepted s) × InTable w (counts_of c) s
+    go (refused k p) t = absurd (let y : ⊥ = omega (arith, t.0, t.2) in y)
+    go (accepted s) t = (s, refl, t.2)
 
-told_refused : (x : Reading Listing) (r : Count) (w : List ℕ) → Told x r w → (r.number ≡ 0 → ⊥) → (x ≡ refused r.number r.place) × (0 < r.number)
-told_refused (refused k p) r w t z = (λ i. refused (sym t.0 i) (sym t.1 i), omega (arith, t.0, t.2))
-told_refused (accepted s) r w t z = absurd (z t.0)
+told_refused : (text w : List ℕ) (e : Refusal) → ReadInto text (seen (Err e)) w → read_listing text ≡ refused (fault_number e.fault) e.place
+told_refused text w e h = go (read_listing text) h.told
+  where
+    go : (x : Reading Listing) → Told x (seen (Err e)) w → x ≡ refused (fault_number e.fault) e.place
+    go (refused k p) t = λ i. refused (sym t.0 i) (sym t.1 i)
+    go (accepted s) t = absurd (let y : ⊥ = omega (arith, t.0, fault_some e.fault) in y)
 
 pub program_of : (text : Bytes) (s : Listing) → read_listing text ≡ accepted s → read_program text ≡ accepted s.program
 unfolding read_program
@@ -40,83 +53,95 @@ pub program_refused : (text : Bytes) (k q : ℕ) → read_listing text ≡ refus
 unfolding read_program
 program_refused text k q e = then_stops (λ (x : Listing). accepted x.program) e
 
-pub few_none : (k q : ℕ) → Few (refused_counts k q)
-few_none k q = record { few_old_nodes = omega arith; few_old_edges = omega arith; few_new_nodes = omega arith; few_new_edges = omega arith; few_tests = omega arith }
-
 module _ (old ow new nw tt tests rows : List ℕ) where
-  refuse : (k q : ℕ) (r : Counts) → r ≡ refused_counts k q → read_job old new tt ≡ refused k q → 0 < k → JobRead old ow new nw tt tests rows r
-  refuse k q r is e h =
-      subst (JobRead old ow new nw tt tests rows) (sym is)
-      (record {
-        told = subst (λ (x : Reading Given). JobTold x old ow new nw tt tests rows (refused_counts k q)) (sym e) (refl, refl, h);
-        few = few_none k q;
-      })
+  refuse : (e : Refusal) → read_job old new tt ≡ refused (fault_number e.fault) e.place → JobRead old ow new nw tt tests rows (Err e)
+  refuse e is = record { told = subst (λ (x : Reading Given). JobTold x old ow new nw tt tests rows (Err e)) (sym is) (refl, refl, fault_some e.fault); few = record {} }
 
   -- The old program is refused.
-  pub stop_old : (o : Count) → ReadInto old o ow → (o.number ≡ 0 → ⊥) → (r : Counts) → r ≡ refused_counts o.number o.place → JobRead old ow new nw tt tests rows r
+  pub stop_old : (e : Refusal) → ReadInto old (seen (Err e)) ow → JobRead old ow new nw tt tests rows (Err e)
   unfolding read_job
-  stop_old o h z r is =
-      let t = told_refused (read_listing old) o ow h.told z in
-      refuse o.number o.place r is (then_stops _ (program_refused old o.number o.place t.0)) t.1
+  stop_old e h = refuse e (then_stops _ (program_refused old (fault_number e.fault) e.place (told_refused old ow e h)))
 
-  -- The new program is.
-  pub stop_new : (o p : Count) → ReadInto old o ow → o.number ≡ 0 → ReadInto new p nw → (p.number ≡ 0 → ⊥) → (r : Counts) → r ≡ refused_counts p.number p.place → JobRead old ow new nw tt tests rows r
-  unfolding read_job
-  stop_new o p h z h' z' r is =
-      let s = told_accepted (read_listing old) o ow h.told z in
-      let t = told_refused (read_listing new) p nw h'.told z' in
-      refuse p.number p.place r is (then_passes _ (program_of old s.0 s.1) ∙ then_stops _ (program_refused new p.number p.place t.0)) t.1
+  module _ (o : Program) (h : ReadInto old (seen (Ok o)) ow) where
+    s : (s : Listing) × (read_listing old ≡ accepted s) × InTable ow (counts_of o) s
+    s = told_accepted old ow o h
 
-  -- The tests are.
-  pub stop_tests : (o p : Count) (t : Read) → ReadInto old o ow → o.number ≡ 0 → ReadInto new p nw → p.number ≡ 0 → TestsRead o.edges tt t tests rows → (t.number ≡ 0 → ⊥)
-      → (r : Counts) → r ≡ refused_counts t.number t.place → JobRead old ow new nw tt tests rows r
-  unfolding read_job read_suite Reads
-  stop_tests o p t h z h' z' u y r is =
-      let s = told_accepted (read_listing old) o ow h.told z in
-      let s' = told_accepted (read_listing new) p nw h'.told z' in
-      let a = refused_of o.edges (read_tests o.edges tt) t tests rows u.reads y in
-      let e : read_tests (edge_count s.0.program) tt ≡ refused t.number t.place = ap (λ (m : ℕ). read_tests m tt) (sym s.2.edges_n) ∙ a.0 in
-      refuse t.number t.place r is (then_passes _ (program_of old s.0 s.1) ∙ then_passes _ (program_of new s'.0 s'.1) ∙ then_stops _ (then_stops _ e)) a.1
+    -- The new program is.
+    pub stop_new : (e : Refusal) → ReadInto new (seen (Err e)) nw → JobRead old ow new nw tt tests rows (Err e)
+    unfolding read_job
+    stop_new e h' =
+        refuse e (then_passes _ (program_of old s.0 s.1) ∙ then_stops _ (program_refused new (fault_number e.fault) e.place (told_refused new nw e h')))
 
-  -- All are accepted.
-  pub all_read : (o p : Count) (t : Read) → ReadInto old o ow → o.number ≡ 0 → ReadInto new p nw → p.number ≡ 0 → TestsRead o.edges tt t tests rows → t.number ≡ 0
-      → JobRead old ow new nw tt tests rows
-      (record { number = 0; place = 0; old_nodes = o.nodes; old_edges = o.edges; new_nodes = p.nodes; new_edges = p.edges; tests = t.count })
-  unfolding read_job read_suite Reads
-  all_read o p t h z h' z' u y =
-      let s = told_accepted (read_listing old) o ow h.told z in
-      let s' = told_accepted (read_listing new) p nw h'.told z' in
-      let r = accepted_of o.edges (read_tests o.edges tt) t tests rows u.reads y in
-      let e : read_tests (edge_count s.0.program) tt ≡ accepted r.0 = ap (λ (m : ℕ). read_tests m tt) (sym s.2.edges_n) ∙ r.1 in
-      let c : Counts = record { number = 0; place = 0; old_nodes = o.nodes; old_edges = o.edges; new_nodes = p.nodes; new_edges = p.edges; tests = t.count } in
-      let g : Given = record { old = s.0.program; new = s'.0.program; suite = r.0.suite } in
-      let a : read_job old new tt ≡ accepted g = then_passes _ (program_of old s.0 s.1) ∙ then_passes _ (program_of new s'.0 s'.1) ∙ then_passes _ (then_passes _ e) in
-      record {
-        told = subst (λ (x : Reading Given). JobTold x old ow new nw tt tests rows c) (sym a) (
-          refl,
-          refl,
+    module _ (p : Program) (h' : ReadInto new (seen (Ok p)) nw) where
+      s' : (s : Listing) × (read_listing new ≡ accepted s) × InTable nw (counts_of p) s
+      s' = told_accepted new nw p h'
+
+      tests_by : read_tests (edge_count s.0.program) tt ≡ read_tests o.edges tt
+      tests_by = ap (λ (m : ℕ). read_tests m tt) (sym s.2.edges_n)
+
+      -- The tests are.
+      pub stop_tests : (e : Refusal) → TestsRead o.edges tt (read_of (Err e)) tests rows → JobRead old ow new nw tt tests rows (Err e)
+      unfolding read_job read_suite Reads
+      stop_tests e u =
+          let a = refused_of o.edges (read_tests o.edges tt) (read_of (Err e)) tests rows u.reads (λ (y : fault_number e.fault ≡ 0). let z : ⊥ = omega (arith, fault_some e.fault) in z) in
+          refuse e (then_passes _ (program_of old s.0 s.1) ∙ then_passes _ (program_of new s'.0 s'.1) ∙ then_stops _ (then_stops _ (tests_by ∙ a.0)))
+
+      -- All are accepted.
+      pub all_read : (n : ℕ) → TestsRead o.edges tt (read_of (Ok n)) tests rows
+          → JobRead old ow new nw tt tests rows (Ok (record { old_nodes = o.nodes; old_edges = o.edges; new_nodes = p.nodes; new_edges = p.edges; tests = n }))
+      unfolding read_job read_suite Reads
+      all_read n u =
+          let r = accepted_of o.edges (read_tests o.edges tt) (read_of (Ok n)) tests rows u.reads refl in
+          let e : read_tests (edge_count s.0.program) tt ≡ accepted r.0 = tests_by ∙ r.1 in
+          let c : Counts = record { old_nodes = o.nodes; old_edges = o.edges; new_nodes = p.nodes; new_edges = p.edges; tests = n } in
+          let g : Given = record { old = s.0.program; new = s'.0.program; suite = r.0.suite } in
+          let a : read_job old new tt ≡ accepted g = then_passes _ (program_of old s.0 s.1) ∙ then_passes _ (program_of new s'.0 s'.1) ∙ then_passes _ (then_passes _ e) in
           record {
-            o = s.0;
-            p = s'.0;
-            l = r.0;
-            old_in = in_memory old ow o s.0 s.1 s.2;
-            new_in = in_memory new nw p s'.0 s'.1 s'.2;
-            tests_read = e;
-            tests_in = subst (λ (m : ℕ). Holds m tests rows t.count r.0) s.2.edges_n r.2;
-            given_is = refl;
-            old_nodes_n = s.2.nodes_n;
-            old_edges_n = s.2.edges_n;
-            new_nodes_n = s'.2.nodes_n;
-            new_edges_n = s'.2.edges_n;
-          },
-        );
-        few = record {
-          few_old_nodes = h.small.few_nodes;
-          few_old_edges = h.small.few_edges;
-          few_new_nodes = h'.small.few_nodes;
-          few_new_edges = h'.small.few_edges;
-          few_tests = u.few;
-        };
-      }
+            told = subst (λ (x : Reading Given). JobTold x old ow new nw tt tests rows (Ok c)) (sym a) (
+              c,
+              refl,
+              record {
+                o = s.0;
+                p = s'.0;
+                l = r.0;
+                old_in = in_memory old ow (counts_of o) s.0 s.1 s.2;
+                new_in = in_memory new nw (counts_of p) s'.0 s'.1 s'.2;
+                tests_read = e;
+                tests_in = subst (λ (m : ℕ). Holds m tests rows n r.0) s.2.edges_n r.2;
+                given_is = refl;
+                old_nodes_n = s.2.nodes_n;
+                old_edges_n = s.2.edges_n;
+                new_nodes_n = s'.2.nodes_n;
+                new_edges_n = s'.2.edges_n;
+              },
+            );
+            few = record {
+              few_old_nodes = h.small.few_nodes;
+              few_old_edges = h.small.few_edges;
+              few_new_nodes = h'.small.few_nodes;
+              few_new_edges = h'.small.few_edges;
+              few_tests = u.few;
+            };
+          }
 
 pub ruleset all = (stop_old, stop_new, stop_tests, all_read)
+
+-- ---- what a caller has of an answer
+
+module _ (old ow new nw tt tests rows : List ℕ) where
+  pub job_stops : (e : Refusal) → JobRead old ow new nw tt tests rows (Err e) → read_job old new tt ≡ refused (fault_number e.fault) e.place
+  job_stops e j = go (read_job old new tt) j.told
+    where
+      go : (x : Reading Given) → JobTold x old ow new nw tt tests rows (Err e) → x ≡ refused (fault_number e.fault) e.place
+      go (refused k q) t = λ i. refused (sym t.0 i) (sym t.1 i)
+      go (accepted g) t = absurd (let z : ◌≡◌ {A = Result Counts Refusal} (Err e) (Ok t.0) = t.1 in cc)
+
+  pub job_goes : (c : Counts) → JobRead old ow new nw tt tests rows (Ok c)
+      → (g : Given) × (read_job old new tt ≡ accepted g) × Ready (memory old ow (links_of ow)) (memory new nw (links_of nw)) tt tests rows c g
+  job_goes c j = go (read_job old new tt) j.told
+    where
+      go : (x : Reading Given) → JobTold x old ow new nw tt tests rows (Ok c) → (g : Given) × (x ≡ accepted g) × Ready (memory old ow (links_of ow)) (memory new nw (links_of nw)) tt tests rows c g
+      go (refused k q) t = absurd (let z : ⊥ = omega (arith, t.0, t.2) in z)
+      go (accepted g) t =
+          let same_counts : t.0 ≡ c = let z : ◌≡◌ {A = Result Counts Refusal} (Ok c) (Ok t.0) = t.1 in cc in
+          (g, refl, subst (λ (d : Counts). Ready (memory old ow (links_of ow)) (memory new nw (links_of nw)) tt tests rows d g) same_counts t.2)

@@ -1,10 +1,12 @@
 -- What the memory of a job holds once its three texts were read, and what reading them answers.
-use Rattle.std.specs.Prelude.{◌≡◌, List, ℕ, ◌≤◌, ◌<◌}
+use Rattle.std.specs.Prelude.{◌≡◌, List, ℕ, ◌≤◌, ◌<◌, Result, Ok, IfOk}
 use Rattle.rules.specs.Text.{Bytes, Reading, refused, accepted}
 use Rattle.rules.specs.Graph.{edge_count, node_count}
 use Rattle.rules.specs.ProgramFile.{Listing}
 use Rattle.rules.specs.SuiteFile.{TestListing, read_tests}
 use Rattle.rules.specs.Job.{Given, given_of, read_job}
+use Rattle.answer.specs.declared.Refusal.{Refusal}
+use Rattle.answer.specs.Refusals.{number_in, place_in}
 use Rattle.reader.specs.Result.{links_of}
 use Rattle.suite.specs.Tables.{Holds}
 use Rattle.versions.specs.Memory.{InMemory, Memory, memory}
@@ -33,17 +35,12 @@ pub record Few (c : Counts) : Type 0 where
   pub few_new_edges : c.new_edges ≤ 1024
   pub few_tests : c.tests ≤ 200
 
--- `refused`: the refusal k at the place q.
-abbrev pub refused_counts : ℕ → ℕ → Counts
-refused_counts k q = record { number = k; place = q; old_nodes = 0; old_edges = 0; new_nodes = 0; new_edges = 0; tests = 0 }
-
--- `read_job`: the answer is the definition's, and where the texts are accepted the tables hold what they give. After a refusal what the tables hold and the counts are left open,
+-- `read_job`: the answer is the definition's, and where the texts are accepted the tables hold what they give. After a refusal what the tables hold is left open,
 -- and what the tables hold beyond the counts of accepted texts always.
-abbrev pub JobTold : Reading Given → Bytes → List ℕ → Bytes → List ℕ → Bytes → List ℕ → List ℕ → Counts → Type 0
-JobTold (refused k q) old ow new nw tt tests rows r = (r.number ≡ k) × (r.place ≡ q) × (0 < k)
-JobTold (accepted g) old ow new nw tt tests rows r =
-    (r.number ≡ 0) × (r.place ≡ 0) × Ready (memory old ow (links_of ow)) (memory new nw (links_of nw)) tt tests rows r g
+abbrev pub JobTold : Reading Given → Bytes → List ℕ → Bytes → List ℕ → Bytes → List ℕ → List ℕ → Result Counts Refusal → Type 0
+JobTold (refused k q) old ow new nw tt tests rows r = (number_in r ≡ k) × (place_in r ≡ q) × (0 < k)
+JobTold (accepted g) old ow new nw tt tests rows r = (c : Counts) × (r ≡ Ok c) × Ready (memory old ow (links_of ow)) (memory new nw (links_of nw)) tt tests rows c g
 
-pub record JobRead (old ow new nw tt tests rows : List ℕ) (r : Counts) : Type 0 where
+pub record JobRead (old ow new nw tt tests rows : List ℕ) (r : Result Counts Refusal) : Type 0 where
   pub told : JobTold (read_job old new tt) old ow new nw tt tests rows r
-  pub few : Few r
+  pub few : IfOk r Few

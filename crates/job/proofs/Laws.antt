@@ -12,11 +12,15 @@ use Rattle.laws.specs.Tests.{◌and◌, after, choose}
 use Rattle.rules.specs.Text.{Bytes, Reading, refused, accepted}
 use Rattle.rules.specs.Graph.{proc_count, node_count, edge_count}
 use Rattle.rules.specs.ProgramFile.{Listing, read_listing}
-use Rattle.rules.specs.Job.{of_stage, outcome, call_old, stage_after}
+use Rattle.rules.specs.Job.{of_stage, outcome, call_old}
 use Rattle.rules.specs.Promises.{Plain}
 use Rattle.answer.specs.Outcomes.{packing, packs}
-use Rattle.reader.specs.declared.Count.{Count}
-use Rattle.reader.specs.Result.{Told, ReadInto}
+use Rattle.answer.specs.Refusals.{fault_number, fault_some}
+use Rattle.answer.specs.declared.Fault.{Fault}
+use Rattle.answer.specs.declared.Refusal.{Refusal}
+use Rattle.std.specs.Prelude.{Ok, Err}
+use Rattle.reader.specs.declared.Counts.{Counts}
+use Rattle.reader.specs.Result.{Count, Told, ReadInto, counts_of, seen}
 use Rattle.program.specs.Lent.{copied_links}
 use Rattle.program.proofs.Laws.{links_copied}
 use Rattle.records.specs.declared.Job.{Job}
@@ -24,11 +28,10 @@ use Rattle.records.specs.declared.Node.{Node}
 use Rattle.records.specs.Jobs.{fresh, same_job}
 use Rattle.records.specs.Nodes.{nodes_of}
 use Rattle.lent_job.specs.Held.{job_old}
-use Rattle.job.specs.declared.Taken.{Taken}
 use Rattle.lent_job.proofs.ReadLaws.{none_due, records_are, roomy_parts}
 use Rattle.lent_job.specs.ReadOld.{roomy, fresh_due, old_due, program_read, read_answer, records_read, links_read, old_job, ProgramLeftBy, ReadOld, past_due}
 use Rattle.lent_job.proofs.Answers.{old_plain}
-use Rattle.job.specs.Taken.{count_read, refused_taken, with_old, taken_of, TakenBy, OldTaken}
+use Rattle.job.specs.Taken.{Reply, reply, count_read, refused_reply, with_old, taken_of, TakenBy, OldTaken}
 
 -- ---- `long_enough`
 
@@ -56,6 +59,9 @@ pub due_chosen : {A : Type 0} (a : A) (u : Bool) → ◌≡◌ {A = ℕ} (choose
 unfolding choose
 due_chosen a true = refl
 due_chosen a false = refl
+
+pub fault_not : (f : Fault) → fault_number f ≡ 0 → ⊥
+fault_not f z = let y : ⊥ = omega (arith, fault_some f, z) in y
 
 -- ---- `fresh_due` and `old_due`
 
@@ -89,41 +95,36 @@ module _ (j : Job) (n l w : ℕ) where
 
 -- ---- `with_old`
 
-pub with_old_lem : (c : Count) (st p n e a b d t : ℕ) → st ≡ 1 → p ≡ c.procs → n ≡ c.nodes → e ≡ c.edges → a ≡ 0 → b ≡ 0 → d ≡ 0 → t ≡ 0
-    → record { stage = st; old_procs = p; old_nodes = n; old_edges = e; new_procs = a; new_nodes = b; new_edges = d; tests = t } ≡ with_old c
-unfolding with_old stage_after
-with_old_lem c st p n e a b d t h₀ h₁ h₂ h₃ h₄ h₅ h₆ h₇ = rw (h₀, h₁, h₂, h₃, h₄, h₅, h₆, h₇)
-
-job_counted : (j : Job) (s : Listing) (c : Count) → c.procs ≡ proc_count s.program → c.nodes ≡ node_count s.program → c.edges ≡ edge_count s.program → old_job j (accepted s) ≡ with_old c
+job_counted : (j : Job) (s : Listing) (c : Counts) → c.procs ≡ proc_count s.program → c.nodes ≡ node_count s.program → c.edges ≡ edge_count s.program → old_job j (accepted s) ≡ with_old c
 unfolding old_job with_old job_old
 job_counted j s c p q r = rw (p, q, r)
 
 -- ---- reading a program on values, where `due` is due before it
 
 module _ (after : Reading Listing → Job) (j : Job) (still : (k p : ℕ) → after (refused k p) ≡ j) (text : Bytes) (l : List ℕ) where
-  left_refused : (k p : ℕ) (w : List ℕ) → TakenBy after (refused k p) (refused_taken j k p) l l w
+  left_refused : (k p : ℕ) (w : List ℕ) → TakenBy after (refused k p) (refused_reply j k p) l l w
   unfolding taken_of outcome count_read links_read records_read nodes_of
-  left_refused k p w = record { taken = ap (λ (x : Job). refused_taken x k p) (sym (still k p)); links_are = refl; nodes_are = refl }
+  left_refused k p w = record { taken = ap (λ (x : Job). refused_reply x k p) (sym (still k p)); links_are = refl; nodes_are = refl }
 
-  pub due_taken : (due : ℕ) (w : List ℕ) (r : Taken) → (due ≡ 0 → ⊥) → r ≡ refused_taken j due 0 → TakenBy after (program_read due text) r l l w
+  pub due_taken : (due : ℕ) (w : List ℕ) (r : Reply) → (due ≡ 0 → ⊥) → r ≡ refused_reply j due 0 → TakenBy after (program_read due text) r l l w
   unfolding past_due choose
   due_taken due w r h e =
       let a : program_read due text ≡ refused due 0 = simp (ne_eqb _ _ h) in
-      subst (λ (x : Taken). TakenBy after (program_read due text) x l l w) (sym e) (subst (λ (x : Reading Listing). TakenBy after x (refused_taken j due 0) l l w) (sym a) (left_refused due 0 w))
+      subst (λ (x : Reply). TakenBy after (program_read due text) x l l w) (sym e) (subst (λ (x : Reading Listing). TakenBy after x (refused_reply j due 0) l l w) (sym a) (left_refused due 0 w))
 
   module _ (due : ℕ) (z : due ≡ 0) (had : Count) (w : List ℕ) (h : ReadInto text had w) where
     goes_by : program_read due text ≡ read_listing text
     unfolding past_due choose
     goes_by = simp (eq-eqb _ _ z)
 
-    stop : (x : Reading Listing) → Told x had w → (had.number ≡ 0 → ⊥) → TakenBy after x (refused_taken j had.number had.place) l l w
-    stop (refused k p) t n = subst (λ (x : Taken). TakenBy after (refused k p) x l l w) (sym (ap₂ (refused_taken j) t.0 t.1)) (left_refused k p w)
+    stop : (x : Reading Listing) → Told x had w → (had.number ≡ 0 → ⊥) → TakenBy after x (refused_reply j had.number had.place) l l w
+    stop (refused k p) t n = subst (λ (x : Reply). TakenBy after (refused k p) x l l w) (sym (ap₂ (refused_reply j) t.0 t.1)) (left_refused k p w)
     stop (accepted s) t n = absurd (n t.0)
 
-    pub text_refused : (number : ℕ) (r : Taken) → number ≡ had.number → (number ≡ 0 → ⊥) → r ≡ refused_taken j number had.place → TakenBy after (program_read due text) r l l w
+    pub text_refused : (number : ℕ) (r : Reply) → number ≡ had.number → (number ≡ 0 → ⊥) → r ≡ refused_reply j number had.place → TakenBy after (program_read due text) r l l w
     text_refused number r en n e =
-        subst (λ (x : Taken). TakenBy after (program_read due text) x l l w) (sym (e ∙ ap (λ (k : ℕ). refused_taken j k had.place) en))
-        (subst (λ (x : Reading Listing). TakenBy after x (refused_taken j had.number had.place) l l w) (sym goes_by) (stop (read_listing text) h.told (λ q. n (en ∙ q))))
+        subst (λ (x : Reply). TakenBy after (program_read due text) x l l w) (sym (e ∙ ap (λ (k : ℕ). refused_reply j k had.place) en))
+        (subst (λ (x : Reading Listing). TakenBy after x (refused_reply j had.number had.place) l l w) (sym goes_by) (stop (read_listing text) h.told (λ q. n (en ∙ q))))
 
     module _ (k : Job) (moved : (s : Listing) → had.procs ≡ proc_count s.program → had.nodes ≡ node_count s.program → had.edges ≡ edge_count s.program → after (accepted s) ≡ k) where
       done : (x : Reading Listing) → Told x had w → had.number ≡ 0 → 8128 ≤ length w → TakenBy after x (record { job = k; number = 0; place = 0; nodes = had.nodes }) l (copied_links w had l) w
@@ -144,47 +145,48 @@ module _ (after : Reading Listing → Job) (j : Job) (still : (k p : ℕ) → af
 
 -- ---- `take_old`
 
-module _ (j : Job) (room : ℕ) (text : Bytes) (l : List ℕ) (work due : ℕ) (ed : due ≡ old_due j room (length l) work) where
-  by_due : (r : Taken) (l' w : List ℕ) → TakenBy (old_job j) (program_read due text) r l l' w → OldTaken j room text r l l' work w
-  by_due r l' w t = record { by = subst (λ (k : ℕ). TakenBy (old_job j) (program_read k text) r l l' w) ed t }
-
+module _ (j : Job) (room : ℕ) (text : Bytes) (l : List ℕ) (work : ℕ) where
   stays : (k p : ℕ) → old_job j (refused k p) ≡ j
   unfolding old_job
   stays k p = refl
 
-  pub taken_due : (w : List ℕ) (r : Taken) → (due ≡ 0 → ⊥) → r ≡ refused_taken j due 0 → OldTaken j room text r l l work w
-  taken_due w r h e = by_due r l w (due_taken (old_job j) j stays text l due w r h e)
+  by_due : (due : ℕ) (r : Reply) (l' w : List ℕ) → due ≡ old_due j room (length l) work → TakenBy (old_job j) (program_read due text) r l l' w → OldTaken j room text r l l' work w
+  by_due due r l' w ed t = record { by = subst (λ (k : ℕ). TakenBy (old_job j) (program_read k text) r l l' w) ed t }
 
-  module _ (z : due ≡ 0) (had : Count) (w : List ℕ) (h : ReadInto text had w) where
-    pub taken_refused : (number : ℕ) (r : Taken) → number ≡ had.number → (number ≡ 0 → ⊥) → r ≡ refused_taken j number had.place → OldTaken j room text r l l work w
-    taken_refused number r en n e = by_due r l w (text_refused (old_job j) j stays text l due z had w h number r en n e)
+  pub taken_due : (f : Fault) (w : List ℕ) → fault_number f ≡ old_due j room (length l) work → OldTaken j room text (reply j (Err (record { fault = f; place = 0 }))) l l work w
+  taken_due f w ed =
+      by_due (fault_number f) _ l w ed (due_taken (old_job j) j stays text l (fault_number f) w _ (λ z. fault_not f z) refl)
 
-    pub taken_done : (number : ℕ) (l' : List ℕ) (k : Job) → number ≡ had.number → number ≡ 0 → 8128 ≤ length w → l' ≡ copied_links w had l → k ≡ with_old had
-        → OldTaken j room text (record { job = k; number = 0; place = 0; nodes = had.nodes }) l l' work w
-    taken_done number l' k en n b el ek =
-        by_due _ l' w (text_taken (old_job j) j stays text l due z had w h k (λ s p q r. moved s p q r ∙ sym ek) number l' en n b el)
-      where
-        moved : (s : Listing) → had.procs ≡ proc_count s.program → had.nodes ≡ node_count s.program → had.edges ≡ edge_count s.program → old_job j (accepted s) ≡ with_old had
-        moved s p q r = job_counted j s had p q r
+  module _ (ed : 0 ≡ old_due j room (length l) work) (w : List ℕ) where
+    pub taken_refused : (e : Refusal) → ReadInto text (seen (Err e)) w → OldTaken j room text (reply j (Err e)) l l work w
+    taken_refused e h =
+        by_due 0 _ l w ed (text_refused (old_job j) j stays text l 0 refl (seen (Err e)) w h _ _ refl (λ z. fault_not e.fault z) refl)
 
-pub ruleset all = (room_first, room_second, room_work, room_all, fresh_yes, fresh_no, due_stage, due_fresh, due_short, due_room, with_old_lem, taken_due, taken_refused, taken_done)
+    pub taken_done : (had : Counts) (l' : List ℕ) (k : Job) → ReadInto text (seen (Ok had)) w → length w ≡ work → l' ≡ copied_links w (counts_of had) l → k ≡ with_old had
+        → OldTaken j room text (reply j (Ok (record { job = k; nodes = had.nodes }))) l l' work w
+    taken_done had l' k h b el ek =
+        by_due 0 _ l' w ed
+        (text_taken (old_job j) j stays text l 0 refl (counts_of had) w h k (λ s p q r. job_counted j s had p q r ∙ sym ek) 0 l' refl refl
+        (subst (λ (n : ℕ). 8128 ≤ n) (sym b) (due_room j room (length l) work 0 ed refl)) el)
+
+pub ruleset all = (room_first, room_second, room_work, room_all, fresh_yes, fresh_no, due_stage, due_fresh, due_short, due_room, taken_due, taken_refused, taken_done)
 
 -- ---- reading a program over lent memory
 
-pub left_is : (after : Reading Listing → Job) (a : Reading Listing) (n n' : List Node) (l l' w v w' : List ℕ) (r : Taken) (x : ℕ) → Plain (read_answer a) → TakenBy after a r l l' v → n' ≡ sets n 0 (nodes_of v r.nodes)
+pub left_is : (after : Reading Listing → Job) (a : Reading Listing) (n n' : List Node) (l l' w v w' : List ℕ) (r : Reply) (x : ℕ) → Plain (read_answer a) → TakenBy after a r l l' v → n' ≡ sets n 0 (nodes_of v r.nodes)
     → w' ≡ replicate (length v) 0 → length v ≡ length w → x ≡ packing r.number r.place → ProgramLeftBy after a n l w x r.job n' l' w'
 unfolding taken_of
 left_is after a n n' l l' w v w' r x plain b en ew e ex =
     record {
-      answer_is = ex ∙ packs (read_answer a) (record { number = r.number; place = r.place }) plain (record { number_is = ap (λ (t : Taken). t.number) b.taken; place_is = ap (λ (t : Taken). t.place) b.taken });
-      job_is = ap (λ (t : Taken). t.job) b.taken;
-      nodes_are = en ∙ ap (λ (t : Taken). sets n 0 (nodes_of v t.nodes)) b.taken ∙ ap (sets n 0) b.nodes_are;
+      answer_is = ex ∙ packs (read_answer a) (record { number = r.number; place = r.place }) plain (record { number_is = ap (λ (t : Reply). t.number) b.taken; place_is = ap (λ (t : Reply). t.place) b.taken });
+      job_is = ap (λ (t : Reply). t.job) b.taken;
+      nodes_are = en ∙ ap (λ (t : Reply). sets n 0 (nodes_of v t.nodes)) b.taken ∙ ap (sets n 0) b.nodes_are;
       links_are = b.links_are;
       scratch_is = ew ∙ ap (λ (k : ℕ). replicate k 0) e;
     }
 
 -- `ry_job_read_old`
-pub read_old_is : (j : Job) (text : Bytes) (n n' : List Node) (l l' w v w' : List ℕ) (r : Taken) (x : ℕ) → OldTaken j (length n) text r l l' (length w) v → n' ≡ sets n 0 (nodes_of v r.nodes) → w' ≡ replicate (length v) 0
+pub read_old_is : (j : Job) (text : Bytes) (n n' : List Node) (l l' w v w' : List ℕ) (r : Reply) (x : ℕ) → OldTaken j (length n) text r l l' (length w) v → n' ≡ sets n 0 (nodes_of v r.nodes) → w' ≡ replicate (length v) 0
     → length v ≡ length w → x ≡ packing r.number r.place → ReadOld j text n l w x r.job n' l' w'
 read_old_is j text n n' l l' w v w' r x t en ew e ex =
     record { left = left_is (old_job j) _ n n' l l' w v w' r x (old_plain j (length n) (length l) (length w) text) t.by en ew e ex }

@@ -13,57 +13,48 @@ use Rattle.laws.specs.Slices.{part_sets}
 use Rattle.rules.specs.Text.{Bytes, refused, accepted}
 use Rattle.rules.specs.Graph.{proc_count, node_count, edge_count}
 use Rattle.rules.specs.ProgramFile.{Listing}
-use Rattle.rules.specs.Job.{of_stage, call_new, stage_after}
-use Rattle.reader.specs.declared.Count.{Count}
-use Rattle.reader.specs.Result.{ReadInto}
+use Rattle.rules.specs.Job.{of_stage, call_new}
+use Rattle.answer.specs.Refusals.{fault_number}
+use Rattle.answer.specs.declared.Fault.{Fault}
+use Rattle.answer.specs.declared.Refusal.{Refusal}
+use Rattle.std.specs.Prelude.{Ok, Err, None, Some}
+use Rattle.std.proofs.lemmas.Option.{same_Some}
+use Rattle.reader.specs.declared.Counts.{Counts}
+use Rattle.reader.specs.Result.{ReadInto, counts_of, seen}
 use Rattle.program.specs.Lent.{copied_links}
 use Rattle.records.specs.declared.Job.{Job}
 use Rattle.records.specs.declared.Node.{Node}
 use Rattle.records.specs.Jobs.{same_job}
 use Rattle.records.specs.Nodes.{flat, nodes_of}
 use Rattle.records.specs.NodeLaws.{flat_length}
-use Rattle.lent_job.specs.Held.{Lent, numbers, lent, version_left, job_old, held_old}
+use Rattle.lent_job.specs.Held.{Lent, counted, numbers, lent, version_left, job_old, held_old}
 use Rattle.held.specs.Left.{count_left}
 use Rattle.lent_job.proofs.HeldLaws.{front_left}
-use Rattle.job.specs.declared.Taken.{Taken}
 use Rattle.lent_job.specs.ReadOld.{roomy, program_read}
 use Rattle.answer.specs.Outcomes.{packing}
 use Rattle.lent_job.proofs.Answers.{new_plain}
-use Rattle.job.specs.Taken.{refused_taken, with_old, TakenBy, old_part, NewTaken}
+use Rattle.job.specs.Taken.{Reply, reply, with_old, TakenBy, old_part, NewTaken}
 use Rattle.lent_job.proofs.ReadLaws.{none_due, roomy_parts}
 use Rattle.lent_job.specs.ReadNew.{old_held_due, new_due, new_job, with_new, ReadNew}
-use Rattle.job.proofs.Laws.{due_chosen, due_taken, text_refused, text_taken, left_is}
-
--- ---- `with_new`
-
-pub with_new_lem : (j : Job) (c : Count) (st p n e a b d t : ℕ) → st ≡ 2 → p ≡ j.old_procs → n ≡ j.old_nodes → e ≡ j.old_edges → a ≡ c.procs → b ≡ c.nodes → d ≡ c.edges → t ≡ 0
-    → record { stage = st; old_procs = p; old_nodes = n; old_edges = e; new_procs = a; new_nodes = b; new_edges = d; tests = t } ≡ with_new j c
-unfolding with_new stage_after
-with_new_lem j c st p n e a b d t h₀ h₁ h₂ h₃ h₄ h₅ h₆ h₇ = rw (h₀, h₁, h₂, h₃, h₄, h₅, h₆, h₇)
+use Rattle.job.proofs.Laws.{due_chosen, due_taken, fault_not, text_refused, text_taken, left_is}
 
 -- ---- `new_due`
-
-pub number_none : (c : Count) → c ≡ count_left none → c.number ≡ 14
-unfolding count_left
-number_none c e = ap (λ (y : Count). y.number) e
 
 -- What is due by what is left of the old version.
 module _ (j : Job) where
   abbrev due_of : Option Listing → ℕ
   due_of x = after (after x none (λ (o : Listing). choose (same_job j (job_old o)) (some o) none)) 14 (λ (o : Listing). 0)
 
-  gone : (x : Option Listing) (c : Count) → c ≡ count_left x → (c.number ≡ 0 → ⊥) → 14 ≡ due_of x
+  gone : (x : Option Listing) → None ≡ count_left x → 14 ≡ due_of x
   unfolding count_left
-  gone none c e n = refl
-  gone (some o) c e n = absurd (n (ap (λ (y : Count). y.number) e))
+  gone none e = refl
+  gone (some o) e = cc
 
-  counts_old : (o : Listing) (c : Count) → c ≡ count_left (some o) → with_old c ≡ job_old o
-  unfolding with_old job_old count_left
-  counts_old o c e = rw e
-
-  there : (x : Option Listing) (c : Count) → c ≡ count_left x → c.number ≡ 0 → choose (same_job j (with_old c)) 0 14 ≡ due_of x
-  there none c e n = absurd (let z : ⊥ = omega (arith, number_none c e, n) in z)
-  there (some o) c e n = ap (λ (k : Job). choose (same_job j k) 0 14) (counts_old o c e) ∙ due_chosen o (same_job j (job_old o))
+  there : (x : Option Listing) (c : Counts) → Some c ≡ count_left x → choose (same_job j (with_old c)) 0 14 ≡ due_of x
+  unfolding count_left with_old job_old
+  there none c e = cc
+  there (some o) c e =
+      ap (λ (k : Counts). choose (same_job j (with_old k)) 0 14) (same_Some c (counted o) e) ∙ due_chosen o (same_job j (job_old o))
 
 module _ (j : Job) (m : ℕ) (old : Bytes) (y joins : List ℕ) (n l k : ℕ) where
   abbrev Old' : Lent
@@ -78,22 +69,22 @@ module _ (j : Job) (m : ℕ) (old : Bytes) (y joins : List ℕ) (n l k : ℕ) wh
     unfolding new_due of_stage choose
     new_short t = simp (eq-eqb _ _ st, ← e, t)
 
-    module _ (t : u ≡ true) (x : List ℕ) (ex : x ≡ y) (c : Count) (ec : c ≡ count_left (version_left (numbers m old x joins))) where
+    module _ (t : u ≡ true) (x : List ℕ) (ex : x ≡ y) where
       long : old_held_due j Old' ≡ new_due j Old' n l k
       unfolding new_due of_stage choose
       long = simp (eq-eqb _ _ st, ← e, t)
 
-      counted : c ≡ count_left (version_left Old')
-      counted = ec ∙ ap (λ (a : List ℕ). count_left (version_left (numbers m old a joins))) ex
+      left_is_old : version_left (numbers m old x joins) ≡ version_left Old'
+      left_is_old = ap (λ (a : List ℕ). version_left (numbers m old a joins)) ex
 
-      pub new_gone : (number : ℕ) → number ≡ c.number → (number ≡ 0 → ⊥) → 14 ≡ new_due j Old' n l k
+      pub new_gone : None ≡ count_left (version_left (numbers m old x joins)) → 14 ≡ new_due j Old' n l k
       unfolding old_held_due held_old
-      new_gone number en h = gone j (version_left Old') c counted (λ z. h (en ∙ z)) ∙ long
+      new_gone h = gone j (version_left Old') (h ∙ ap count_left left_is_old) ∙ long
 
-      module _ (number : ℕ) (en : number ≡ c.number) (z : number ≡ 0) (o : Job) (eo : o ≡ with_old c) (b : Bool) (eb : b ≡ same_job j o) where
+      module _ (c : Counts) (ec : Some c ≡ count_left (version_left (numbers m old x joins))) (o : Job) (eo : o ≡ with_old c) (b : Bool) (eb : b ≡ same_job j o) where
         settled : choose b 0 14 ≡ new_due j Old' n l k
         unfolding old_held_due held_old
-        settled = ap (λ (y : Bool). choose y 0 14) (eb ∙ ap (same_job j) eo) ∙ there j (version_left Old') c counted (sym en ∙ z) ∙ long
+        settled = ap (λ (y : Bool). choose y 0 14) (eb ∙ ap (same_job j) eo) ∙ there j (version_left Old') c (ec ∙ ap count_left left_is_old) ∙ long
 
         pub new_none : b ≡ true → 0 ≡ new_due j Old' n l k
         unfolding choose
@@ -110,31 +101,35 @@ new_room j v n l w due e z = (roomy_parts 512 6080 n l w (none_due (of_stage cal
 
 -- ---- `take_new`
 
-new_counted : (j : Job) (s : Listing) (c : Count) → c.procs ≡ proc_count s.program → c.nodes ≡ node_count s.program → c.edges ≡ edge_count s.program → new_job j (accepted s) ≡ with_new j c
+new_counted : (j : Job) (s : Listing) (c : Counts) → c.procs ≡ proc_count s.program → c.nodes ≡ node_count s.program → c.edges ≡ edge_count s.program → new_job j (accepted s) ≡ with_new j c
 unfolding new_job with_new
 new_counted j s c p q r = rw (p, q, r)
 
-module _ (j : Job) (v : Lent) (room : ℕ) (text : Bytes) (l : List ℕ) (work due : ℕ) (ed : due ≡ new_due j v room (length l) work) where
-  by_due : (r : Taken) (l' w : List ℕ) → TakenBy (new_job j) (program_read due text) r l l' w → NewTaken j v room text r l l' work w
-  by_due r l' w t = record { by = subst (λ (k : ℕ). TakenBy (new_job j) (program_read k text) r l l' w) ed t }
-
+module _ (j : Job) (v : Lent) (room : ℕ) (text : Bytes) (l : List ℕ) (work : ℕ) where
   stays : (k p : ℕ) → new_job j (refused k p) ≡ j
   unfolding new_job
   stays k p = refl
 
-  pub new_due_taken : (w : List ℕ) (r : Taken) → (due ≡ 0 → ⊥) → r ≡ refused_taken j due 0 → NewTaken j v room text r l l work w
-  new_due_taken w r h e = by_due r l w (due_taken (new_job j) j stays text l due w r h e)
+  by_due : (due : ℕ) (r : Reply) (l' w : List ℕ) → due ≡ new_due j v room (length l) work → TakenBy (new_job j) (program_read due text) r l l' w → NewTaken j v room text r l l' work w
+  by_due due r l' w ed t = record { by = subst (λ (k : ℕ). TakenBy (new_job j) (program_read k text) r l l' w) ed t }
 
-  module _ (z : due ≡ 0) (had : Count) (w : List ℕ) (h : ReadInto text had w) where
-    pub new_refused : (number : ℕ) (r : Taken) → number ≡ had.number → (number ≡ 0 → ⊥) → r ≡ refused_taken j number had.place → NewTaken j v room text r l l work w
-    new_refused number r en n e = by_due r l w (text_refused (new_job j) j stays text l due z had w h number r en n e)
+  pub new_due_taken : (f : Fault) (w : List ℕ) → fault_number f ≡ new_due j v room (length l) work → NewTaken j v room text (reply j (Err (record { fault = f; place = 0 }))) l l work w
+  new_due_taken f w ed =
+      by_due (fault_number f) _ l w ed (due_taken (new_job j) j stays text l (fault_number f) w _ (λ z. fault_not f z) refl)
 
-    pub new_done : (number : ℕ) (l' : List ℕ) (k : Job) → number ≡ had.number → number ≡ 0 → 8128 ≤ length w → l' ≡ copied_links w had l → k ≡ with_new j had
-        → NewTaken j v room text (record { job = k; number = 0; place = 0; nodes = had.nodes }) l l' work w
-    new_done number l' k en n b el ek =
-        by_due _ l' w (text_taken (new_job j) j stays text l due z had w h k (λ s p q r. new_counted j s had p q r ∙ sym ek) number l' en n b el)
+  module _ (ed : 0 ≡ new_due j v room (length l) work) (w : List ℕ) where
+    pub new_refused : (e : Refusal) → ReadInto text (seen (Err e)) w → NewTaken j v room text (reply j (Err e)) l l work w
+    new_refused e h =
+        by_due 0 _ l w ed (text_refused (new_job j) j stays text l 0 refl (seen (Err e)) w h _ _ refl (λ z. fault_not e.fault z) refl)
 
-pub ruleset new_all = (with_new_lem, new_stage, new_short, new_gone, new_none, new_job_lem, new_room, new_due_taken, new_refused, new_done)
+    pub new_done : (had : Counts) (l' : List ℕ) (k : Job) → ReadInto text (seen (Ok had)) w → length w ≡ work → l' ≡ copied_links w (counts_of had) l → k ≡ with_new j had
+        → NewTaken j v room text (reply j (Ok (record { job = k; nodes = had.nodes }))) l l' work w
+    new_done had l' k h b el ek =
+        by_due 0 _ l' w ed
+        (text_taken (new_job j) j stays text l 0 refl (counts_of had) w h k (λ s p q r. new_counted j s had p q r ∙ sym ek) 0 l' refl refl
+        (subst (λ (n : ℕ). 8128 ≤ n) (sym b) (new_room j v room (length l) work 0 ed refl)) el)
+
+pub ruleset new_all = (new_stage, new_short, new_gone, new_none, new_job_lem, new_room, new_due_taken, new_refused, new_done)
 
 -- ---- `ry_job_read_new`
 
@@ -160,7 +155,7 @@ module _ (j : Job) (old : Bytes) (ns : List Node) (ol w : List ℕ) (a b : ℕ) 
       go false e = refl
 
 -- `ry_job_read_new`
-pub read_new_is : (j : Job) (old : Bytes) (ns : List Node) (ol : List ℕ) (text : Bytes) (n n' : List Node) (l l' w w₁ v w' : List ℕ) (r : Taken) (x : ℕ) → w₁ ≡ sets w 0 (flat (take 512 ns)) → length w₁ ≡ length w
+pub read_new_is : (j : Job) (old : Bytes) (ns : List Node) (ol : List ℕ) (text : Bytes) (n n' : List Node) (l l' w w₁ v w' : List ℕ) (r : Reply) (x : ℕ) → w₁ ≡ sets w 0 (flat (take 512 ns)) → length w₁ ≡ length w
     → NewTaken j (numbers (length ns) old (old_part w₁) ol) (length n) text r l l' (length w₁) v → n' ≡ sets n 0 (nodes_of v r.nodes) → w' ≡ replicate (length v) 0 → length v ≡ length w₁
     → x ≡ packing r.number r.place → ReadNew j (lent old ns ol) text n l w x r.job n' l' w'
 read_new_is j old ns ol text n n' l l' w w₁ v w' r x e₁ q t en ew e ex =

@@ -14,35 +14,32 @@ use Rattle.rules.specs.Text.{Bytes, Reading, refused, accepted}
 use Rattle.rules.specs.Graph.{edge_count}
 use Rattle.rules.specs.ProgramFile.{Listing}
 use Rattle.rules.specs.SuiteFile.{TestListing, read_tests}
-use Rattle.rules.specs.Job.{of_stage, outcome, call_tests, stage_after}
+use Rattle.rules.specs.Job.{of_stage, outcome, call_tests}
 use Rattle.answer.specs.Outcomes.{packing, packs}
-use Rattle.reader.specs.declared.Count.{Count}
-use Rattle.suite.specs.declared.Read.{Read}
+use Rattle.answer.specs.Refusals.{fault_number}
+use Rattle.answer.specs.declared.Fault.{Fault}
+use Rattle.answer.specs.declared.Refusal.{Refusal}
+use Rattle.std.specs.Prelude.{Ok, Err, None, Some}
+use Rattle.std.proofs.lemmas.Option.{same_Some}
+use Rattle.reader.specs.declared.Counts.{Counts}
+use Rattle.suite.specs.Reads.{read_of}
 use Rattle.lent_tests.specs.Lent.{Leaves, ReadLent}
 use Rattle.records.specs.declared.Job.{Job}
 use Rattle.records.specs.declared.Node.{Node}
 use Rattle.records.specs.Jobs.{same_job, job_same}
 use Rattle.records.specs.Nodes.{flat}
 use Rattle.records.specs.NodeLaws.{flat_length}
-use Rattle.lent_job.specs.Held.{Lent, Versions, numbers, lent, version_left, job_new, held_new}
+use Rattle.lent_job.specs.Held.{Lent, Versions, counted, numbers, lent, version_left, job_new, held_new}
 use Rattle.held.specs.Left.{count_left}
 use Rattle.lent_job.proofs.HeldLaws.{front_left, version_sound}
-use Rattle.job.specs.declared.Moved.{Moved}
 use Rattle.lent_job.specs.ReadOld.{past_due, roomy}
-use Rattle.job.specs.Taken.{with_old, old_part, new_part, moved_by, MovedBy, TestsTaken}
+use Rattle.job.specs.Taken.{Moved, moved, with_old, old_part, new_part, MovedBy, TestsTaken}
 use Rattle.lent_job.proofs.Answers.{tests_plain}
 use Rattle.lent_job.proofs.ReadLaws.{none_due, roomy_parts}
 use Rattle.lent_job.specs.ReadNew.{with_new}
 use Rattle.lent_job.specs.ReadTests.{both_due, tests_due, suite_read, with_tests, tests_job, names_left, rows_left, ReadTests}
-use Rattle.job.proofs.Laws.{due_chosen}
-use Rattle.job.proofs.NewLaws.{number_none, front_flat}
-
--- ---- `with_tests`
-
-pub with_tests_lem : (j : Job) (count st p n e a b d t : ℕ) → st ≡ 3 → p ≡ j.old_procs → n ≡ j.old_nodes → e ≡ j.old_edges → a ≡ j.new_procs → b ≡ j.new_nodes → d ≡ j.new_edges → t ≡ count
-    → record { stage = st; old_procs = p; old_nodes = n; old_edges = e; new_procs = a; new_nodes = b; new_edges = d; tests = t } ≡ with_tests j count
-unfolding with_tests stage_after
-with_tests_lem j count st p n e a b d t h₀ h₁ h₂ h₃ h₄ h₅ h₆ h₇ = rw (h₀, h₁, h₂, h₃, h₄, h₅, h₆, h₇)
+use Rattle.job.proofs.Laws.{due_chosen, fault_not}
+use Rattle.job.proofs.NewLaws.{front_flat}
 
 -- ---- `both_due`
 
@@ -63,26 +60,24 @@ module _ (j : Job) where
   abbrev due_of : Option Listing → Option Listing → ℕ
   due_of x y = after (held_by x y) 14 (λ (h : Versions). 0)
 
-  gone_old : (x y : Option Listing) (c : Count) → c ≡ count_left x → (c.number ≡ 0 → ⊥) → 14 ≡ due_of x y
+  gone_old : (x y : Option Listing) → None ≡ count_left x → 14 ≡ due_of x y
   unfolding count_left
-  gone_old none y c e n = refl
-  gone_old (some o) y c e n = absurd (n (ap (λ (z : Count). z.number) e))
+  gone_old none y e = refl
+  gone_old (some o) y e = cc
 
-  gone_new : (x y : Option Listing) (c : Count) → c ≡ count_left y → (c.number ≡ 0 → ⊥) → 14 ≡ due_of x y
+  gone_new : (x y : Option Listing) → None ≡ count_left y → 14 ≡ due_of x y
   unfolding count_left
-  gone_new none y c e n = refl
-  gone_new (some o) none c e n = refl
-  gone_new (some o) (some p) c e n = absurd (n (ap (λ (z : Count). z.number) e))
+  gone_new none y e = refl
+  gone_new (some o) none e = refl
+  gone_new (some o) (some p) e = cc
 
-  counts_both : (o p : Listing) (c d : Count) → c ≡ count_left (some o) → d ≡ count_left (some p) → with_new (with_old c) d ≡ job_new o p
-  unfolding with_new with_old job_new count_left
-  counts_both o p c d e q = rw (e, q)
-
-  there : (x y : Option Listing) (c d : Count) → c ≡ count_left x → d ≡ count_left y → c.number ≡ 0 → d.number ≡ 0 → choose (same_job j (with_new (with_old c) d)) 0 14 ≡ due_of x y
-  there none y c d e q n m = absurd (let z : ⊥ = omega (arith, number_none c e, n) in z)
-  there (some o) none c d e q n m = absurd (let z : ⊥ = omega (arith, number_none d q, m) in z)
-  there (some o) (some p) c d e q n m =
-      ap (λ (k : Job). choose (same_job j k) 0 14) (counts_both o p c d e q) ∙ due_chosen (record { old = o; new = p }) (same_job j (job_new o p))
+  there : (x y : Option Listing) (c d : Counts) → Some c ≡ count_left x → Some d ≡ count_left y → choose (same_job j (with_new (with_old c) d)) 0 14 ≡ due_of x y
+  unfolding count_left with_new with_old job_new
+  there none y c d e q = cc
+  there (some o) none c d e q = cc
+  there (some o) (some p) c d e q =
+      ap₂ (λ (a b : Counts). choose (same_job j (with_new (with_old a) b)) 0 14) (same_Some c (counted o) e) (same_Some d (counted p) q)
+      ∙ due_chosen (record { old = o; new = p }) (same_job j (job_new o p))
 
   -- Where nothing is due the old program has as many edges as the job says.
   edges_of : (v : Lent) (x y : Option Listing) → version_left v ≡ x → due_of x y ≡ 0 → j.old_edges ≤ 1024
@@ -101,28 +96,28 @@ module _ (j : Job) (m : ℕ) (old : Bytes) (joins : List ℕ) (s : ℕ) (new : B
   abbrev New' : Lent
   New' = numbers s new y' links
 
-  module _ (x : List ℕ) (ex : x ≡ y) (c : Count) (ec : c ≡ count_left (version_left (numbers m old x joins))) where
-    counted : c ≡ count_left (version_left Old')
-    counted = ec ∙ ap (λ (a : List ℕ). count_left (version_left (numbers m old a joins))) ex
+  module _ (x : List ℕ) (ex : x ≡ y) where
+    left_old : version_left (numbers m old x joins) ≡ version_left Old'
+    left_old = ap (λ (a : List ℕ). version_left (numbers m old a joins)) ex
 
-    pub old_gone : (number : ℕ) → number ≡ c.number → (number ≡ 0 → ⊥) → 14 ≡ both_due j Old' New'
+    pub old_gone : None ≡ count_left (version_left (numbers m old x joins)) → 14 ≡ both_due j Old' New'
     unfolding both_due held_new
-    old_gone number en h = gone_old j (version_left Old') (version_left New') c counted (λ z. h (en ∙ z))
+    old_gone e = gone_old j (version_left Old') (version_left New') (e ∙ ap count_left left_old)
 
-    module _ (number : ℕ) (en : number ≡ c.number) (z : number ≡ 0) (x' : List ℕ) (ex' : x' ≡ y') (d : Count) (ec' : d ≡ count_left (version_left (numbers s new x' links))) where
-      counted' : d ≡ count_left (version_left New')
-      counted' = ec' ∙ ap (λ (a : List ℕ). count_left (version_left (numbers s new a links))) ex'
+    module _ (c : Counts) (ec : Some c ≡ count_left (version_left (numbers m old x joins))) (x' : List ℕ) (ex' : x' ≡ y') where
+      left_new : version_left (numbers s new x' links) ≡ version_left New'
+      left_new = ap (λ (a : List ℕ). version_left (numbers s new a links)) ex'
 
-      pub new_version_gone : (number' : ℕ) → number' ≡ d.number → (number' ≡ 0 → ⊥) → 14 ≡ both_due j Old' New'
+      pub new_version_gone : None ≡ count_left (version_left (numbers s new x' links)) → 14 ≡ both_due j Old' New'
       unfolding both_due held_new
-      new_version_gone number' en' h = gone_new j (version_left Old') (version_left New') d counted' (λ z. h (en' ∙ z))
+      new_version_gone e = gone_new j (version_left Old') (version_left New') (e ∙ ap count_left left_new)
 
-      module _ (number' : ℕ) (en' : number' ≡ d.number) (z' : number' ≡ 0) (o : Job) (eo : o ≡ with_old c) (p : Job) (ep : p ≡ with_new o d) (b : Bool) (eb : b ≡ same_job j p) where
+      module _ (d : Counts) (ed : Some d ≡ count_left (version_left (numbers s new x' links))) (o : Job) (eo : o ≡ with_old c) (p : Job) (ep : p ≡ with_new o d) (b : Bool) (eb : b ≡ same_job j p) where
         settled : choose b 0 14 ≡ both_due j Old' New'
         unfolding both_due held_new
         settled =
             ap (λ (y : Bool). choose y 0 14) (eb ∙ ap (same_job j) (ep ∙ ap (λ (k : Job). with_new k d) eo))
-            ∙ there j (version_left Old') (version_left New') c d counted counted' (sym en ∙ z) (sym en' ∙ z')
+            ∙ there j (version_left Old') (version_left New') c d (ec ∙ ap count_left left_old) (ed ∙ ap count_left left_new)
 
         pub both_none : b ≡ true → 0 ≡ both_due j Old' New'
         unfolding choose
@@ -153,46 +148,45 @@ module _ (j : Job) (v v' : Lent) (n l w : ℕ) where
   tests_edges due e z =
       edges_of j v (version_left v) (version_left v') refl (none_due (of_stage call_tests j.stage) (roomy 400 3200 n l w) (both_due j v v') (sym e ∙ z)).2
 
--- ---- `moved_by`
-
-module _ (j : Job) (c : Read) (number : ℕ) (en : number ≡ c.number) where
-  pub moved_refused : (k p : ℕ) → k ≡ number → p ≡ c.place → (number ≡ 0 → ⊥) → record { job = j; number = k; place = p } ≡ moved_by j c
-  unfolding moved_by choose
-  moved_refused k p ek ep h = simp (ne_eqb c.number 0 (λ z. h (en ∙ z)), ek, ep, en)
-
-  pub moved_done : (o : Job) → o ≡ with_tests j c.count → number ≡ 0 → record { job = o; number = 0; place = 0 } ≡ moved_by j c
-  unfolding moved_by choose
-  moved_done o eo z = simp (eq-eqb c.number 0 (sym en ∙ z), eo)
-
 -- ---- `take_tests`
 
 module _ (j : Job) (t w : List ℕ) where
-  stopped : (k p : ℕ) → MovedBy j (refused k p) (record { job = j; number = k; place = p }) t t w w
+  stopped : (e : Refusal) (a : Reading TestListing) → a ≡ refused (fault_number e.fault) e.place → MovedBy j a (moved j (Err e)) t t w w
   unfolding tests_job outcome names_left rows_left
-  stopped k p = record { moved = refl; tests_are = refl; rows_are = refl }
+  stopped e a q = subst (λ (x : Reading TestListing). MovedBy j x (moved j (Err e)) t t w w) (sym q) (record { moved = refl; tests_are = refl; rows_are = refl })
 
-  read_by : (a : Reading TestListing) (c : Read) (t' w' : List ℕ) → Leaves a c t t' w w' → MovedBy j a (moved_by j c) t t' w w'
-  unfolding tests_job outcome names_left rows_left moved_by choose
-  read_by (refused k p) c t' w' h =
-      record { moved = simp (h.0, h.1, ne_eqb k 0 (λ z. let y : ⊥ = omega (arith, z, h.3) in y)); tests_are = h.4; rows_are = h.5 }
-  read_by (accepted l) c t' w' h = record { moved = simp (h.0, h.2); tests_are = h.3; rows_are = h.4 }
+  read_by : (a : Reading TestListing) (n : ℕ) (t' w' : List ℕ) → Leaves a (read_of (Ok n)) t t' w w' → MovedBy j a (moved j (Ok (with_tests j n))) t t' w w'
+  unfolding tests_job outcome names_left rows_left
+  read_by (refused k p) n t' w' h = absurd (let y : ⊥ = omega (arith, h.0, h.3) in y)
+  read_by (accepted l) n t' w' h = record { moved = simp (h.2); tests_are = h.3; rows_are = h.4 }
 
-module _ (j : Job) (v v' : Lent) (text : Bytes) (t w : List ℕ) (work due : ℕ) (ed : due ≡ tests_due j v v' (length t) (length w) work) where
-  by_due : (r : Moved) (t' w' : List ℕ) (a : Reading TestListing) → a ≡ suite_read due j.old_edges text → MovedBy j a r t t' w w' → TestsTaken j v v' text r t t' w w' work
-  by_due r t' w' a e m =
-      record { by = subst (λ (x : Reading TestListing). MovedBy j x r t t' w w') (e ∙ ap (λ (k : ℕ). suite_read k j.old_edges text) ed) m }
+  read_stop : (a : Reading TestListing) (e : Refusal) (t' w' : List ℕ) → Leaves a (read_of (Err e)) t t' w w' → MovedBy j a (moved j (Err e)) t t' w w'
+  unfolding tests_job outcome names_left rows_left
+  read_stop (refused k p) e t' w' h = record { moved = simp (h.0, h.1); tests_are = h.4; rows_are = h.5 }
+  read_stop (accepted l) e t' w' h = absurd (fault_not e.fault h.0)
 
-  pub tests_refused : (due ≡ 0 → ⊥) → TestsTaken j v v' text (record { job = j; number = due; place = 0 }) t t w w work
+module _ (j : Job) (v v' : Lent) (text : Bytes) (t w : List ℕ) (work : ℕ) where
+  by_due : (due : ℕ) (r : Moved) (t' w' : List ℕ) → due ≡ tests_due j v v' (length t) (length w) work → MovedBy j (suite_read due j.old_edges text) r t t' w w' → TestsTaken j v v' text r t t' w w' work
+  by_due due r t' w' ed m = record { by = subst (λ (k : ℕ). MovedBy j (suite_read k j.old_edges text) r t t' w w') ed m }
+
+  pub tests_refused : (f : Fault) → fault_number f ≡ tests_due j v v' (length t) (length w) work → TestsTaken j v v' text (moved j (Err (record { fault = f; place = 0 }))) t t w w work
   unfolding past_due choose
-  tests_refused h = by_due _ t w (refused due 0) (simp (ne_eqb _ _ h)) (stopped j t w due 0)
+  tests_refused f ed =
+      by_due (fault_number f) _ t w ed (stopped j t w (record { fault = f; place = 0 }) (suite_read (fault_number f) j.old_edges text) (simp (ne_eqb (fault_number f) 0 (λ z. fault_not f z))))
 
-  pub tests_taken : due ≡ 0 → (c : Read) (t' w' : List ℕ) (r : Moved) → ReadLent j.old_edges text c t t' w w' → r ≡ moved_by j c → TestsTaken j v v' text r t t' w w' work
-  unfolding past_due choose
-  tests_taken z c t' w' r h e =
-      by_due r t' w' (read_tests j.old_edges text) (simp (eq-eqb _ _ z))
-      (subst (λ (x : Moved). MovedBy j (read_tests j.old_edges text) x t t' w w') (sym e) (read_by j t w (read_tests j.old_edges text) c t' w' h.leaves))
+  module _ (ed : 0 ≡ tests_due j v v' (length t) (length w) work) (t' w' : List ℕ) where
+    reads : (r : Moved) → MovedBy j (read_tests j.old_edges text) r t t' w w' → TestsTaken j v v' text r t t' w w' work
+    unfolding past_due choose
+    reads r h = by_due 0 r t' w' ed h
 
-pub ruleset tests_all = (with_tests_lem, old_gone, new_version_gone, both_none, both_job, tests_stage, tests_long, tests_short, tests_edges, moved_refused, moved_done, tests_refused, tests_taken)
+    pub tests_taken : (n : ℕ) (k : Job) → ReadLent j.old_edges text (read_of (Ok n)) t t' w w' → k ≡ with_tests j n → TestsTaken j v v' text (moved j (Ok k)) t t' w w' work
+    tests_taken n k h e =
+        subst (λ (x : Job). TestsTaken j v v' text (moved j (Ok x)) t t' w w' work) (sym e) (reads _ (read_by j t w (read_tests j.old_edges text) n t' w' h.leaves))
+
+    pub tests_stop : (e : Refusal) → ReadLent j.old_edges text (read_of (Err e)) t t' w w' → TestsTaken j v v' text (moved j (Err e)) t t' w w' work
+    tests_stop e h = reads _ (read_stop j t w (read_tests j.old_edges text) e t' w' h.leaves)
+
+pub ruleset tests_all = (old_gone, new_version_gone, both_none, both_job, tests_stage, tests_long, tests_short, tests_edges, tests_refused, tests_taken, tests_stop)
 
 -- ---- `ry_job_read_tests`
 

@@ -13,15 +13,16 @@ use Rattle.laws.specs.Tests.{◌and◌, choose}
 use Rattle.laws.specs.Slices.{below_or, sets_append, sets_out}
 use Rattle.rules.specs.Text.{Bytes}
 use Rattle.rules.specs.Job.{Request as Asked, of_stage, outcome, serving}
-use Rattle.answer.specs.declared.Answer.{Answer}
+use Rattle.answer.specs.Refusals.{Answer}
 use Rattle.answer.specs.Outcomes.{Told, refusal_told, told_as}
 use Rattle.records.specs.declared.Job.{Job}
-use Rattle.reader.specs.declared.Count.{Count}
+use Rattle.reader.specs.Result.{Count}
 use Rattle.text.specs.Puts.{Puts, puts_front}
 use Rattle.requests.specs.declared.Request.{Request}
 use Rattle.requests.specs.declared.Request.TheVariants.{Check, Label as LabelOf, Probes, Program, Record, Sheet, Unknown}
 use Rattle.requests.specs.Requests.{asked}
 use Rattle.writer.specs.Writes.{Writes}
+use Rattle.versions.specs.Memory.{Memory, memory}
 use Rattle.writeback.specs.Parts.{parts_same}
 use Rattle.writeback.specs.Back.{back_text}
 use Rattle.lent_job.specs.Held.{AllRead, Lent, numbers}
@@ -33,34 +34,19 @@ use Rattle.job_calls.proofs.Laws.{fill}
 
 -- ---- `takes_parts`, `limit`, `not_held`
 
-module _ (q : Request) where
-  pub takes_sheet : q ≡ Sheet → false ≡ takes_parts (asked q)
-  unfolding asked
-  takes_sheet e = sym (ap (λ (x : Request). takes_parts (asked x)) e)
+pub takes_program : (side : ℕ) → true ≡ takes_parts (asked (Program side))
+unfolding asked
+takes_program side = refl
 
-  pub takes_record : (i : ℕ) → q ≡ Record i → false ≡ takes_parts (asked q)
-  unfolding asked
-  takes_record i e = sym (ap (λ (x : Request). takes_parts (asked x)) e)
-
-  pub takes_check : q ≡ Check → false ≡ takes_parts (asked q)
-  unfolding asked
-  takes_check e = sym (ap (λ (x : Request). takes_parts (asked x)) e)
-
-  pub takes_label : (side n : ℕ) → q ≡ LabelOf side n → false ≡ takes_parts (asked q)
-  unfolding asked
-  takes_label side n e = sym (ap (λ (x : Request). takes_parts (asked x)) e)
-
-  pub takes_program : (side : ℕ) → q ≡ Program side → true ≡ takes_parts (asked q)
-  unfolding asked
-  takes_program side e = sym (ap (λ (x : Request). takes_parts (asked x)) e)
-
-  pub takes_probes : q ≡ Probes → false ≡ takes_parts (asked q)
-  unfolding asked
-  takes_probes e = sym (ap (λ (x : Request). takes_parts (asked x)) e)
-
-  pub takes_unknown : q ≡ Unknown → false ≡ takes_parts (asked q)
-  unfolding asked
-  takes_unknown e = sym (ap (λ (x : Request). takes_parts (asked x)) e)
+pub takes_other : (q : Request) → ((side : ℕ) → q ≡ Program side → ⊥) → false ≡ takes_parts (asked q)
+unfolding asked
+takes_other Sheet z = refl
+takes_other (Record i) z = refl
+takes_other Check z = refl
+takes_other (LabelOf side n) z = refl
+takes_other (Program side) z = absurd (z side refl)
+takes_other Probes z = refl
+takes_other Unknown z = refl
 
 pub limit_is : (p n e p' n' e' : ℕ) → p' ≡ min p 64 → n' ≡ min n 512 → e' ≡ min e 1024 → record { number = 0; place = 0; procs = p'; nodes = n'; edges = e' } ≡ limited p n e
 limit_is p n e p' n' e' ep en ee = rw (ep, en, ee) refl
@@ -97,6 +83,15 @@ unfolding text_back
 text_put v c d z z' most r t ec ez w et =
     et ∙ front_written z _ r z' w.puts
     ∙ ap₂ (λ (n : ℕ) (x : Count). take n (back_text v.text v.nodes v.links x)) (ap length ez ∙ length-replicate {A = ℕ} 65536 0) ec
+
+-- The same of a version in memory.
+pub text_put_of : (v : Lent) (m : Memory) → m ≡ memory v.text v.nodes v.links → (c d : Count) (z z' : List ℕ) (most r : ℕ) (t : Bytes) → c ≡ d → z ≡ replicate 65536 0
+    → Writes z 0 (back_text m.text m.nodes m.links c) most r z' → t ≡ take r z' → t ≡ text_back v d
+text_put_of v m q c d z z' most r t ec ez w et =
+    text_put v c d z z' most r t ec ez (subst (λ (x : Memory). Writes z 0 (back_text x.text x.nodes x.links c) most r z') q w) et
+
+pub parts_of : (m : Memory) (t n l b : List ℕ) (c : Count) (u : Bool) → m ≡ memory t n l → u ≡ parts_same m.text b m.nodes m.links c → u ≡ parts_same t b n l c
+parts_of m t n l b c u q e = subst (λ (x : Memory). u ≡ parts_same x.text b x.nodes x.links c) q e
 
 module _ (q : Asked) (j : Job) (olds : ℕ) (ot on ol : List ℕ) (news : ℕ) (nt nn nl tt tests rows : List ℕ) (n : ℕ) (wo : 2048 ≤ length on) (wn : 2048 ≤ length nn) where
   abbrev this_job : LentJob
@@ -147,4 +142,4 @@ module _ (q : Asked) (j : Job) (olds : ℕ) (ot on ol : List ℕ) (news : ℕ) (
     unfolding ◌and◌ choose
     back_no_new v input out r ev a b er = let f : choose (u and v) (held back_job) none ≡ none = simp (a, b) in none_told input out r (held_by v ev ∙ f) er
 
-pub ruleset all = (takes_sheet, takes_record, takes_check, takes_label, takes_program, takes_probes, takes_unknown, limit_is, not_stage, not_left)
+pub ruleset all = (takes_program, takes_other, limit_is, not_stage, not_left)

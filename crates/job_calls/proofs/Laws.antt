@@ -19,139 +19,151 @@ use Rattle.rules.specs.WriteBack.{other_alone}
 use Rattle.rules.specs.SuiteFile.{TestListing, test_count}
 use Rattle.rules.specs.Job.{Outcome, Request as Asked, Span, Version, by_side, has_node, label_part, label_shown, label_span, call_request, nowhere, of_stage, outcome, packed_span, call_tests, refusal, serving, span_shown, stage_after}
 use Rattle.rules.specs.Kept.{Sound}
-use Rattle.answer.specs.declared.Answer.{Answer}
+use Rattle.std.specs.Prelude.{None, Some, Ok, Err}
+use Rattle.std.proofs.lemmas.Option.{none-some, same_Some}
+use Rattle.answer.specs.declared.Refusal.{Refusal}
+use Rattle.answer.specs.Refusals.{Answer, fault_number, fault_some, told}
+use Rattle.reader.specs.declared.Counts.{Counts as Program}
 use Rattle.answer.specs.Outcomes.{Told, packing, packing_fits, packs, refusal_told, told_as}
-use Rattle.reader.specs.declared.Count.{Count}
-use Rattle.reader.specs.Result.{Small}
+use Rattle.reader.specs.Result.{Count, Small}
 use Rattle.writeback.proofs.BackLaws.{back_agrees}
-use Rattle.suite.specs.declared.Read.{Read}
-use Rattle.versions.specs.Memory.{InMemory, memory}
+use Rattle.suite.specs.Tables.{Tests, tests}
+use Rattle.versions.specs.Memory.{InMemory, Memory, memory}
 use Rattle.intake.specs.declared.Counts.{Counts}
-use Rattle.intake.specs.Ready.{Few, Ready, refused_counts}
-use Rattle.intake.proofs.Laws.{few_none}
+use Rattle.intake.specs.Ready.{Few, Ready}
 use Rattle.work.specs.Work.{Done}
-use Rattle.requests.specs.Requests.{Served, refusal_of}
+use Rattle.requests.specs.Requests.{Served}
 use Rattle.records.specs.declared.Job.{Job}
 use Rattle.records.specs.declared.Node.{Node}
 use Rattle.records.specs.Jobs.{same_job}
 use Rattle.records.specs.Nodes.{flat}
 use Rattle.records.specs.NodeLaws.{flat_append, flat_length}
-use Rattle.lent_job.specs.Held.{AllRead, Lent, held_tests, job_at, job_tests, left_by, lent, long_enough, numbers, suite_left, version_left}
+use Rattle.lent_job.specs.Held.{AllRead, Lent, counted, held_tests, job_at, job_tests, left_by, lent, long_enough, numbers, suite_left, version_left}
 use Rattle.held.specs.Left.{count_small, count_left, read_left}
 use Rattle.lent_job.proofs.HeldLaws.{front_left, held_tests_parts, suite_accepted, suite_few, suite_holds, version_memory, version_sound}
 use Rattle.records.specs.Shown.{part_shown}
 use Rattle.job_calls.specs.declared.Label.{Label}
+use Rattle.job_calls.specs.declared.Held.{Held}
 use Rattle.lent_job.specs.Calls.{Called, Found, Kept, LentJob, Shown, given_by, goes_by, goes_held, held, held_back, holding, label_part_call, label_span_call, lent_call, lent_job, limited, new_count, old_count, others_alone, request_scratch, shown_by, span_by, takes_parts, text_back, version_of, written_back}
-use Rattle.job_calls.specs.Loaded.{BackAnswer, CalledOn, HeldAnswer, SpanIs, counts_by, due_counts, label_by_side, label_of_node, loaded_job, no_label, suite_counts, unloaded}
+use Rattle.job_calls.specs.Loaded.{BackAnswer, CalledOn, Due, HeldAnswer, SpanIs, counts_by, due_of, refused_due, lent_in, due_counts, label_by_side, label_of_node, loaded_job, no_label, suite_counts, unloaded}
 use Rattle.lent_job.proofs.DueLaws.{due_cases}
 use Rattle.lent_job.proofs.Answers.{labels_few, lent_plain}
 
 -- ---- `suite_due`
 
-module _ (j : Job) (o p : Count) where
-  pub suite_stop : (x : Option TestListing) (t : Read) (r : Counts) → t ≡ read_left x → (t.number ≡ 0 → ⊥) → r ≡ refused_counts 14 0 → r ≡ suite_counts j o p x
+module _ (j : Job) (o p : Program) where
+  pub suite_stop : (x : Option TestListing) → None ≡ read_left x → refused_due 14 0 ≡ suite_counts j o p x
   unfolding read_left suite_counts
-  suite_stop none t r e z q = q
-  suite_stop (some l) t r e z q = absurd (z (ap (λ (y : Read). y.number) e))
+  suite_stop none e = refl
+  suite_stop (some l) e = absurd (none-some (test_count l.suite) e)
 
-  module _ (t : Read) (z : t.number ≡ 0) (u : Bool)
-      (d : u ≡ same_job j (record { stage = 3; old_procs = o.procs; old_nodes = o.nodes; old_edges = o.edges; new_procs = p.procs; new_nodes = p.nodes; new_edges = p.edges; tests = t.count })) where
-    same_is : (l : TestListing) → t ≡ read_left (some l) → u ≡ same_job j (job_at (stage_after call_tests) o p (test_count l.suite))
+  module _ (n : ℕ) (u : Bool)
+      (d : u ≡ same_job j (record { stage = 3; old_procs = o.procs; old_nodes = o.nodes; old_edges = o.edges; new_procs = p.procs; new_nodes = p.nodes; new_edges = p.edges; tests = n })) where
+    same_is : (l : TestListing) → Some n ≡ read_left (some l) → u ≡ same_job j (job_at (stage_after call_tests) o p (test_count l.suite))
     unfolding read_left stage_after
     same_is l e =
-        d ∙ ap (λ (y : Read). same_job j (record { stage = 3; old_procs = o.procs; old_nodes = o.nodes; old_edges = o.edges; new_procs = p.procs; new_nodes = p.nodes; new_edges = p.edges; tests = y.count })) e
+        d
+        ∙ ap (λ (m : ℕ). same_job j (record { stage = 3; old_procs = o.procs; old_nodes = o.nodes; old_edges = o.edges; new_procs = p.procs; new_nodes = p.nodes; new_edges = p.edges; tests = m }))
+        (same_Some n (test_count l.suite) e)
 
-    pub suite_goes : (x : Option TestListing) → t ≡ read_left x → u ≡ true
-        → record { number = 0; place = 0; old_nodes = o.nodes; old_edges = o.edges; new_nodes = p.nodes; new_edges = p.edges; tests = t.count } ≡ suite_counts j o p x
+    pub suite_goes : (x : Option TestListing) → Some n ≡ read_left x → u ≡ true
+        → record { number = 0; place = 0; counts = record { old_nodes = o.nodes; old_edges = o.edges; new_nodes = p.nodes; new_edges = p.edges; tests = n } } ≡ suite_counts j o p x
     unfolding read_left suite_counts choose counts_by
-    suite_goes none e y = absurd (let v : ⊥ = omega (arith, z, ap (λ (y : Read). y.number) e) in v)
+    suite_goes none e y = absurd (none-some n (sym e))
     suite_goes (some l) e y =
-        ap (λ (v : Read). counts_by o p v.count) e ∙ ap (λ (b : Bool). choose b (counts_by o p (test_count l.suite)) (refused_counts 14 0)) (sym y ∙ same_is l e)
+        ap (counts_by o p) (same_Some n (test_count l.suite) e) ∙ ap (λ (b : Bool). choose b (counts_by o p (test_count l.suite)) (refused_due 14 0)) (sym y ∙ same_is l e)
 
-    pub suite_other : (x : Option TestListing) (r : Counts) → t ≡ read_left x → u ≡ false → r ≡ refused_counts 14 0 → r ≡ suite_counts j o p x
+    pub suite_other : (x : Option TestListing) → Some n ≡ read_left x → u ≡ false → refused_due 14 0 ≡ suite_counts j o p x
     unfolding read_left suite_counts choose
-    suite_other none r e y q = q
-    suite_other (some l) r e y q = q ∙ ap (λ (b : Bool). choose b (counts_by o p (test_count l.suite)) (refused_counts 14 0)) (sym y ∙ same_is l e)
+    suite_other none e y = refl
+    suite_other (some l) e y = ap (λ (b : Bool). choose b (counts_by o p (test_count l.suite)) (refused_due 14 0)) (sym y ∙ same_is l e)
 
 -- ---- `due`
 
-due_last : (s s' : Listing) (l : TestListing) (u : Bool) → choose u (counts_by (count_left (some s)) (count_left (some s')) (test_count l.suite)) (refused_counts 14 0)
+due_last : (s s' : Listing) (l : TestListing) (u : Bool) → choose u (counts_by (counted s) (counted s') (test_count l.suite)) (refused_due 14 0)
     ≡ due_counts (after (choose u (some (record { old = s; new = s'; tests = l })) none) (refused 14 0) (λ h. accepted h))
-unfolding choose counts_by count_left due_counts
+unfolding choose counts_by due_counts
 due_last s s' l true = refl
 due_last s s' l false = refl
 
-module _ (j : Job) (had olds : ℕ) (ot on ol : List ℕ) (news : ℕ) (nt nn nl tt tests rows : List ℕ) where
+due_by : (j : Job) (s s' : Listing) (x : Option TestListing) → suite_counts j (counted s) (counted s') x
+    ≡ due_counts (after (after x none (λ l. choose (same_job j (job_tests s s' l)) (some (record { old = s; new = s'; tests = l })) none)) (refused 14 0) (λ a. accepted a))
+unfolding suite_counts due_counts job_tests
+due_by j s s' none = refl
+due_by j s s' (some l) = due_last s s' l (same_job j (job_tests s s' l))
+
+-- A version that is not left, and one that is, as its counts.
+none_left : (x : Option Listing) → None ≡ count_left x → x ≡ none
+unfolding count_left
+none_left none e = refl
+none_left (some s) e = absurd (none-some (counted s) e)
+
+some_left : (x : Option Listing) (c : Program) → Some c ≡ count_left x → (s : Listing) × (x ≡ some s) × (c ≡ counted s)
+unfolding count_left
+some_left none c e = absurd (none-some c (sym e))
+some_left (some s) c e = (s, refl, same_Some c (counted s) e)
+
+module _ (h : Held) (n : ℕ) where
+  abbrev this_job : LentJob
+  this_job = lent_in h n
+
   abbrev old_lent : Lent
-  old_lent = numbers olds ot on ol
+  old_lent = numbers h.old.room h.old.text.now h.old.nodes.now h.old.links.now
 
   abbrev new_lent : Lent
-  new_lent = numbers news nt nn nl
+  new_lent = numbers h.new.room h.new.text.now h.new.nodes.now h.new.links.now
 
-  abbrev this_job : LentJob
-  this_job = lent_job j old_lent new_lent tt tests rows had
+  abbrev tests_lent : (edges : ℕ) → Option TestListing
+  tests_lent edges = suite_left edges h.tests.text.now h.tests.names.now h.tests.rows.now
 
-  pub due_stage : (r : Counts) → (j.stage ≡ 3 → ⊥) → r ≡ refused_counts 13 0 → r ≡ due_counts (goes_held this_job)
+  pub due_stage : (h.job.stage ≡ 3 → ⊥) → refused_due 13 0 ≡ due_counts (goes_held this_job)
   unfolding goes_by of_stage choose due_counts
-  due_stage r h e = e ∙ simp (ne_eqb _ _ h)
+  due_stage z = simp (ne_eqb _ _ z)
 
-  module _ (st : j.stage ≡ 3) where
-    pub due_short : (r : Counts) → had < request_scratch → r ≡ refused_counts 14 0 → r ≡ due_counts (goes_held this_job)
+  module _ (st : h.job.stage ≡ 3) where
+    pub due_short : n < request_scratch → refused_due 14 0 ≡ due_counts (goes_held this_job)
     unfolding goes_by of_stage choose due_counts
-    due_short r h e = e ∙ simp (eq-eqb _ _ st, lt-leb request_scratch had h)
+    due_short l = simp (eq-eqb _ _ st, lt-leb request_scratch n l)
 
-    module _ (room : request_scratch ≤ had) where
-      goes_held_lem : (x : Option AllRead) → held_tests j old_lent new_lent tt tests rows ≡ x → goes_held this_job ≡ after x (refused 14 0) (λ h. accepted h)
+    module _ (room : request_scratch ≤ n) where
+      goes_held_lem : (x : Option AllRead) → held_tests h.job old_lent new_lent h.tests.text.now h.tests.names.now h.tests.rows.now ≡ x → goes_held this_job ≡ after x (refused 14 0) (λ a. accepted a)
       unfolding goes_by of_stage choose
-      goes_held_lem x e = simp (eq-eqb _ _ st, le-leb request_scratch had room, e)
+      goes_held_lem x e = simp (eq-eqb _ _ st, le-leb request_scratch n room, e)
 
-      -- The first table that is not left.
-      none_old : (x : Option Listing) (c : Count) → c ≡ count_left x → (c.number ≡ 0 → ⊥) → x ≡ none
-      unfolding count_left
-      none_old none c e z = refl
-      none_old (some s) c e z = absurd (z (ap (λ (y : Count). y.number) e))
-
-      some_old : (x : Option Listing) (c : Count) → c ≡ count_left x → c.number ≡ 0 → (s : Listing) × (x ≡ some s)
-      unfolding count_left
-      some_old none c e z = absurd (let v : ⊥ = omega (arith, z, ap (λ (y : Count). y.number) e) in v)
-      some_old (some s) c e z = (s, refl)
-
-      held_none : (r : Counts) → held_tests j old_lent new_lent tt tests rows ≡ none → r ≡ refused_counts 14 0 → r ≡ due_counts (goes_held this_job)
+      held_none : held_tests h.job old_lent new_lent h.tests.text.now h.tests.names.now h.tests.rows.now ≡ none → refused_due 14 0 ≡ due_counts (goes_held this_job)
       unfolding due_counts
-      held_none r e d = d ∙ sym (ap due_counts (goes_held_lem none e))
+      held_none e = sym (ap due_counts (goes_held_lem none e))
 
-      pub due_old : (r : Counts) (c : Count) → c ≡ count_left (version_left old_lent) → (c.number ≡ 0 → ⊥) → r ≡ refused_counts 14 0 → r ≡ due_counts (goes_held this_job)
+      pub due_old : (v : Memory) → v ≡ memory h.old.text.now h.old.nodes.now h.old.links.now → None ≡ count_left (version_left (numbers h.old.room v.text v.nodes v.links))
+          → refused_due 14 0 ≡ due_counts (goes_held this_job)
       unfolding held_tests
-      due_old r c e z d = held_none r (simp (none_old (version_left old_lent) c e z)) d
+      due_old v q e =
+          held_none (simp (none_left (version_left old_lent) (subst (λ (m : Memory). None ≡ count_left (version_left (numbers h.old.room m.text m.nodes m.links))) q e)))
 
-      module _ (o : Count) (eo : o ≡ count_left (version_left old_lent)) (zo : o.number ≡ 0) where
-        pub due_new : (r : Counts) (c : Count) → c ≡ count_left (version_left new_lent) → (c.number ≡ 0 → ⊥) → r ≡ refused_counts 14 0 → r ≡ due_counts (goes_held this_job)
+      module _ (v : Memory) (q : v ≡ memory h.old.text.now h.old.nodes.now h.old.links.now) (o : Program) (e : Some o ≡ count_left (version_left (numbers h.old.room v.text v.nodes v.links))) where
+        old_is : (s : Listing) × (version_left old_lent ≡ some s) × (o ≡ counted s)
+        old_is = some_left (version_left old_lent) o (subst (λ (m : Memory). Some o ≡ count_left (version_left (numbers h.old.room m.text m.nodes m.links))) q e)
+
+        pub due_new : (v' : Memory) → v' ≡ memory h.new.text.now h.new.nodes.now h.new.links.now → None ≡ count_left (version_left (numbers h.new.room v'.text v'.nodes v'.links))
+            → refused_due 14 0 ≡ due_counts (goes_held this_job)
         unfolding held_tests
-        due_new r c e z d = let s = some_old (version_left old_lent) o eo zo in held_none r (simp (s.1, none_old (version_left new_lent) c e z)) d
+        due_new v' q' e' =
+            held_none
+            (simp (old_is.1, none_left (version_left new_lent) (subst (λ (m : Memory). None ≡ count_left (version_left (numbers h.new.room m.text m.nodes m.links))) q' e')))
 
         pub due_edges : o.edges ≤ 1024
-        due_edges = subst (λ (c : Count). c.edges ≤ 1024) (sym eo) (count_small old_lent).few_edges
+        due_edges = (count_small (numbers h.old.room v.text v.nodes v.links) o e).few_edges
 
-        module _ (p : Count) (ep : p ≡ count_left (version_left new_lent)) (zp : p.number ≡ 0) where
-          module _ (s s' : Listing) (es : version_left old_lent ≡ some s) (es' : version_left new_lent ≡ some s') where
-            due_by : (x : Option TestListing) → suite_counts j (count_left (some s)) (count_left (some s')) x
-                ≡ due_counts (after (after x none (λ l. choose (same_job j (job_tests s s' l)) (some (record { old = s; new = s'; tests = l })) none)) (refused 14 0) (λ h. accepted h))
-            unfolding suite_counts due_counts count_left job_tests counts_by
-            due_by none = refl
-            due_by (some l) = due_last s s' l (same_job j (job_tests s s' l))
-
-            due_is : (r : Counts) → r ≡ suite_counts j o p (suite_left o.edges tt tests rows) → r ≡ due_counts (goes_held this_job)
-            unfolding held_tests count_left
-            due_is r e =
-                e ∙ ap₂ (λ (a b : Count). suite_counts j a b (suite_left a.edges tt tests rows)) (eo ∙ ap count_left es) (ep ∙ ap count_left es')
-                ∙ due_by (suite_left (edge_count s.program) tt tests rows)
-                ∙ sym (ap due_counts (goes_held_lem (after (suite_left (edge_count s.program) tt tests rows) none (λ l. choose (same_job j (job_tests s s' l)) (some (record { old = s; new = s'; tests = l })) none)) (simp (es, es'))))
-
-          pub due_done : (r : Counts) → r ≡ suite_counts j o p (suite_left o.edges tt tests rows) → r ≡ due_counts (goes_held this_job)
-          due_done r e =
-              let s = some_old (version_left old_lent) o eo zo in
-              let s' = some_old (version_left new_lent) p ep zp in
-              due_is s.0 s'.0 s.1 s'.1 r e
+        pub due_done : (v' : Memory) → v' ≡ memory h.new.text.now h.new.nodes.now h.new.links.now
+            → (p : Program) → Some p ≡ count_left (version_left (numbers h.new.room v'.text v'.nodes v'.links))
+            → (r : Due) → r ≡ suite_counts h.job o p (tests_lent o.edges) → r ≡ due_counts (goes_held this_job)
+        unfolding held_tests
+        due_done v' q' p e' r er =
+            let a = old_is in
+            let b = some_left (version_left new_lent) p (subst (λ (m : Memory). Some p ≡ count_left (version_left (numbers h.new.room m.text m.nodes m.links))) q' e') in
+            er ∙ ap₂ (λ (x y : Program). suite_counts h.job x y (tests_lent x.edges)) a.2 b.2
+            ∙ due_by h.job a.0 b.0 (tests_lent (edge_count a.0.program))
+            ∙ sym (ap due_counts (goes_held_lem (after (tests_lent (edge_count a.0.program)) none (λ l. choose (same_job h.job (job_tests a.0 b.0 l)) (some (record { old = a.0; new = b.0; tests = l })) none)) (simp (a.1, b.1))))
 
 pub ruleset dues = (suite_stop, suite_goes, suite_other, due_stage, due_short, due_old, due_new, due_edges, due_done)
 
@@ -168,7 +180,7 @@ module _ (k : LentJob) (h : AllRead) (had : held k ≡ some h) where
   new_few : Sound h.new.program
   new_few = version_sound k.new h.new parts.1
 
-  pub held_few : Few (due_counts (accepted h))
+  pub held_few : Few (due_counts (accepted h)).counts
   unfolding due_counts
   held_few =
       record {
@@ -180,7 +192,7 @@ module _ (k : LentJob) (h : AllRead) (had : held k ≡ some h) where
       }
 
   pub held_ready : 2048 ≤ length k.old.nodes → 2048 ≤ length k.new.nodes
-      → Ready (memory k.old.text k.old.nodes k.old.links) (memory k.new.text k.new.nodes k.new.links) k.tests_text k.tests k.rows (due_counts (accepted h)) (given_by h)
+      → Ready (memory k.old.text k.old.nodes k.old.links) (memory k.new.text k.new.nodes k.new.links) k.tests_text k.tests k.rows (due_counts (accepted h)).counts (given_by h)
   unfolding due_counts
   held_ready a b =
       let l = suite_accepted (edge_count h.old.program) k.tests_text k.tests k.rows h.tests parts.2 in
@@ -199,26 +211,29 @@ module _ (k : LentJob) (h : AllRead) (had : held k ≡ some h) where
         new_edges_n = refl;
       }
 
-refused_counts_lem : (q p : ℕ) → due_counts (refused q p) ≡ refused_counts q p
+refused_due_lem : (q p : ℕ) → due_counts (refused q p) ≡ refused_due q p
 unfolding due_counts
-refused_counts_lem q p = refl
+refused_due_lem q p = refl
 
 accepted_number : (h : AllRead) → (due_counts (accepted h)).number ≡ 0
 unfolding due_counts
 accepted_number h = refl
 
-module _ (k : LentJob) (had : Counts) (eh : had ≡ due_counts (goes_held k)) where
-  pub due_few : Few had
+few_none : (n q : ℕ) → Few (refused_due n q).counts
+few_none n q = record { few_old_nodes = omega arith; few_old_edges = omega arith; few_new_nodes = omega arith; few_new_edges = omega arith; few_tests = omega arith }
+
+module _ (k : LentJob) (had : Due) (eh : had ≡ due_counts (goes_held k)) where
+  pub due_few : Few had.counts
   due_few =
-      due_cases k (held k) (λ n b c e. subst Few (sym (eh ∙ ap due_counts e ∙ refused_counts_lem n 0)) (few_none n 0)) (λ h e room x. subst Few (sym (eh ∙ ap due_counts e)) (held_few k h x))
+      due_cases k (held k) (λ n b c e. subst (λ (t : Due). Few t.counts) (sym (eh ∙ ap due_counts e ∙ refused_due_lem n 0)) (few_none n 0)) (λ h e room x. subst (λ (t : Due). Few t.counts) (sym (eh ∙ ap due_counts e)) (held_few k h x))
 
   due_room : had.number ≡ 0 → request_scratch ≤ k.scratch
   due_room z =
       due_cases k (held k)
-      (λ n c d e. absurd (let v : ⊥ = omega (arith, z, c, ap (λ (t : Counts). t.number) (eh ∙ ap due_counts e ∙ refused_counts_lem n 0)) in v))
+      (λ n c d e. absurd (let v : ⊥ = omega (arith, z, c, ap (λ (t : Due). t.number) (eh ∙ ap due_counts e ∙ refused_due_lem n 0)) in v))
       (λ h e room x. room)
 
-  pub due_asks : had.number ≡ 0 → (had.old_nodes ≤ 512) × (had.new_nodes ≤ 512) × (had.old_edges ≤ 1024) × (had.tests ≤ 200) × (request_scratch ≤ k.scratch)
+  pub due_asks : had.number ≡ 0 → (had.counts.old_nodes ≤ 512) × (had.counts.new_nodes ≤ 512) × (had.counts.old_edges ≤ 1024) × (had.counts.tests ≤ 200) × (request_scratch ≤ k.scratch)
   due_asks z = (due_few.few_old_nodes, due_few.few_new_nodes, due_few.few_old_edges, due_few.few_tests, due_room z)
 
   -- A refusal is the answer, whatever follows.
@@ -226,20 +241,26 @@ module _ (k : LentJob) (had : Counts) (eh : had ≡ due_counts (goes_held k)) wh
   unfolding outcome
   due_stops f z =
       due_cases k (held k)
-      (λ n b c e. ap (λ (x : Reading AllRead). outcome x f) e ∙ sym (ap (λ (t : Counts). refusal t.number t.place) (eh ∙ ap due_counts e ∙ refused_counts_lem n 0)))
-      (λ h e room x. absurd (z (ap (λ (t : Counts). t.number) (eh ∙ ap due_counts e) ∙ accepted_number h)))
+      (λ n b c e. ap (λ (x : Reading AllRead). outcome x f) e ∙ sym (ap (λ (t : Due). refusal t.number t.place) (eh ∙ ap due_counts e ∙ refused_due_lem n 0)))
+      (λ h e room x. absurd (z (ap (λ (t : Due). t.number) (eh ∙ ap due_counts e) ∙ accepted_number h)))
 
   -- Else what follows is the answer.
   due_goes : (f : AllRead → Outcome) (P : Outcome → Type 0) → had.number ≡ 0 → 2048 ≤ length k.old.nodes → 2048 ≤ length k.new.nodes
-      → ((h : AllRead) → request_scratch ≤ k.scratch → Ready (memory k.old.text k.old.nodes k.old.links) (memory k.new.text k.new.nodes k.new.links) k.tests_text k.tests k.rows had (given_by h) → P (f h))
+      → ((h : AllRead) → request_scratch ≤ k.scratch → Ready (memory k.old.text k.old.nodes k.old.links) (memory k.new.text k.new.nodes k.new.links) k.tests_text k.tests k.rows had.counts (given_by h) → P (f h))
       → P (outcome (goes_held k) f)
   unfolding outcome
   due_goes f P z a b go =
       due_cases k (held k)
-      (λ n c d e. absurd (let v : ⊥ = omega (arith, z, c, ap (λ (t : Counts). t.number) (eh ∙ ap due_counts e ∙ refused_counts_lem n 0)) in v))
+      (λ n c d e. absurd (let v : ⊥ = omega (arith, z, c, ap (λ (t : Due). t.number) (eh ∙ ap due_counts e ∙ refused_due_lem n 0)) in v))
       (λ h e room x.
-      let r = subst (λ (t : Counts). Ready (memory k.old.text k.old.nodes k.old.links) (memory k.new.text k.new.nodes k.new.links) k.tests_text k.tests k.rows t (given_by h)) (sym (eh ∙ ap due_counts e)) (held_ready k h x a b) in
+      let r = subst (λ (t : Due). Ready (memory k.old.text k.old.nodes k.old.links) (memory k.new.text k.new.nodes k.new.links) k.tests_text k.tests k.rows t.counts (given_by h)) (sym (eh ∙ ap due_counts e)) (held_ready k h x a b) in
       subst P (sym (ap (λ (x : Reading AllRead). outcome x f) e)) (go h room r))
+
+-- The counts of a suite in memory beside those of the programs.
+pub few_with : (c : Counts) (t : Tests) (text : Bytes) (names rows : List ℕ) → t ≡ tests text names rows c.tests → Few c
+    → Few (record { old_nodes = c.old_nodes; old_edges = c.old_edges; new_nodes = c.new_nodes; new_edges = c.new_edges; tests = t.count })
+few_with c t text names rows q f =
+    subst (λ (m : Tests). Few (record { old_nodes = c.old_nodes; old_edges = c.old_edges; new_nodes = c.new_nodes; new_edges = c.new_edges; tests = m.count })) (sym q) f
 
 -- A slice of the same length is as wide.
 pub wide : (asked n m : ℕ) → asked ≤ n → m ≡ n → asked ≤ m
@@ -270,17 +291,23 @@ module _ (j : Job) (olds : ℕ) (ot on ol : List ℕ) (news : ℕ) (nt nn nl tt 
 
 -- ---- `call_held`
 
-module _ (q : Asked) (k : LentJob) (had : Counts) (eh : had ≡ due_counts (goes_held k)) (input : Bytes) where
-  pub held_stop : (out : Bytes) (r : Answer) → (had.number ≡ 0 → ⊥) → r ≡ refusal_of had → HeldAnswer q k input out r out
+module _ (q : Asked) (k : LentJob) (input : Bytes) where
+  pub held_stop : (out : Bytes) (e : Refusal) → due_of (Err e) ≡ due_counts (goes_held k) → HeldAnswer q k input out (told (Err e)) out
   unfolding HeldAnswer
-  held_stop out r z er =
-      subst (λ (x : Answer). HeldAnswer q k input out x out) (sym er) (told_as (due_stops k had eh _ z) (refusal_told had.number had.place out))
+  held_stop out e eh =
+      told_as (due_stops k (due_of (Err e)) eh _ (λ z. let y : ⊥ = omega (arith, z, fault_some e.fault) in y)) (refusal_told (fault_number e.fault) e.place out)
 
-  pub held_goes : 2048 ≤ length k.old.nodes → 2048 ≤ length k.new.nodes → (w w' out out' : List ℕ) (r : Answer) → had.number ≡ 0
-      → Done w w' out out' (Served q (memory k.old.text k.old.nodes k.old.links) (memory k.new.text k.new.nodes k.new.links) k.tests_text k.tests k.rows had input out r out')
+  pub held_goes : (c : Counts) → due_of (Ok c) ≡ due_counts (goes_held k) → 2048 ≤ length k.old.nodes → 2048 ≤ length k.new.nodes
+      → (v v' : Memory) → v ≡ memory k.old.text k.old.nodes k.old.links → v' ≡ memory k.new.text k.new.nodes k.new.links → (t : Tests) → t ≡ tests k.tests_text k.tests k.rows c.tests
+      → (w w' out out' : List ℕ) (r : Answer)
+      → Done w w' out out' (Served q v v' t.text t.names t.rows (record { old_nodes = c.old_nodes; old_edges = c.old_edges; new_nodes = c.new_nodes; new_edges = c.new_edges; tests = t.count }) input out r out')
       → HeldAnswer q k input out r out'
   unfolding HeldAnswer Served
-  held_goes a b w w' out out' r z d = due_goes k had eh _ (λ x. Told x r out out') z a b (λ h room y. d.claim (given_by h) y)
+  held_goes c eh a b v v' qv qv' t qt w w' out out' r d =
+      due_goes k (due_of (Ok c)) eh _ (λ x. Told x r out out') refl a b (λ h room y. d.claim (given_by h)
+      (subst (λ (m : Memory). Ready m v' t.text t.names t.rows (record { old_nodes = c.old_nodes; old_edges = c.old_edges; new_nodes = c.new_nodes; new_edges = c.new_edges; tests = t.count }) (given_by h)) (sym qv)
+      (subst (λ (m : Memory). Ready (memory k.old.text k.old.nodes k.old.links) m t.text t.names t.rows (record { old_nodes = c.old_nodes; old_edges = c.old_edges; new_nodes = c.new_nodes; new_edges = c.new_edges; tests = t.count }) (given_by h)) (sym qv')
+      (subst (λ (m : Tests). Ready (memory k.old.text k.old.nodes k.old.links) (memory k.new.text k.new.nodes k.new.links) m.text m.names m.rows (record { old_nodes = c.old_nodes; old_edges = c.old_edges; new_nodes = c.new_nodes; new_edges = c.new_edges; tests = m.count }) (given_by h)) (sym qt) y))))
 
 -- ---- `call_in`
 
@@ -354,7 +381,7 @@ module _ (t nodes links t' nodes' links' : List ℕ) (s s' : Listing) (h : InMem
       let b : eqb (suc (suc m)) 1 ≡ false = ne_eqb (suc (suc m)) 1 (λ e. let z : ⊥ = omega arith in z) in
       simp (a, b)
 
-module _ (j : Job) (olds : ℕ) (ot on ol : List ℕ) (news : ℕ) (nt nn nl tt tests rows w : List ℕ) (eo : on ≡ unloaded 0 w) (en : nn ≡ unloaded 2048 w) (side n : ℕ) (had : Counts)
+module _ (j : Job) (olds : ℕ) (ot on ol : List ℕ) (news : ℕ) (nt nn nl tt tests rows w : List ℕ) (eo : on ≡ unloaded 0 w) (en : nn ≡ unloaded 2048 w) (side n : ℕ) (had : Due)
     (eh : had ≡ due_counts (goes_held (the_job j olds ot on ol news nt nn nl tt tests rows w eo en))) where
   abbrev label_job : LentJob
   label_job = the_job j olds ot on ol news nt nn nl tt tests rows w eo en
@@ -371,21 +398,21 @@ module _ (j : Job) (olds : ℕ) (ot on ol : List ℕ) (news : ℕ) (nt nn nl tt 
   label_stop z =
       span_loaded _ (due_cases label_job (held label_job)
       (λ m b c e. sym (ap (λ (x : Reading AllRead). span_by x label_job side n) e))
-      (λ h e room x. absurd (z (ap (λ (t : Counts). t.number) (eh ∙ ap due_counts e) ∙ accepted_number h))))
+      (λ h e room x. absurd (z (ap (λ (t : Due). t.number) (eh ∙ ap due_counts e) ∙ accepted_number h))))
 
-  counts_of : (h : AllRead) → ((due_counts (accepted h)).old_nodes ≡ node_count h.old.program) × ((due_counts (accepted h)).new_nodes ≡ node_count h.new.program)
+  counts_at : (h : AllRead) → ((due_counts (accepted h)).counts.old_nodes ≡ node_count h.old.program) × ((due_counts (accepted h)).counts.new_nodes ≡ node_count h.new.program)
   unfolding due_counts
-  counts_of h = (refl, refl)
+  counts_at h = (refl, refl)
 
-  pub label_goes : (r : Label) → had.number ≡ 0 → r ≡ label_by_side side had.old_nodes on had.new_nodes nn n → SpanIs (label_span_call (loaded_job j olds ot ol news nt nl tt tests rows w) side n) r
+  pub label_goes : (r : Label) → had.number ≡ 0 → r ≡ label_by_side side had.counts.old_nodes on had.counts.new_nodes nn n → SpanIs (label_span_call (loaded_job j olds ot ol news nt nl tt tests rows w) side n) r
   unfolding span_by
   label_goes r z er =
       span_loaded r (due_cases label_job (held label_job)
-      (λ m c d e. absurd (let v : ⊥ = omega (arith, z, c, ap (λ (t : Counts). t.number) (eh ∙ ap due_counts e ∙ refused_counts_lem m 0)) in v))
+      (λ m c d e. absurd (let v : ⊥ = omega (arith, z, c, ap (λ (t : Due). t.number) (eh ∙ ap due_counts e ∙ refused_due_lem m 0)) in v))
       (λ h e room x.
       let p = parts label_job h x in
-      let a : had.old_nodes ≡ node_count h.old.program = ap (λ (t : Counts). t.old_nodes) (eh ∙ ap due_counts e) ∙ (counts_of h).0 in
-      let b : had.new_nodes ≡ node_count h.new.program = ap (λ (t : Counts). t.new_nodes) (eh ∙ ap due_counts e) ∙ (counts_of h).1 in
+      let a : had.counts.old_nodes ≡ node_count h.old.program = ap (λ (t : Due). t.counts.old_nodes) (eh ∙ ap due_counts e) ∙ (counts_at h).0 in
+      let b : had.counts.new_nodes ≡ node_count h.new.program = ap (λ (t : Due). t.counts.new_nodes) (eh ∙ ap due_counts e) ∙ (counts_at h).1 in
       ap span_of (er ∙ ap₂ (λ (x y : ℕ). label_by_side side x on y nn n) a b)
       ∙ span_side ot on ol nt nn nl h.old h.new (version_memory label_job.old h.old p.0 (wide_old j olds ot on ol news nt nn nl tt tests rows w eo en))
       (version_memory label_job.new h.new p.1 (wide_new j olds ot on ol news nt nn nl tt tests rows w eo en)) n side

@@ -1,12 +1,15 @@
 // The calls of a job at stage 3, on values: one for every request, and one that finds a label. The scratch `w` holds the numbers of the nodes
 // before, and is zero afterwards. `label_shown` takes job and nodes out of what is lent.
-#![tactic(auto)]
+#![tactic(auto, using(crate::proofs::Laws::all, crate::proofs::Back::all))]
 
-ghost use Rattle.std.specs.Prelude.{◌≡◌, ◌≤◌, min, length, replicate};
+ghost use Rattle.std.specs.Prelude.{◌≡◌, ◌≤◌, length, replicate};
 ghost use Rattle.answer.specs.Outcomes.{Told};
+ghost use Rattle.answer.specs.Refusals.{told};
 ghost use Rattle.rules.specs.Job.{request_by};
+ghost use Rattle.reader.specs.Result.{counts_of};
 ghost use Rattle.requests.specs.Requests.{asked};
-ghost use Rattle.lent_job.specs.Held.{lent, numbers, suite_left};
+ghost use Rattle.versions.specs.Memory.{memory};
+ghost use Rattle.lent_job.specs.Held.{lent, suite_left};
 ghost use Rattle.lent_job.specs.Calls.{
   Shown,
   goes_held,
@@ -23,33 +26,90 @@ ghost use Rattle.job_calls.specs.Loaded.{
   HeldAnswer,
   SpanIs,
   due_counts,
+  due_of,
   label_by_side,
   label_of_node,
+  label_told,
+  lent_in,
   loaded_job,
   not_held,
   suite_counts,
 };
 
-use answer::Answer;
-use intake::{Counts, refused};
-use reader::Count;
+use answer::{Fault, Refusal};
+use intake::Counts;
+use job::Lent;
 use records::{Job, Node};
 use requests::Request;
-use text::{clear, copy, front, get, run};
+use suite::Suite;
+use text::{clear, copy, front, get, part};
+use versions::Program;
+use work::Loaded;
+
+// The tests as they are lent: their text, where their names stand in it, and their rows.
+#[derive(Clone, Copy)]
+pub struct Tests<'a> {
+    pub text: &'a [u8],
+    pub names: &'a [usize],
+    pub rows: &'a [u64],
+}
+
+// A version as it is lent, with the numbers of its nodes: how many records of nodes there are, and its tables.
+#[derive(Clone, Copy)]
+struct Version<'a> {
+    room: usize,
+    text: &'a [u8],
+    nodes: &'a [usize],
+    links: &'a [usize],
+}
+
+impl<'a> Version<'a> {
+    fn program(&self) -> Program<'a>
+        ensures { result ≡ memory self.now.text.now self.now.nodes.now self.now.links.now }
+    {
+        Program::new(self.text, self.nodes, self.links)
+    }
+}
+
+// What is lent to a call beside the scratch.
+#[derive(Clone, Copy)]
+struct Held<'a> {
+    job: Job,
+    old: Version<'a>,
+    new: Version<'a>,
+    tests: Tests<'a>,
+}
 
 // ---- 13 and 14
 
-// The counts, where the tables of the tests and the job are what reading leaves, else 14.
-fn suite_due(job: Job, o: Count, p: Count, tt: &[u8], tests: &[usize], rows: &[u64]) -> Counts
+// Why a call is refused whose job and tables are not what reading leaves.
+const NOT_LEFT: Refusal = Refusal {
+    fault: Fault::LentMemoryWrong,
+    place: 0,
+};
+
+// The counts, where the tables of the tests and the job are what reading leaves.
+fn suite_due(
+    job: Job,
+    o: reader::Counts,
+    p: reader::Counts,
+    tests: &Tests,
+) -> Result<Counts, Refusal>
     requires { o.edges ≤ 1024 }
-    ensures { result ≡ suite_counts job o p (suite_left o.edges tt.now tests.now rows.now) }
+    ensures { due_of result ≡ suite_counts job o p (suite_left o.edges tests.now.text.now tests.now.names.now tests.now.rows.now) }
 {
     let mut names = [0usize; 400];
     let mut words = [0u64; 3200];
-    let t = held::suite_left(tt, o.edges, tests, rows, &mut names, &mut words);
-    if t.number != 0 {
-        return refused(14, 0);
-    }
+    let Some(count) = held::suite_left(
+        tests.text,
+        o.edges,
+        tests.names,
+        tests.rows,
+        &mut names,
+        &mut words,
+    ) else {
+        return Err(NOT_LEFT);
+    };
     let left = Job {
         stage: 3,
         old_procs: o.procs,
@@ -58,56 +118,41 @@ fn suite_due(job: Job, o: Count, p: Count, tt: &[u8], tests: &[usize], rows: &[u
         new_procs: p.procs,
         new_nodes: p.nodes,
         new_edges: p.edges,
-        tests: t.count,
+        tests: count,
     };
-    if records::same_job(job, left) {
-        return Counts {
-            number: 0,
-            place: 0,
-            old_nodes: o.nodes,
-            old_edges: o.edges,
-            new_nodes: p.nodes,
-            new_edges: p.edges,
-            tests: t.count,
-        };
+    if !records::same_job(job, left) {
+        return Err(NOT_LEFT);
     }
-    refused(14, 0)
+    Ok(Counts {
+        old_nodes: o.nodes,
+        old_edges: o.edges,
+        new_nodes: p.nodes,
+        new_edges: p.edges,
+        tests: count,
+    })
 }
 
-// 13, 14, or the counts of what job and tables hold. The texts of the programs are read again in the scratch, one after the other. What it
-// holds afterwards is left open.
-fn due(
-    job: Job,
-    oldroom: usize,
-    ot: &[u8],
-    on: &[usize],
-    ol: &[usize],
-    newroom: usize,
-    nt: &[u8],
-    nn: &[usize],
-    nl: &[usize],
-    tt: &[u8],
-    tests: &[usize],
-    rows: &[u64],
-    w: &mut [usize],
-) -> Counts
-    ensures { result ≡ due_counts (goes_held (lent_job job (numbers oldroom ot.now on.now ol.now) (numbers newroom nt.now nn.now nl.now) tt.now tests.now rows.now (length w.old))) }
+// The counts of what job and tables hold, or why there are none. The texts of the programs are read again in the scratch, one after the other.
+// What it holds afterwards is left open.
+fn due(held: &Held, w: &mut [usize]) -> Result<Counts, Refusal>
+    ensures { due_of result ≡ due_counts (goes_held (lent_in held.now (length w.old))) }
 {
-    if job.stage != 3 {
-        return refused(13, 0);
+    if held.job.stage != 3 {
+        return Err(Refusal {
+            fault: Fault::WrongStage,
+            place: 0,
+        });
     }
     if w.len() < 16912 {
-        return refused(14, 0);
+        return Err(NOT_LEFT);
     }
-    let o = held::version_left(oldroom, ot, on, ol, w);
-    if o.number != 0 {
-        return refused(14, 0);
-    }
-    let p = held::version_left(newroom, nt, nn, nl, w);
-    if p.number != 0 {
-        return refused(14, 0);
-    }
-    suite_due(job, o, p, tt, tests, rows)
+    let Some(o) = held::version_left(held.old.room, &held.old.program(), w) else {
+        return Err(NOT_LEFT);
+    };
+    let Some(p) = held::version_left(held.new.room, &held.new.program(), w) else {
+        return Err(NOT_LEFT);
+    };
+    suite_due(held.job, o, p, &held.tests)
 }
 
 // ---- requests
@@ -117,143 +162,107 @@ fn takes_parts(request: Request) -> bool
     ensures { result ≡ takes_parts (asked request) }
 {
     match request {
-        Request::Sheet => {
-            return false;
-        }
-        Request::Record(i) => {
-            return false;
-        }
-        Request::Check => {
-            return false;
-        }
-        Request::Label(side, node) => {
-            return false;
-        }
-        Request::Program(side) => {
-            return true;
-        }
-        Request::Probes => {
-            return false;
-        }
-        Request::Unknown => {
-            return false;
-        }
+        Request::Program(_) => true,
+        _ => false,
     }
 }
 
 // Does what is asked, where job and tables are what reading these texts leaves; the scratch is then the table of the pairs. What it holds
 // afterwards is left open.
 fn call_held(
-    job: Job,
-    oldroom: usize,
-    newroom: usize,
-    ot: &[u8],
-    on: &[usize],
-    ol: &[usize],
-    nt: &[u8],
-    nn: &[usize],
-    nl: &[usize],
-    tt: &[u8],
-    tests: &[usize],
-    rows: &[u64],
+    held: &Held,
     request: Request,
     input: &[u8],
     w: &mut [usize],
     out: &mut [u8],
-) -> Answer
-    requires { (2048 ≤ length on.now) × (2048 ≤ length nn.now) }
-    ensures { HeldAnswer (asked request) (lent_job job (numbers oldroom ot.now on.now ol.now) (numbers newroom nt.now nn.now nl.now) tt.now tests.now rows.now (length w.old)) input.now out.old result out.new }
+) -> Result<usize, Refusal>
+    requires { (2048 ≤ length held.now.old.nodes.now) × (2048 ≤ length held.now.new.nodes.now) }
+    ensures { HeldAnswer (asked request) (lent_in held.now (length w.old)) input.now out.old (told result) out.new }
 {
-    let had = due(
-        job, oldroom, ot, on, ol, newroom, nt, nn, nl, tt, tests, rows, w,
+    let had = due(held, w)?;
+    let old = held.old.program();
+    let new = held.new.program();
+    let suite = Suite::new(
+        held.tests.text,
+        held.tests.names,
+        held.tests.rows,
+        had.tests,
     );
-    if had.number != 0 {
-        return requests::unread(had);
-    }
-    requests::serve(
-        ot, on, ol, nt, nn, nl, tt, tests, rows, had, request, input, w, out,
-    )
-}
-
-// The lesser of the two.
-fn least(a: usize, b: usize) -> usize
-    ensures { result ≡ min a b }
-{
-    if a < b {
-        return a;
-    }
-    b
+    let job = Loaded {
+        old: &old,
+        new: &new,
+        suite: &suite,
+        old_nodes: had.old_nodes,
+        old_edges: had.old_edges,
+        new_nodes: had.new_nodes,
+        new_edges: had.new_edges,
+    };
+    requests::serve(&job, request, input, w, out)
 }
 
 // The counts that a job says of a version, each at most its limit.
-fn limit(procs: usize, nodes: usize, edges: usize) -> Count
-    ensures { result ≡ limited procs nodes edges }
+fn limit(procs: usize, nodes: usize, edges: usize) -> reader::Counts
+    ensures { counts_of result ≡ limited procs nodes edges }
 {
-    Count {
-        number: 0,
-        place: 0,
-        procs: least(procs, 64),
-        nodes: least(nodes, 512),
-        edges: least(edges, 1024),
+    reader::Counts {
+        procs: procs.min(64),
+        nodes: nodes.min(512),
+        edges: edges.min(1024),
     }
 }
 
-// The answer where job and tables are not what reading leaves: 13 at another stage, else 14.
-fn not_held(job: Job) -> Answer
-    ensures { result ≡ not_held job }
+// Why a job is refused whose tables are not what reading leaves, by its stage first.
+fn not_held(job: Job) -> Result<usize, Refusal>
+    ensures { told result ≡ not_held job }
 {
     if job.stage != 3 {
-        return Answer {
-            number: 13,
+        return Err(Refusal {
+            fault: Fault::WrongStage,
             place: 0,
-        };
+        });
     }
-    Answer {
-        number: 14,
-        place: 0,
-    }
+    Err(NOT_LEFT)
 }
 
 // Does what is asked, of the texts that the tables write back, where those lent have the same names, labels, callees and words.
 fn call_back(
-    job: Job,
-    oldroom: usize,
-    newroom: usize,
-    ot: &[u8],
-    on: &[usize],
-    ol: &[usize],
-    nt: &[u8],
-    nn: &[usize],
-    nl: &[usize],
-    tt: &[u8],
-    tests: &[usize],
-    rows: &[u64],
+    held: &Held,
     request: Request,
     input: &[u8],
     w: &mut [usize],
     out: &mut [u8],
-) -> Answer
-    requires { (2048 ≤ length on.now) × (2048 ≤ length nn.now) }
-    ensures { BackAnswer (asked request) (lent_job job (numbers oldroom ot.now on.now ol.now) (numbers newroom nt.now nn.now nl.now) tt.now tests.now rows.now (length w.old)) input.now out.old result out.new }
+) -> Result<usize, Refusal>
+    requires { (2048 ≤ length held.now.old.nodes.now) × (2048 ≤ length held.now.new.nodes.now) }
+    ensures { BackAnswer (asked request) (lent_in held.now (length w.old)) input.now out.old (told result) out.new }
 {
+    let job = held.job;
     let mut old = [0u8; 65536];
     let mut new = [0u8; 65536];
     let o = limit(job.old_procs, job.old_nodes, job.old_edges);
     let p = limit(job.new_procs, job.new_nodes, job.new_edges);
-    let a = writeback::write_program(ot, on, ol, o, &mut old);
-    let b = writeback::write_program(nt, nn, nl, p, &mut new);
+    let a = writeback::write_program(&held.old.program(), o, &mut old);
+    let b = writeback::write_program(&held.new.program(), p, &mut new);
     let oback = front(&old, a);
     let nback = front(&new, b);
-    if writeback::same_parts(ot, oback, on, ol, o) {
-        if writeback::same_parts(nt, nback, nn, nl, p) {
-            return call_held(
-                job, oldroom, newroom, oback, on, ol, nback, nn, nl, tt, tests, rows, request,
-                input, w, out,
-            );
-        }
+    if !writeback::same_parts(&held.old.program(), oback, o) {
         return not_held(job);
     }
-    not_held(job)
+    if !writeback::same_parts(&held.new.program(), nback, p) {
+        return not_held(job);
+    }
+    let back = Held {
+        job,
+        old: Version {
+            text: oback,
+            ..held.old
+        },
+        new: Version {
+            text: nback,
+            ..held.new
+        },
+        tests: held.tests,
+    };
+    call_held(&back, request, input, w, out)
 }
 
 // Does what is asked, by the lent texts as they are or by what is to be taken of them. `call_back` is called at two places, for a short output
@@ -261,138 +270,145 @@ fn call_back(
 // the two texts would stand in the frame of every request (docs/MEMORY.md).
 fn call_in(
     job: Job,
-    oldroom: usize,
-    newroom: usize,
-    ot: &[u8],
-    ol: &[usize],
-    nt: &[u8],
-    nl: &[usize],
-    tt: &[u8],
-    tests: &[usize],
-    rows: &[u64],
+    old: &Lent,
+    new: &Lent,
+    tests: &Tests,
     request: Request,
     input: &[u8],
     w: &mut [usize],
     out: &mut [u8],
-) -> Answer
-    ensures { Told (lent_call (asked request) (loaded_job job oldroom ot.now ol.now newroom nt.now nl.now tt.now tests.now rows.now w.old) input.now (length out.old)) result out.old out.new }
+) -> Result<usize, Refusal>
+    ensures { Told (lent_call (asked request) (loaded_job job old.now.room old.now.text.now old.now.links.now new.now.room new.now.text.now new.now.links.now tests.now.text.now tests.now.names.now tests.now.rows.now w.old) input.now (length out.old)) (told result) out.old out.new }
 {
     let mut on = [0usize; 2048];
     let mut nn = [0usize; 2048];
-    copy(&mut on, 0, run(w, 0, 2048));
-    copy(&mut nn, 0, run(w, 2048, 2048));
+    copy(&mut on, 0, part(w, 0, 2048));
+    copy(&mut nn, 0, part(w, 2048, 2048));
+    let held = Held {
+        job,
+        old: Version {
+            room: old.room,
+            text: old.text,
+            nodes: &on,
+            links: old.links,
+        },
+        new: Version {
+            room: new.room,
+            text: new.text,
+            nodes: &nn,
+            links: new.links,
+        },
+        tests: *tests,
+    };
     if takes_parts(request) {
         if out.len() < 65536 {
-            return call_back(
-                job, oldroom, newroom, ot, &on, ol, nt, &nn, nl, tt, tests, rows, request, input,
-                w, out,
-            );
+            return call_back(&held, request, input, w, out);
         }
-        return call_back(
-            job, oldroom, newroom, ot, &on, ol, nt, &nn, nl, tt, tests, rows, request, input, w,
-            out,
-        );
+        return call_back(&held, request, input, w, out);
     }
-    call_held(
-        job, oldroom, newroom, ot, &on, ol, nt, &nn, nl, tt, tests, rows, request, input, w, out,
-    )
+    call_held(&held, request, input, w, out)
 }
 
 // Does what is asked, by the number of the request and two numbers that it may use; `input` is the text that it comes with.
 pub fn call_on(
     job: Job,
-    oldroom: usize,
-    newroom: usize,
-    ot: &[u8],
-    ol: &[usize],
-    nt: &[u8],
-    nl: &[usize],
-    tt: &[u8],
-    tests: &[usize],
-    rows: &[u64],
+    old: &Lent,
+    new: &Lent,
+    tests: &Tests,
     number: usize,
     a: usize,
     b: usize,
     input: &[u8],
     w: &mut [usize],
     out: &mut [u8],
-) -> Answer
-    ensures { CalledOn (lent_call (request_by number a b) (loaded_job job oldroom ot.now ol.now newroom nt.now nl.now tt.now tests.now rows.now w.old) input.now (length out.old)) result w.old w.new out.old out.new }
+) -> Result<usize, Refusal>
+    ensures { CalledOn (lent_call (request_by number a b) (loaded_job job old.now.room old.now.text.now old.now.links.now new.now.room new.now.text.now new.now.links.now tests.now.text.now tests.now.names.now tests.now.rows.now w.old) input.now (length out.old)) (told result) w.old w.new out.old out.new }
 {
     let request = requests::by_number(number, a, b);
-    let answer = call_in(
-        job, oldroom, newroom, ot, ol, nt, nl, tt, tests, rows, request, input, w, out,
-    );
+    let answer = call_in(job, old, new, tests, request, input, w, out);
     clear(w);
     answer
 }
 
 // ---- labels
 
-// Where a label stands in its text: 0 and 0 when refused.
-#[derive(Clone, Copy)]
+// Where a label stands in its text.
+#[derive(Clone, Copy, Debug, PartialEq, Eq)]
 pub struct Label {
     pub start: usize,
     pub len: usize,
 }
 
 // The label of a node of a version that has so many.
-fn label_at(count: usize, nodes: &[usize], node: usize) -> Label
+fn label_at(count: usize, nodes: &[usize], node: usize) -> Option<Label>
     requires { count ≤ 512 }
-    ensures { result ≡ label_of_node count nodes.now node }
+    ensures { label_told result ≡ label_of_node count nodes.now node }
 {
     if count <= node {
-        return Label { start: 0, len: 0 };
+        return None;
     }
     let start = get(nodes, 4 * node + 1);
     let len = get(nodes, 4 * node + 2);
-    Label { start, len }
+    Some(Label { start, len })
 }
 
 // The label of a node of the version of a side: 0 the old one, 1 the new one.
-fn label_of(side: usize, olds: usize, on: &[usize], news: usize, nn: &[usize], node: usize) -> Label
+fn label_of(
+    side: usize,
+    olds: usize,
+    on: &[usize],
+    news: usize,
+    nn: &[usize],
+    node: usize,
+) -> Option<Label>
     requires { (olds ≤ 512) × (news ≤ 512) }
-    ensures { result ≡ label_by_side side olds on.now news nn.now node }
+    ensures { label_told result ≡ label_by_side side olds on.now news nn.now node }
 {
-    if side == 0 {
-        return label_at(olds, on, node);
+    match side {
+        0 => label_at(olds, on, node),
+        1 => label_at(news, nn, node),
+        _ => None,
     }
-    if side == 1 {
-        return label_at(news, nn, node);
-    }
-    Label { start: 0, len: 0 }
 }
 
-// Finds a label, by side and node number. The two texts have one lifetime, since those that `label_shown` hands on do.
-pub fn label_on<'a>(
+// Finds a label, by side and node number: none when refused.
+pub fn label_on(
     job: Job,
-    oldroom: usize,
-    newroom: usize,
-    ot: &'a [u8],
-    ol: &[usize],
-    nt: &'a [u8],
-    nl: &[usize],
-    tt: &[u8],
-    tests: &[usize],
-    rows: &[u64],
+    old: &Lent,
+    new: &Lent,
+    tests: &Tests,
     side: usize,
     node: usize,
     w: &mut [usize],
-) -> Label
-    ensures { SpanIs (label_span_call (loaded_job job oldroom ot.now ol.now newroom nt.now nl.now tt.now tests.now rows.now w.old) side node) result × (w.new ≡ replicate (length w.old) 0) }
+) -> Option<Label>
+    ensures { SpanIs (label_span_call (loaded_job job old.now.room old.now.text.now old.now.links.now new.now.room new.now.text.now new.now.links.now tests.now.text.now tests.now.names.now tests.now.rows.now w.old) side node) (label_told result) × (w.new ≡ replicate (length w.old) 0) }
 {
     let mut on = [0usize; 2048];
     let mut nn = [0usize; 2048];
-    copy(&mut on, 0, run(w, 0, 2048));
-    copy(&mut nn, 0, run(w, 2048, 2048));
-    let had = due(
-        job, oldroom, ot, &on, ol, newroom, nt, &nn, nl, tt, tests, rows, w,
-    );
+    copy(&mut on, 0, part(w, 0, 2048));
+    copy(&mut nn, 0, part(w, 2048, 2048));
+    let held = Held {
+        job,
+        old: Version {
+            room: old.room,
+            text: old.text,
+            nodes: &on,
+            links: old.links,
+        },
+        new: Version {
+            room: new.room,
+            text: new.text,
+            nodes: &nn,
+            links: new.links,
+        },
+        tests: *tests,
+    };
+    let due = due(&held, w);
     clear(w);
-    if had.number != 0 {
-        return Label { start: 0, len: 0 };
+    match due {
+        Ok(had) => label_of(side, had.old_nodes, &on, had.new_nodes, &nn, node),
+        Err(_) => None,
     }
-    label_of(side, had.old_nodes, &on, had.new_nodes, &nn, node)
 }
 
 // The part of the old text (side 0) or of the new one (side 1) that holds the label of a node: no bytes when refused.
@@ -414,20 +430,22 @@ pub fn label_shown<'a>(
     ensures { Shown (label_part_call (lent_job job.old (lent ot.now on.now ol.now) (lent nt.now nn.now nl.now) tt.now tests.now rows.now (length scratch.old)) side node) result.now job.old job.new scratch.old scratch.new }
 {
     records::load_both(on, nn, scratch);
-    let found = label_on(
-        *job,
-        on.len(),
-        nn.len(),
-        ot,
-        ol,
-        nt,
-        nl,
-        tt,
-        tests,
+    let old = Lent {
+        room: on.len(),
+        text: ot,
+        links: ol,
+    };
+    let new = Lent {
+        room: nn.len(),
+        text: nt,
+        links: nl,
+    };
+    let tests = Tests {
+        text: tt,
+        names: tests,
         rows,
-        side,
-        node,
-        scratch,
-    );
-    records::shown_part(ot, nt, side, found.start, found.len)
+    };
+    let nowhere = Label { start: 0, len: 0 };
+    let label = label_on(*job, &old, &new, &tests, side, node, scratch).unwrap_or(nowhere);
+    records::shown_part(ot, nt, side, label.start, label.len)
 }

@@ -10,6 +10,28 @@
 use std::io;
 use std::io::{Read, Write};
 
+// The texts of a job.
+#[derive(Clone, Copy)]
+struct Texts<'a> {
+    old: &'a [u8],
+    new: &'a [u8],
+    tests: &'a [u8],
+}
+
+impl<'a> Texts<'a> {
+    fn sheet(&self, out: &mut [u8]) -> u64 {
+        rivetyellow::ry_sheet(self.old, self.new, self.tests, out)
+    }
+
+    fn record(&self, i: usize, out: &mut [u8]) -> u64 {
+        rivetyellow::ry_record(self.old, self.new, self.tests, i, out)
+    }
+
+    fn check(&self, sheet: &[u8]) -> u64 {
+        rivetyellow::ry_check(self.old, self.new, self.tests, sheet)
+    }
+}
+
 // The number and the place of an answer.
 fn number_of(answer: u64) -> usize {
     (answer / 4294967296) as usize
@@ -20,15 +42,8 @@ fn place_of(answer: u64) -> usize {
 }
 
 // Prints the record line of the test i, and says whether there is one.
-fn one_record<W: Write>(
-    to: &mut W,
-    old: &[u8],
-    new: &[u8],
-    tests: &[u8],
-    i: usize,
-    out: &mut [u8],
-) -> io::Result<bool> {
-    let answer = rivetyellow::ry_record(old, new, tests, i, out);
+fn one_record<W: Write>(to: &mut W, job: &Texts, i: usize, out: &mut [u8]) -> io::Result<bool> {
+    let answer = job.record(i, out);
     if number_of(answer) != 0 {
         return Ok(false);
     }
@@ -37,26 +52,13 @@ fn one_record<W: Write>(
 }
 
 // Prints the record lines of all tests. There are no more than 200.
-fn all_records<W: Write>(
-    to: &mut W,
-    old: &[u8],
-    new: &[u8],
-    tests: &[u8],
-    out: &mut [u8],
-) -> io::Result<()> {
+fn all_records<W: Write>(to: &mut W, job: &Texts, out: &mut [u8]) -> io::Result<()> {
     for i in 0..201 {
-        if !one_record(to, old, new, tests, i, out)? {
+        if !one_record(to, job, i, out)? {
             return Ok(());
         }
     }
     Ok(())
-}
-
-// Makes every byte 170.
-fn fill_out(out: &mut [u8]) {
-    for b in out.iter_mut() {
-        *b = 170;
-    }
 }
 
 fn print_room<W: Write>(to: &mut W, word: &[u8], answer: u64, is_kept: bool) -> io::Result<()> {
@@ -72,9 +74,7 @@ fn print_room<W: Write>(to: &mut W, word: &[u8], answer: u64, is_kept: bool) -> 
 // What is answered for an output of n bytes, and whether the bytes of `out` from the place on stay.
 fn one_room<W: Write>(
     to: &mut W,
-    old: &[u8],
-    new: &[u8],
-    tests: &[u8],
+    job: &Texts,
     out: &mut [u8],
     n: usize,
     from: usize,
@@ -83,56 +83,37 @@ fn one_room<W: Write>(
     if out.len() < n {
         return Ok(());
     }
-    fill_out(out);
-    let answer = rivetyellow::ry_sheet(old, new, tests, &mut out[..n]);
+    out.fill(170);
+    let answer = job.sheet(&mut out[..n]);
     print_room(to, word, answer, files::untouched(out, from))
 }
 
 // The same for one byte short of the n that were written, and for n.
-fn rooms<W: Write>(
-    to: &mut W,
-    old: &[u8],
-    new: &[u8],
-    tests: &[u8],
-    out: &mut [u8],
-    n: usize,
-) -> io::Result<()> {
+fn rooms<W: Write>(to: &mut W, job: &Texts, out: &mut [u8], n: usize) -> io::Result<()> {
     if n == 0 {
         return Ok(());
     }
-    one_room(to, old, new, tests, out, n - 1, 0, b"short")?;
-    one_room(to, old, new, tests, out, n, n, b"exact")
+    one_room(to, job, out, n - 1, 0, b"short")?;
+    one_room(to, job, out, n, n, b"exact")
 }
 
 // Prints all that the selector writes for the texts, or its refusal.
-fn selection<W: Write>(
-    to: &mut W,
-    old: &[u8],
-    new: &[u8],
-    tests: &[u8],
-    out: &mut [u8],
-) -> io::Result<()> {
-    let answer = rivetyellow::ry_sheet(old, new, tests, out);
+fn selection<W: Write>(to: &mut W, job: &Texts, out: &mut [u8]) -> io::Result<()> {
+    let answer = job.sheet(out);
     let number = number_of(answer);
     let place = place_of(answer);
     if number != 0 {
         return files::print_answer(to, b"refused", number, place);
     }
     to.write_all(text::front(out, place))?;
-    all_records(to, old, new, tests, out)?;
-    rooms(to, old, new, tests, out, place)
+    all_records(to, job, out)?;
+    rooms(to, job, out, place)
 }
 
-fn whole_case<W: Write>(
-    to: &mut W,
-    old: &[u8],
-    new: &[u8],
-    tests: &[u8],
-    sheet: &[u8],
-) -> io::Result<()> {
+fn whole_case<W: Write>(to: &mut W, job: &Texts, sheet: &[u8]) -> io::Result<()> {
     let mut out = [0u8; 65536];
-    selection(to, old, new, tests, &mut out)?;
-    let answer = rivetyellow::ry_check(old, new, tests, sheet);
+    selection(to, job, &mut out)?;
+    let answer = job.check(sheet);
     files::print_answer(to, b"check", number_of(answer), place_of(answer))
 }
 
@@ -142,7 +123,7 @@ fn length_of(head: &[u8], k: usize) -> usize {
 }
 
 // Each buffer has one byte more than a text may have.
-fn texts<R: Read, W: Write>(cases: &mut R, to: &mut W, head: &[u8]) -> io::Result<()> {
+fn read_case<R: Read, W: Write>(cases: &mut R, to: &mut W, head: &[u8]) -> io::Result<()> {
     let mut old = [0u8; 65537];
     let mut new = [0u8; 65537];
     let mut tests = [0u8; 65537];
@@ -151,13 +132,12 @@ fn texts<R: Read, W: Write>(cases: &mut R, to: &mut W, head: &[u8]) -> io::Resul
     let n = files::fill(cases, &mut new, length_of(head, 1))?;
     let t = files::fill(cases, &mut tests, length_of(head, 2))?;
     let s = files::fill(cases, &mut sheet, length_of(head, 3))?;
-    whole_case(
-        to,
-        text::front(&old, o),
-        text::front(&new, n),
-        text::front(&tests, t),
-        text::front(&sheet, s),
-    )
+    let job = Texts {
+        old: text::front(&old, o),
+        new: text::front(&new, n),
+        tests: text::front(&tests, t),
+    };
+    whole_case(to, &job, text::front(&sheet, s))
 }
 
 // The next case, and whether there was one.
@@ -170,7 +150,7 @@ fn one_case<R: Read, W: Write>(cases: &mut R, to: &mut W) -> io::Result<bool> {
     to.write_all(b"case,")?;
     to.write_all(files::field(&head, b' ', 4))?;
     to.write_all(b"\n")?;
-    texts(cases, to, &head)?;
+    read_case(cases, to, &head)?;
     Ok(true)
 }
 

@@ -13,8 +13,7 @@ use Rattle.rules.specs.Graph.{node_count}
 use Rattle.rules.specs.ProgramFile.{Listing, read_listing, read_program}
 use Rattle.rules.specs.Job.{of_stage, outcome, read_old_answer, success}
 use Rattle.graph.specs.Table.{node_row, nodes_after}
-use Rattle.reader.specs.declared.Count.{Count}
-use Rattle.reader.specs.Result.{InTable}
+use Rattle.reader.specs.Result.{Count, InTable}
 use Rattle.records.specs.declared.Node.{Node}
 use Rattle.records.specs.Jobs.{fresh, job_self}
 use Rattle.records.specs.Nodes.{flat, node_at, nodes_of}

@@ -6,7 +6,7 @@ use Rattle.rules.specs.Text.{Bytes, Reading, refused, accepted, max_bytes, max_e
 use Rattle.rules.specs.ProgramFile.{Listing}
 use Rattle.rules.specs.Job.{Given, Outcome, Request, Span, Version, check_sheet, given_of, label_shown, call_request, no_request, nowhere, of_stage, outcome, output_after, packed, packed_span, serving, show_label, span_shown, write_probes, write_back, write_record, write_sheet}
 use Rattle.rules.specs.WriteBack.{other_alone}
-use Rattle.reader.specs.declared.Count.{Count}
+use Rattle.reader.specs.Result.{Count}
 use Rattle.writeback.specs.Back.{back_text}
 use Rattle.records.specs.declared.Job.{Job}
 use Rattle.lent_job.specs.Held.{AllRead, Lent, held_tests, numbers}

@@ -7,7 +7,7 @@ use Rattle.rules.specs.Graph.{proc_count, node_count, edge_count}
 use Rattle.rules.specs.ProgramFile.{Listing, read_listing}
 use Rattle.rules.specs.SuiteFile.{TestListing, read_tests, test_count}
 use Rattle.rules.specs.Job.{call_old, call_new, call_tests, stage_after}
-use Rattle.reader.specs.declared.Count.{Count}
+use Rattle.reader.specs.declared.Counts.{Counts}
 use Rattle.program.specs.Lent.{is_left}
 use Rattle.lent_tests.specs.Lent.{is_left as tests_left}
 use Rattle.records.specs.declared.Job.{Job}
@@ -59,14 +59,14 @@ suite_left m text tests rows = tests_by (read_tests m text) tests rows
 -- ---- the jobs that reading leaves
 
 -- The counts of a program that was read, and those before it is read.
-abbrev pub counted : Listing → Count
-counted s = record { number = 0; place = 0; procs = proc_count s.program; nodes = node_count s.program; edges = edge_count s.program }
+abbrev pub counted : Listing → Counts
+counted s = record { procs = proc_count s.program; nodes = node_count s.program; edges = edge_count s.program }
 
-abbrev pub uncounted : Count
-uncounted = record { number = 0; place = 0; procs = 0; nodes = 0; edges = 0 }
+abbrev pub uncounted : Counts
+uncounted = record { procs = 0; nodes = 0; edges = 0 }
 
 -- The job at a stage, by the counts of the old program and of the new one and the number of tests.
-abbrev pub job_at : ℕ → Count → Count → ℕ → Job
+abbrev pub job_at : ℕ → Counts → Counts → ℕ → Job
 job_at stage o p n =
     record {
       stage = stage;

@@ -4,7 +4,7 @@ use Rattle.laws.specs.Tests.{after, choose}
 use Rattle.rules.specs.Text.{Bytes, Reading, refused, accepted}
 use Rattle.rules.specs.ProgramFile.{Listing}
 use Rattle.rules.specs.Job.{of_stage, call_new, stage_after}
-use Rattle.reader.specs.declared.Count.{Count}
+use Rattle.reader.specs.declared.Counts.{Counts}
 use Rattle.records.specs.declared.Job.{Job}
 use Rattle.records.specs.declared.Node.{Node}
 use Rattle.lent_job.specs.Held.{Lent, counted, held_old, job_at}
@@ -23,10 +23,10 @@ abbrev pub new_read : Job → Lent → ℕ → ℕ → ℕ → Bytes → Reading
 new_read j v nodes links work text = program_read (new_due j v nodes links work) text
 
 -- The job afterwards: what it said of the old program, with the counts of the new one.
-abbrev pub old_counts : Job → Count
-old_counts j = record { number = 0; place = 0; procs = j.old_procs; nodes = j.old_nodes; edges = j.old_edges }
+abbrev pub old_counts : Job → Counts
+old_counts j = record { procs = j.old_procs; nodes = j.old_nodes; edges = j.old_edges }
 
-unfoldable pub with_new : Job → Count → Job
+unfoldable pub with_new : Job → Counts → Job
 with_new j c = job_at (stage_after call_new) (old_counts j) c 0
 
 unfoldable pub new_job : Job → Reading Listing → Job

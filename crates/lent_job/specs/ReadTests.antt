@@ -4,7 +4,7 @@ use Rattle.laws.specs.Tests.{after, choose}
 use Rattle.rules.specs.Text.{Bytes, Reading, refused, accepted}
 use Rattle.rules.specs.SuiteFile.{TestListing, read_tests, test_count}
 use Rattle.rules.specs.Job.{of_stage, packed, call_tests, stage_after}
-use Rattle.reader.specs.declared.Count.{Count}
+use Rattle.reader.specs.declared.Counts.{Counts}
 use Rattle.lent_tests.specs.Lent.{tests_after, rows_after}
 use Rattle.records.specs.declared.Job.{Job}
 use Rattle.lent_job.specs.Held.{Lent, held_new, job_at}
@@ -31,8 +31,8 @@ tests_read j v v' tests rows work text = suite_read (tests_due j v v' tests rows
 -- ---- what it leaves
 
 -- The job afterwards.
-abbrev pub new_counts : Job → Count
-new_counts j = record { number = 0; place = 0; procs = j.new_procs; nodes = j.new_nodes; edges = j.new_edges }
+abbrev pub new_counts : Job → Counts
+new_counts j = record { procs = j.new_procs; nodes = j.new_nodes; edges = j.new_edges }
 
 unfoldable pub with_tests : Job → ℕ → Job
 with_tests j count = job_at (stage_after call_tests) (old_counts j) (new_counts j) count

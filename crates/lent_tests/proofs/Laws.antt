@@ -2,19 +2,27 @@
 use mathlib.Core.Path.{◌≡◌, refl, sym, ap, ap₂, ◌∙◌, subst}
 use mathlib.Core.Bool.{Bool, true, false}
 use mathlib.Core.List.{List}
+use Rattle.text.specs.Runs.{numbers_same}
+use Rattle.std.specs.Prelude.{nat_eq, Option, Result, Ok, Err, None, Some, IfSome}
+use Rattle.std.specs.Result.{result_ok}
+use Rattle.std.proofs.lemmas.Option.{same_Some}
+use Rattle.std.specs.Bool.{then_some}
 use Prim.Native.Nat.{ℕ, zero, suc, ◌+◌, ◌*◌, ◌≤◌, ◌<◌}
 use native.Mathlib.Omega.{arith}
 use lib.ListN.{length, get_or, take}
+use lib.Pointwise.{pointwise}
 use lib.Seq.{sets}
 use Rattle.laws.specs.Tests.{◌and◌, choose}
 use Rattle.laws.specs.Tables.{rows, rows_window}
 use Rattle.laws.specs.Bits.{words_length}
 use Rattle.rules.specs.Text.{same, Reading, refused, accepted}
 use Rattle.rules.specs.SuiteFile.{TestListing, coverage_at, read_tests}
-use Rattle.suite.specs.declared.Read.{Read}
+use Rattle.answer.specs.declared.Refusal.{Refusal}
+use Rattle.answer.specs.Refusals.{fault_some}
+use Rattle.suite.specs.Reads.{read_of}
 use Rattle.suite.specs.Tables.{Holds}
 use Rattle.suite.specs.Reading.{After, Reads, TestsRead}
-use Rattle.lent_tests.specs.Lent.{test_row, coverage_row, tests_after, rows_after, copied_tests, copied_rows, Leaves, ReadLent, is_left, left_number, left_count, TestsLeft}
+use Rattle.lent_tests.specs.Lent.{test_row, coverage_row, tests_after, rows_after, copied_tests, copied_rows, Leaves, ReadLent, is_left, tests_found, TestsLeft}
 
 -- ---- what is copied
 
@@ -49,73 +57,100 @@ pub rows_copy : (words r w w' : List ℕ) (n : ℕ) → r ≡ take (16 * n) word
 unfolding copied_rows
 rows_copy words r w w' n e q = q ∙ ap (sets w 0) e
 
-pub tests_same : (work v t : List ℕ) (n : ℕ) (r : Bool) → v ≡ take (2 * n) work → r ≡ same (sets t 0 v) t → r ≡ same (copied_tests work n t) t
+pub tests_same : (work v t : List ℕ) (n : ℕ) (r : Bool) → v ≡ take (2 * n) work → r ≡ pointwise nat_eq (sets t 0 v) t → r ≡ same (copied_tests work n t) t
 unfolding copied_tests
-tests_same work v t n r e q = q ∙ ap (λ (x : List ℕ). same (sets t 0 x) t) e
+tests_same work v t n r e q = q ∙ numbers_same (sets t 0 v) t ∙ ap (λ (x : List ℕ). same (sets t 0 x) t) e
 
-pub rows_same : (words v w : List ℕ) (n : ℕ) (r : Bool) → v ≡ take (16 * n) words → r ≡ same (sets w 0 v) w → r ≡ same (copied_rows words n w) w
+pub rows_same : (words v w : List ℕ) (n : ℕ) (r : Bool) → v ≡ take (16 * n) words → r ≡ pointwise nat_eq (sets w 0 v) w → r ≡ same (copied_rows words n w) w
 unfolding copied_rows
-rows_same words v w n r e q = q ∙ ap (λ (x : List ℕ). same (sets w 0 x) w) e
+rows_same words v w n r e q = q ∙ numbers_same (sets w 0 v) w ∙ ap (λ (x : List ℕ). same (sets w 0 x) w) e
 
 -- ---- `read_lent_tests`, `tests_left`
 
--- The returns of both, by the definition's answer x. The work tables are a and b.
-module _ (m : ℕ) (text a b t w : List ℕ) (c : Read) (h : TestsRead m text c a b) where
-  read : After m (read_tests m text) c a b
+-- Both are compared, the second where the first are the same.
+pub both_no : (p q r : Bool) → p ≡ false → r ≡ false → r ≡ (p and q)
+unfolding ◌and◌
+both_no p q r e f = rw (e, f) refl
+
+pub both_yes : (p q r : Bool) → p ≡ true → r ≡ q → r ≡ (p and q)
+unfolding ◌and◌
+both_yes p q r e f = rw e f
+
+-- The returns of both, by the answer c of the reader. The work tables are a and b.
+module _ (m : ℕ) (text a b t w : List ℕ) (c : Result ℕ Refusal) (h : TestsRead m text (read_of c) a b) where
+  read : After m (read_tests m text) (read_of c) a b
   unfolding Reads
   read = h.reads
 
-  stops : (x : Reading TestListing) → After m x c a b → (c.number ≡ 0 → ⊥) → (r : Read) → (r.number ≡ c.number) × (r.place ≡ c.place) × (r.count ≡ 0) → Leaves x r t t w w
-  stops (refused k p) y z r e = (e.0 ∙ y.0, e.1 ∙ y.1, e.2, y.2, refl, refl)
-  stops (accepted l) y z r e = absurd (z y.0)
+  module _ (e : Refusal) (q : c ≡ Err e) where
+    stops : (x : Reading TestListing) → After m x (read_of (Err e)) a b → Leaves x (read_of (Err e)) t t w w
+    stops (refused k p) y = (y.0, y.1, refl, y.2, refl, refl)
+    stops (accepted l) y = absurd (let z : ⊥ = omega (arith, y.0, fault_some e.fault) in z)
 
-  pub lent_stop : (r : Read) → (c.number ≡ 0 → ⊥) → (r.number ≡ c.number) × (r.place ≡ c.place) × (r.count ≡ 0) → ReadLent m text r t t w w
-  lent_stop r z e = record { leaves = stops (read_tests m text) read z r e; few = omega (arith, e.2) }
+    read_err : After m (read_tests m text) (read_of (Err e)) a b
+    read_err = subst (λ (x : Result ℕ Refusal). After m (read_tests m text) (read_of x) a b) q read
 
-  -- 14, by the definition.
-  left_not : (r : Read) → (14 ≡ left_number (read_tests m text) t w) × (0 ≡ left_count (read_tests m text) t w) → (r.number ≡ 14) × (r.place ≡ 0) × (r.count ≡ 0) → TestsLeft m text t w r
-  left_not r u e = record { number_is = e.0 ∙ u.0; place_is = e.1; count_is = e.2 ∙ u.1; few = omega (arith, e.2) }
+    pub lent_stop : ReadLent m text (read_of (Err e)) t t w w
+    lent_stop = record { leaves = stops (read_tests m text) read_err; few = omega arith }
 
-  unread : (x : Reading TestListing) → After m x c a b → (c.number ≡ 0 → ⊥) → (14 ≡ left_number x t w) × (0 ≡ left_count x t w)
-  unfolding left_number left_count
-  unread (refused k p) y z = (refl, refl)
-  unread (accepted l) y z = absurd (z y.0)
+    unread : (x : Reading TestListing) → After m x (read_of (Err e)) a b → None ≡ tests_found x t w
+    unfolding tests_found
+    unread (refused k p) y = refl
+    unread (accepted l) y = absurd (let z : ⊥ = omega (arith, y.0, fault_some e.fault) in z)
 
-  pub left_refused : (r : Read) → (c.number ≡ 0 → ⊥) → (r.number ≡ 14) × (r.place ≡ 0) × (r.count ≡ 0) → TestsLeft m text t w r
-  left_refused r z e = left_not r (unread (read_tests m text) read z) e
+    refused_left : TestsLeft m text t w None
+    refused_left = record { found_is = unread (read_tests m text) read_err; few = tt }
 
-  module _ (long : 400 ≤ length a) (wide : 3200 ≤ length b) (z : c.number ≡ 0) where
-    goes : (x : Reading TestListing) → After m x c a b → Leaves x c t (copied_tests a c.count t) w (copied_rows b c.count w)
+  module _ (n : ℕ) (q : c ≡ Ok n) (long : 400 ≤ length a) (wide : 3200 ≤ length b) where
+    read_ok : After m (read_tests m text) (read_of (Ok n)) a b
+    read_ok = subst (λ (x : Result ℕ Refusal). After m (read_tests m text) (read_of x) a b) q read
+
+    few : n ≤ 200
+    few = omega (arith, h.few, ap (λ (x : Result ℕ Refusal). (read_of x).count) q)
+
+    goes : (x : Reading TestListing) → After m x (read_of (Ok n)) a b → Leaves x (read_of (Ok n)) t (copied_tests a n t) w (copied_rows b n w)
     goes (refused k p) y = absurd (let v : ⊥ = omega (arith, y.0, y.2) in v)
-    goes (accepted l) y = (y.0, y.1, y.2.counted, tests_copied m a b c.count l y.2 h.few long wide t, rows_copied m a b c.count l y.2 h.few long wide w)
+    goes (accepted l) y = (refl, refl, y.2.counted, tests_copied m a b n l y.2 few long wide t, rows_copied m a b n l y.2 few long wide w)
 
-    pub lent_read : (t' w' : List ℕ) → t' ≡ copied_tests a c.count t → w' ≡ copied_rows b c.count w → ReadLent m text c t t' w w'
+    pub lent_read : (t' w' : List ℕ) → t' ≡ copied_tests a n t → w' ≡ copied_rows b n w → ReadLent m text (read_of (Ok n)) t t' w w'
     lent_read t' w' et ew =
-        subst (λ (x : List ℕ). ReadLent m text c t x w w') (sym et)
-        (subst (λ (x : List ℕ). ReadLent m text c t (copied_tests a c.count t) w x) (sym ew) (record { leaves = goes (read_tests m text) read; few = h.few }))
+        subst (λ (x : List ℕ). ReadLent m text (read_of (Ok n)) t x w w') (sym et)
+        (subst (λ (x : List ℕ). ReadLent m text (read_of (Ok n)) t (copied_tests a n t) w x) (sym ew) (record { leaves = goes (read_tests m text) read_ok; few = few }))
 
-    tells : (x : Reading TestListing) → After m x c a b → (u : Bool) → u ≡ (same (copied_tests a c.count t) t and same (copied_rows b c.count w) w)
-        → (choose u 0 14 ≡ left_number x t w) × (choose u c.count 0 ≡ left_count x t w)
-    unfolding left_number left_count is_left
-    tells (refused k p) y u q = absurd (let v : ⊥ = omega (arith, y.0, y.2) in v)
-    tells (accepted l) y u q =
-        let e : u ≡ (same (tests_after l t) t and same (rows_after l w) w)
-        = q ∙ ap₂ (λ (x z : List ℕ). same x t and same z w) (tests_copied m a b c.count l y.2 h.few long wide t) (rows_copied m a b c.count l y.2 h.few long wide w) in
-        (ap (λ (v : Bool). choose v 0 14) e, ap₂ (λ (v : Bool) (n : ℕ). choose v n 0) e y.2.counted)
+    tells : (x : Reading TestListing) → After m x (read_of (Ok n)) a b → choose (same (copied_tests a n t) t and same (copied_rows b n w) w) (Some n) None ≡ tests_found x t w
+    unfolding tests_found is_left
+    tells (refused k p) y = absurd (let v : ⊥ = omega (arith, y.0, y.2) in v)
+    tells (accepted l) y =
+        ap₂ (λ (x z : List ℕ). choose (same x t and same z w) (Some n) None) (tests_copied m a b n l y.2 few long wide t) (rows_copied m a b n l y.2 few long wide w)
+        ∙ ap (λ (k : ℕ). choose (same (tests_after l t) t and same (rows_after l w) w) (Some k) None) y.2.counted
 
-    pub left_names : (u : Bool) → u ≡ same (copied_tests a c.count t) t → u ≡ false → (r : Read) → (r.number ≡ 14) × (r.place ≡ 0) × (r.count ≡ 0) → TestsLeft m text t w r
-    unfolding ◌and◌ choose
-    left_names u q y r e = left_not r (tells (read_tests m text) read false (sym (ap (λ (v : Bool). v and same (copied_rows b c.count w) w) (sym q ∙ y)))) e
+    -- What is answered by whether copying would change nothing.
+    told_left : (u : Bool) → u ≡ (same (copied_tests a n t) t and same (copied_rows b n w) w) → TestsLeft m text t w (then_some u n)
+    unfolding choose
+    told_left u e = record { found_is = go u ∙ ap (λ (v : Bool). choose v (Some n) None) e ∙ tells (read_tests m text) read_ok; few = small u }
+      where
+        go : (v : Bool) → then_some v n ≡ choose v (Some n) None
+        go true = refl
+        go false = refl
 
-    module _ (u : Bool) (q : u ≡ same (copied_tests a c.count t) t) (y : u ≡ true) where
-      pub left_rows : (v : Bool) → v ≡ same (copied_rows b c.count w) w → v ≡ false → (r : Read) → (r.number ≡ 14) × (r.place ≡ 0) × (r.count ≡ 0) → TestsLeft m text t w r
-      unfolding ◌and◌ choose
-      left_rows v q' y' r e = left_not r (tells (read_tests m text) read false (sym (ap₂ (λ (f g : Bool). f and g) (sym q ∙ y) (sym q' ∙ y')))) e
+        small : (v : Bool) → IfSome (then_some v n) (λ k. k ≤ 200)
+        small true = few
+        small false = tt
 
-      pub left_done : (v : Bool) → v ≡ same (copied_rows b c.count w) w → v ≡ true → TestsLeft m text t w (record { number = 0; place = 0; count = c.count })
-      unfolding ◌and◌ choose
-      left_done v q' y' =
-          let d = tells (read_tests m text) read true (sym (ap₂ (λ (f g : Bool). f and g) (sym q ∙ y) (sym q' ∙ y'))) in
-          record { number_is = d.0; place_is = refl; count_is = d.1; few = h.few }
+  -- The same by the answer without its refusal.
+  pub left_refused : None ≡ result_ok c → TestsLeft m text t w None
+  left_refused = go c refl
+    where
+      go : (x : Result ℕ Refusal) → c ≡ x → None ≡ result_ok x → TestsLeft m text t w None
+      go (Ok n) q z = cc
+      go (Err e) q z = refused_left e q
 
-pub ruleset all = (tests_copy, rows_copy, tests_same, rows_same, lent_stop, left_refused, lent_read, left_names, left_rows, left_done)
+  pub left_told : (n : ℕ) → Some n ≡ result_ok c → 400 ≤ length a → 3200 ≤ length b → (u : Bool) → u ≡ (same (copied_tests a n t) t and same (copied_rows b n w) w)
+      → (r : Option ℕ) → r ≡ then_some u n → TestsLeft m text t w r
+  left_told n q long wide u e r f = subst (λ (x : Option ℕ). TestsLeft m text t w x) (sym f) (go c refl q)
+    where
+      go : (x : Result ℕ Refusal) → c ≡ x → Some n ≡ result_ok x → TestsLeft m text t w (then_some u n)
+      go (Ok k) y z = told_left n (y ∙ ap (λ (i : ℕ). Ok i) (sym (same_Some n k z))) long wide u e
+      go (Err k) y z = cc
+
+pub ruleset all = (tests_copy, rows_copy, tests_same, rows_same, left_refused)

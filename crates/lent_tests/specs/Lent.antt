@@ -1,12 +1,12 @@
 -- What reading a test file leaves in lent tables: `tests` with two numbers a test, `rows` with 16 words of 64 bits a test.
-use Rattle.std.specs.Prelude.{◌≡◌, Bool, List, [], ◌∷◌, ℕ, ◌*◌, ◌≤◌, ◌<◌, length, get_or, take}
+use Rattle.std.specs.Prelude.{◌≡◌, Bool, List, [], ◌∷◌, ℕ, ◌*◌, ◌≤◌, ◌<◌, length, get_or, take, Option, None, Some, IfSome}
 use Rattle.std.proofs.lemmas.List.Edits.{sets}
 use Rattle.laws.specs.Tests.{◌and◌, choose}
 use Rattle.laws.specs.Tables.{rows}
 use Rattle.laws.specs.Bits.{words_of}
 use Rattle.rules.specs.Text.{Bytes, same, Reading, refused, accepted}
 use Rattle.rules.specs.SuiteFile.{TestListing, coverage_at, read_tests, test_count, test_name}
-use Rattle.suite.specs.declared.Read.{Read}
+use Rattle.suite.specs.Reads.{Read}
 
 -- The test i: where its name stands in the text and how long it is; the words of its coverage.
 abbrev pub test_row : TestListing → ℕ → List ℕ
@@ -43,18 +43,12 @@ pub record ReadLent (m : ℕ) (text : Bytes) (r : Read) (t t' w w' : List ℕ) :
 unfoldable pub is_left : TestListing → List ℕ → List ℕ → Bool
 is_left l t w = same (tests_after l t) t and same (rows_after l w) w
 
--- The number that says so: 14 where they are not, and where the text is refused. The count: that of the tests, or 0.
-unfoldable pub left_number : Reading TestListing → List ℕ → List ℕ → ℕ
-left_number (refused k p) t w = 14
-left_number (accepted l) t w = choose (is_left l t w) 0 14
-
-unfoldable pub left_count : Reading TestListing → List ℕ → List ℕ → ℕ
-left_count (refused k p) t w = 0
-left_count (accepted l) t w = choose (is_left l t w) (test_count l.suite) 0
+-- How many tests there are, where the tables are what reading leaves: none where the text is refused.
+unfoldable pub tests_found : Reading TestListing → List ℕ → List ℕ → Option ℕ
+tests_found (refused k p) t w = None
+tests_found (accepted l) t w = choose (is_left l t w) (Some (test_count l.suite)) None
 
 -- `tests_left`, where the old program has m edges. What the work tables hold afterwards is left open.
-pub record TestsLeft (m : ℕ) (text : Bytes) (t w : List ℕ) (r : Read) : Type 0 where
-  pub number_is : r.number ≡ left_number (read_tests m text) t w
-  pub place_is : r.place ≡ 0
-  pub count_is : r.count ≡ left_count (read_tests m text) t w
-  pub few : r.count ≤ 200
+pub record TestsLeft (m : ℕ) (text : Bytes) (t w : List ℕ) (r : Option ℕ) : Type 0 where
+  pub found_is : r ≡ tests_found (read_tests m text) t w
+  pub few : IfSome r (λ n. n ≤ 200)

@@ -1,20 +1,21 @@
 // Reading a test file into lent tables, and testing whether lent tables are what reading a text leaves. A refusal changes nothing but the
 // work tables: `work`, for where the names stand, and `words`, for the rows. What these hold afterwards is left open.
-#![tactic(auto)]
+#![tactic(auto, using(crate::proofs::Laws::all))]
 
 ghost use Rattle.std.specs.Prelude.{◌≡◌, ◌≤◌, length};
 ghost use Rattle.rules.specs.Text.{same as same_numbers};
+ghost use Rattle.suite.specs.Reads.{read_of};
 ghost use Rattle.lent_tests.specs.Lent.{ReadLent, TestsLeft, copied_rows, copied_tests};
 
-use suite::Read;
-use text::{copy, copy_words, run, run_words, same_run, same_words};
+use answer::Refusal;
+use text::{copy, part, same_run};
 
 // Copies where the names of the first tests stand.
 fn copy_tests(work: &[usize], count: usize, tests: &mut [usize])
     requires { count ≤ 200 }
     ensures { tests.new ≡ copied_tests work.now count tests.old }
 {
-    copy(tests, 0, run(work, 0, 2 * count));
+    copy(tests, 0, part(work, 0, 2 * count));
 }
 
 // Copies the rows of the first tests.
@@ -22,11 +23,11 @@ fn copy_rows(words: &[u64], count: usize, rows: &mut [u64])
     requires { count ≤ 200 }
     ensures { rows.new ≡ copied_rows words.now count rows.old }
 {
-    copy_words(rows, 0, run_words(words, 0, 16 * count));
+    copy(rows, 0, part(words, 0, 16 * count));
 }
 
-// Reads a test file into the lent tables `tests` and `rows`, where the old program has so many edges. After a refusal they are as they were.
-// What the work tables hold afterwards is left open.
+// Reads a test file into the lent tables `tests` and `rows`, where the old program has so many edges, and answers how many tests there are. After
+// a refusal they are as they were. What the work tables hold afterwards is left open.
 pub fn read_lent_tests(
     text: &[u8],
     edges: usize,
@@ -34,19 +35,14 @@ pub fn read_lent_tests(
     rows: &mut [u64],
     work: &mut [usize],
     words: &mut [u64],
-) -> Read
+) -> Result<usize, Refusal>
     requires { (edges ≤ 1024) × (400 ≤ length work.old) × (3200 ≤ length words.old) }
-    ensures { ReadLent edges text.now result tests.old tests.new rows.old rows.new }
+    ensures { ReadLent edges text.now (read_of result) tests.old tests.new rows.old rows.new }
 {
-    let r = suite::read_tests(text, edges, work, words);
-    let number = r.number;
-    let place = r.place;
-    if number != 0 {
-        return suite::refused(number, place);
-    }
-    copy_tests(work, r.count, tests);
-    copy_rows(words, r.count, rows);
-    r
+    let count = suite::read_tests(text, edges, work, words)?;
+    copy_tests(work, count, tests);
+    copy_rows(words, count, rows);
+    Ok(count)
 }
 
 // ---- are these tables what reading this text leaves
@@ -56,7 +52,7 @@ fn same_tests(work: &[usize], count: usize, tests: &[usize]) -> bool
     requires { count ≤ 200 }
     ensures { result ≡ same_numbers (copied_tests work.now count tests.now) tests.now }
 {
-    same_run(tests, 0, run(work, 0, 2 * count))
+    same_run(tests, 0, part(work, 0, 2 * count))
 }
 
 // Whether copying the rows would change nothing.
@@ -64,10 +60,10 @@ fn same_rows(words: &[u64], count: usize, rows: &[u64]) -> bool
     requires { count ≤ 200 }
     ensures { result ≡ same_numbers (copied_rows words.now count rows.now) rows.now }
 {
-    same_words(rows, 0, run_words(words, 0, 16 * count))
+    same_run(rows, 0, part(words, 0, 16 * count))
 }
 
-// Whether the lent tables are what reading the text leaves: number 0 with the count, else 14. What the work tables hold afterwards is left open.
+// How many tests there are, where the lent tables are what reading the text leaves. What the work tables hold afterwards is left open.
 pub fn tests_left(
     text: &[u8],
     edges: usize,
@@ -75,25 +71,11 @@ pub fn tests_left(
     rows: &[u64],
     work: &mut [usize],
     words: &mut [u64],
-) -> Read
+) -> Option<usize>
     requires { (edges ≤ 1024) × (400 ≤ length work.old) × (3200 ≤ length words.old) }
     ensures { TestsLeft edges text.now tests.now rows.now result }
 {
-    let r = suite::read_tests(text, edges, work, words);
-    let number = r.number;
-    let count = r.count;
-    if number != 0 {
-        return suite::refused(14, 0);
-    }
-    if same_tests(work, count, tests) {
-        if same_rows(words, count, rows) {
-            return Read {
-                number: 0,
-                place: 0,
-                count,
-            };
-        }
-        return suite::refused(14, 0);
-    }
-    suite::refused(14, 0)
+    let count = suite::read_tests(text, edges, work, words).ok()?;
+    let same = same_tests(work, count, tests) && same_rows(words, count, rows);
+    same.then_some(count)
 }

@@ -1,23 +1,27 @@
 -- The returns of this crate's functions, as `search` finds them: the premises are what the code holds there.
 use mathlib.Core.Path.{◌≡◌, refl, sym, ap, ◌∙◌}
 use mathlib.Core.Bool.{Bool, true, false}
-use mathlib.Core.Option.{some}
+use mathlib.Core.Option.{none, some}
+use Rattle.std.specs.Prelude.{◌⊎◌, Option, Some, None}
+use Rattle.std.proofs.Common.{⊎_elim}
+use lib.Dec.{eqb}
+use Rattle.lines.specs.declared.Kind.{Kind}
 use mathlib.Core.List.{List, [], ◌∷◌}
 use Prim.Native.Nat.{ℕ, zero, suc, ◌+◌, ◌-◌, ◌≤◌, ◌<◌}
 use native.Mathlib.Omega.{arith}
-use lib.Dec.{ltb}
 use lib.ListN.{length, take, drop}
-use borrow.Author.Tests.{lt-ltb, le-ltb}
+use borrow.Author.Tests.{ne_eqb}
 use Rattle.laws.specs.Tests.{◌and◌, choose}
 use Rattle.laws.specs.TestLaws.{and_ends}
 use Rattle.rules.specs.Text.{Bytes, same, split, empty, is_name, is_callees, is_label}
-use Rattle.rules.specs.Graph.{Kind, E, S, C, X, kind_number}
+use Rattle.rules.specs.Graph.{E, S, C, X}
+use Rattle.rules.specs.Graph as Rules
 use Rattle.rules.specs.ProgramFile.{kind_of, is_node}
 use Rattle.rules.proofs.TextLaws.{name_free, split_cons, split_free}
 use Rattle.text.specs.Scans.{span}
 use Rattle.text.specs.SplitLaws.{first_last, first_more}
 use Rattle.lines.specs.Callees.{names_up_to, up_to_four}
-use Rattle.lines.specs.Kinds.{node_kind}
+use Rattle.lines.specs.Kinds.{kind_meant, meant_coded, node_kind}
 
 -- ---- `names_up_to`, `is_callees`
 
@@ -61,81 +65,86 @@ callees_are s t e = e ∙ up_to_four s
 
 pub ruleset callees = (names_none, names_all, names_last, names_not, names_on, callees_are)
 
--- ---- `is_end`, `is_step`, `is_call`
+-- ---- `suits`
 
-empty_is : (s : Bytes) → ltb (length s) 1 ≡ empty s
+empty_is : (s : Bytes) → eqb (length s) 0 ≡ empty s
 unfolding empty
-empty_is [] = lt-ltb 0 1 (omega arith)
-empty_is (x ∷ s) = le-ltb (length (x ∷ s)) 1 (omega arith)
+empty_is [] = refl
+empty_is (x ∷ s) = ne_eqb (length (x ∷ s)) 0 (λ e. let z : ⊥ = omega arith in z)
 
-module _ (b c : Bytes) where
-  pub end_not : 0 < length b → false ≡ is_node E b c
-  unfolding is_node ◌and◌
-  end_not h = sym (simp (← empty_is b, le-ltb (length b) 1 h))
+module _ (k : Kind) (b c : Bytes) where
+  module _ (h : (kind_meant k ≡ E) ⊎ (kind_meant k ≡ X)) where
+    end_both : is_node (kind_meant k) b c ≡ (empty b and empty c)
+    unfolding is_node
+    end_both = ⊎_elim (λ (e : kind_meant k ≡ E). ap (λ (j : Rules.Kind). is_node j b c) e) (λ (e : kind_meant k ≡ X). ap (λ (j : Rules.Kind). is_node j b c) e) h
 
-  pub end_is : length b ≤ 0 → ltb (length c) 1 ≡ is_node E b c
-  unfolding is_node ◌and◌
-  end_is h = empty_is c ∙ sym (simp (← empty_is b, lt-ltb (length b) 1 (omega arith)))
+    pub end_not : eqb (length b) 0 ≡ false → false ≡ is_node (kind_meant k) b c
+    unfolding ◌and◌
+    end_not n = sym (simp (end_both, ← empty_is b, n))
+
+    pub end_is : eqb (length b) 0 ≡ true → eqb (length c) 0 ≡ is_node (kind_meant k) b c
+    unfolding ◌and◌
+    end_is y = empty_is c ∙ sym (simp (end_both, ← empty_is b, y))
 
   module _ (t : Bool) (e : t ≡ is_label b) where
-    pub step_not : t ≡ false → false ≡ is_node S b c
+    pub step_not : t ≡ false → kind_meant k ≡ S → false ≡ is_node (kind_meant k) b c
     unfolding is_node ◌and◌
-    step_not n = sym (simp (← e, n))
+    step_not n h = sym (simp (h, ← e, n))
 
-    pub step_is : t ≡ true → ltb (length c) 1 ≡ is_node S b c
+    pub step_is : t ≡ true → kind_meant k ≡ S → eqb (length c) 0 ≡ is_node (kind_meant k) b c
     unfolding is_node ◌and◌
-    step_is y = empty_is c ∙ sym (simp (← e, y))
+    step_is y h = empty_is c ∙ sym (simp (h, ← e, y))
 
-    pub call_not : t ≡ false → false ≡ is_node C b c
+    pub call_not : t ≡ false → kind_meant k ≡ C → false ≡ is_node (kind_meant k) b c
     unfolding is_node ◌and◌
-    call_not n = sym (simp (← e, n))
+    call_not n h = sym (simp (h, ← e, n))
 
-    pub call_is : (u : Bool) → t ≡ true → u ≡ is_callees c → u ≡ is_node C b c
+    pub call_is : (u : Bool) → t ≡ true → u ≡ is_callees c → kind_meant k ≡ C → u ≡ is_node (kind_meant k) b c
     unfolding is_node ◌and◌
-    call_is u y d = d ∙ sym (simp (← e, y))
+    call_is u y d h = d ∙ sym (simp (h, ← e, y))
 
 pub ruleset suits = (end_not, end_is, step_not, step_is, call_not, call_is)
 
--- ---- `kind_if`, `kind_of`
+-- ---- `named`, `kind_of`
 
-module _ (u : Bool) (k : ℕ) where
-  pub if_so : u ≡ true → k ≡ choose u k 4
-  unfolding choose
-  if_so y = sym (simp y)
-
-  pub if_not : u ≡ false → 4 ≡ choose u k 4
-  unfolding choose
-  if_not n = sym (simp n)
-
--- Where the kind field names the kind k.
-kind_is : (a b c : Bytes) (r : ℕ) (k : Kind) (u : Bool) → kind_of a ≡ some k → u ≡ is_node k b c → r ≡ choose u (kind_number k) 4 → r ≡ node_kind a b c
-unfolding node_kind
-kind_is a b c r k u e d q = q ∙ sym (simp (e, ← d))
-
-module _ (a b c : Bytes) (t : Bool) (e : t ≡ same a (69 ∷ [])) where
-  pub kind_entry : (u : Bool) (r : ℕ) → t ≡ true → u ≡ is_node E b c → r ≡ choose u 0 4 → r ≡ node_kind a b c
+module _ (a : Bytes) (t : Bool) (e : t ≡ same a (69 ∷ [])) where
+  pub named_entry : t ≡ true → kind_of a ≡ some E
   unfolding kind_of choose
-  kind_entry u r y d q = kind_is a b c r E u (simp (← e, y)) d q
+  named_entry y = simp (← e, y)
 
   module _ (n : t ≡ false) (v : Bool) (f : v ≡ same a (83 ∷ [])) where
-    pub kind_step : (u : Bool) (r : ℕ) → v ≡ true → u ≡ is_node S b c → r ≡ choose u 1 4 → r ≡ node_kind a b c
+    pub named_step : v ≡ true → kind_of a ≡ some S
     unfolding kind_of choose
-    kind_step u r y d q = kind_is a b c r S u (simp (← e, n, ← f, y)) d q
+    named_step y = simp (← e, n, ← f, y)
 
     module _ (m : v ≡ false) (w : Bool) (g : w ≡ same a (67 ∷ [])) where
-      pub kind_call : (u : Bool) (r : ℕ) → w ≡ true → u ≡ is_node C b c → r ≡ choose u 2 4 → r ≡ node_kind a b c
+      pub named_call : w ≡ true → kind_of a ≡ some C
       unfolding kind_of choose
-      kind_call u r y d q = kind_is a b c r C u (simp (← e, n, ← f, m, ← g, y)) d q
+      named_call y = simp (← e, n, ← f, m, ← g, y)
 
       module _ (l : w ≡ false) (x : Bool) (h : x ≡ same a (88 ∷ [])) where
-        pub kind_exit : (u : Bool) (r : ℕ) → x ≡ true → u ≡ is_node E b c → r ≡ choose u 3 4 → r ≡ node_kind a b c
-        unfolding kind_of choose is_node
-        kind_exit u r y d q = kind_is a b c r X u (simp (← e, n, ← f, m, ← g, l, ← h, y)) d q
+        pub named_exit : x ≡ true → kind_of a ≡ some X
+        unfolding kind_of choose
+        named_exit y = simp (← e, n, ← f, m, ← g, l, ← h, y)
 
-        pub kind_none : x ≡ false → 4 ≡ node_kind a b c
-        unfolding node_kind kind_of choose
-        kind_none y = sym (simp (← e, n, ← f, m, ← g, l, ← h, y))
+        pub named_none : x ≡ false → kind_of a ≡ none
+        unfolding kind_of choose
+        named_none y = simp (← e, n, ← f, m, ← g, l, ← h, y)
 
-pub ruleset kinds = (if_so, if_not, kind_entry, kind_step, kind_call, kind_exit, kind_none)
+pub ruleset names = (named_entry, named_step, named_call, named_exit, named_none)
 
-pub ruleset all = (callees, suits, kinds)
+module _ (a b c : Bytes) where
+  pub kind_none : kind_of a ≡ none → ◌≡◌ {A = Option Kind} None (node_kind a b c)
+  unfolding node_kind
+  kind_none e = sym (simp e)
+
+  module _ (k : Kind) (e : kind_of a ≡ some (kind_meant k)) (t : Bool) (f : t ≡ is_node (kind_meant k) b c) where
+    pub kind_suits : t ≡ true → Some k ≡ node_kind a b c
+    unfolding node_kind choose
+    kind_suits y = sym (simp (e, ← f, y, meant_coded k))
+
+    pub kind_not : t ≡ false → ◌≡◌ {A = Option Kind} None (node_kind a b c)
+    unfolding node_kind choose
+    kind_not n = sym (simp (e, ← f, n))
+
+pub ruleset kinds = (kind_none, kind_suits, kind_not)

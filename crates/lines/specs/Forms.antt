@@ -4,21 +4,24 @@ use Rattle.std.proofs.Math.Path.{refl, ap}
 use Rattle.std.proofs.Common.{sym, ◌∙◌}
 use Rattle.std.proofs.Math.Bool.{true, false}
 use Rattle.std.proofs.Math.Option.{Option, none, some}
+use Rattle.std.specs.Prelude.{None, Some}
+use Rattle.std.specs.Prelude as Prelude
 use mathlib.Core.List.{List, [], ◌∷◌}
 use native.Mathlib.Omega.{arith}
 use Rattle.laws.specs.Tests.{◌and◌, after, choose, isnt}
 use Rattle.laws.specs.TestLaws.{and_not, and_right, both_ways}
-use Rattle.rules.specs.Text.{Bytes, is_name, is_number, is_word, join_by, same, split, value_from}
-use Rattle.rules.specs.Graph.{Kind, E, S, C, X, kind_number}
+use Rattle.rules.specs.Text.{Bytes, is_name, is_word, join_by, same, split}
+use Rattle.rules.specs.Graph.{Kind, E, S, C, X}
 use Rattle.rules.specs.ProgramFile.{Line, proc_line, node_line, edge_line, malformed, kind_of, is_node, is_edge, form_of}
 use Rattle.rules.specs.Kept.{Formed}
 use Rattle.rules.proofs.ProgramLaws.{formed}
 use Rattle.rules.specs.Kept.{other}
 use Rattle.rules.proofs.TextLaws.{callees_free, empty_true, join_split, name_free, same_of, split_free}
-use Rattle.text.specs.NumberLaws.{a_number, no_number, number_whole}
+use Rattle.text.specs.NumberLaws.{a_number, no_number, number_read, number_whole}
 use Rattle.text.specs.Scans.{span}
 use Rattle.text.specs.SplitLaws.{first_last, first_more, letter, pieces}
-use Rattle.lines.specs.Kinds.{node_kind}
+use Rattle.lines.specs.declared.Kind.{Kind as Code}
+use Rattle.lines.specs.Kinds.{coded_meant, kind_coded, kind_meant, node_kind}
 
 -- ---- the first two bytes
 
@@ -66,12 +69,6 @@ module _ (s : Bytes) (t : Bool) (e : t ≡ is_name s) where
 
 -- ---- N and B lines: a and b are the first fields behind the letter, rest and c what stands behind each of them
 
-kind_small : (k : Kind) → kind_number k ≤ 3
-kind_small E = omega arith
-kind_small S = omega arith
-kind_small C = omega arith
-kind_small X = omega arith
-
 -- The callee field of a node has no comma.
 callee_free : (k : Kind) (b c : Bytes) → is_node k b c ≡ true → split 44 c ≡ c ∷ []
 unfolding is_node split other isnt
@@ -108,54 +105,55 @@ module _ (s a : Bytes) (ea : a ≡ take (span 44 s) s) where
       too_many x p q qs e = ap (λ (fs : List Bytes). form_of (x ∷ fs)) (fields ∙ ap (λ (fs : List Bytes). a ∷ b ∷ fs) e)
 
       -- The three fields of an N line.
-      module _ (i : ℕ) (ei : i ≡ node_kind a b c) where
-        pub node_none : 3 < i → form_of ((78 ∷ []) ∷ split 44 s) ≡ malformed
-        unfolding form_of choose same ◌and◌ node_kind
-        node_none l = pieces 44 c (λ e. simp (fields, e) (go (kind_of a) refl)) (too_many (78 ∷ []))
-          where
-            suits : (j : Kind) (t : Bool) → i ≡ choose t (kind_number j) 4 → choose t (node_line j b c) malformed ≡ malformed
-            suits j true q = absurd (let z : ⊥ = omega (arith, kind_small j) in z)
-            suits j false q = refl
+      pub node_none : ◌≡◌ {A = Prelude.Option Code} None (node_kind a b c) → form_of ((78 ∷ []) ∷ split 44 s) ≡ malformed
+      unfolding form_of choose same ◌and◌ node_kind
+      node_none x = pieces 44 c (λ e. simp (fields, e) (go (kind_of a) x)) (too_many (78 ∷ []))
+        where
+          suits : (j : Kind) (t : Bool) → ◌≡◌ {A = Prelude.Option Code} None (choose t (Some (kind_coded j)) None) → choose t (node_line j b c) malformed ≡ malformed
+          suits j true q = absurd (let z : ◌≡◌ {A = Prelude.Option Code} None (Some (kind_coded j)) = q in cc)
+          suits j false q = refl
 
-            go : (o : Option Kind) → kind_of a ≡ o → after o malformed (λ j. choose (is_node j b c) (node_line j b c) malformed) ≡ malformed
-            go none e = refl
-            go (some j) e = suits j (is_node j b c) (ei ∙ ap (λ (o : Option Kind). after o 4 (λ j. choose (is_node j b c) (kind_number j) 4)) e)
+          go : (o : Option Kind) → ◌≡◌ {A = Prelude.Option Code} None (after o None (λ j. choose (is_node j b c) (Some (kind_coded j)) None))
+              → after o malformed (λ j. choose (is_node j b c) (node_line j b c) malformed) ≡ malformed
+          go none q = refl
+          go (some j) q = suits j (is_node j b c) q
 
-        pub node_is : i ≤ 3 → (j : Kind) × (i ≡ kind_number j) × (form_of ((78 ∷ []) ∷ split 44 s) ≡ node_line j b c)
-        unfolding form_of choose same ◌and◌ node_kind
-        node_is l = go (kind_of a) refl
-          where
-            suits : (j : Kind) (t : Bool) → kind_of a ≡ some j → is_node j b c ≡ t → i ≡ choose t (kind_number j) 4 → (j : Kind) × (i ≡ kind_number j) × (form_of ((78 ∷ []) ∷ split 44 s) ≡ node_line j b c)
-            suits j true e y q = (j, q, simp (fields, callee_free j b c y, e, y))
-            suits j false e y q = absurd (let z : ⊥ = omega arith in z)
+      pub node_is : (k : Code) → Some k ≡ node_kind a b c → form_of ((78 ∷ []) ∷ split 44 s) ≡ node_line (kind_meant k) b c
+      unfolding form_of choose same ◌and◌ node_kind
+      node_is k x = go (kind_of a) refl x
+        where
+          suits : (j : Kind) (t : Bool) → kind_of a ≡ some j → is_node j b c ≡ t → Some k ≡ choose t (Some (kind_coded j)) None → form_of ((78 ∷ []) ∷ split 44 s) ≡ node_line (kind_meant k) b c
+          suits j true e y q =
+              let m : k ≡ kind_coded j = let z : ◌≡◌ {A = Prelude.Option Code} (Some k) (Some (kind_coded j)) = q in cc in
+              simp (fields, callee_free j b c y, e, y) (ap (λ (j : Kind). node_line j b c) (sym (ap kind_meant m ∙ coded_meant j)))
+          suits j false e y q = absurd (let z : ◌≡◌ {A = Prelude.Option Code} (Some k) None = q in cc)
 
-            go : (o : Option Kind) → kind_of a ≡ o → (j : Kind) × (i ≡ kind_number j) × (form_of ((78 ∷ []) ∷ split 44 s) ≡ node_line j b c)
-            go none e = absurd (let q : i ≡ 4 = ei ∙ ap (λ (o : Option Kind). after o 4 (λ j. choose (is_node j b c) (kind_number j) 4)) e in let z : ⊥ = omega arith in z)
-            go (some j) e = suits j (is_node j b c) e refl (ei ∙ ap (λ (o : Option Kind). after o 4 (λ j. choose (is_node j b c) (kind_number j) 4)) e)
+          go : (o : Option Kind) → kind_of a ≡ o → Some k ≡ after o None (λ j. choose (is_node j b c) (Some (kind_coded j)) None) → form_of ((78 ∷ []) ∷ split 44 s) ≡ node_line (kind_meant k) b c
+          go none e q = absurd (let z : ◌≡◌ {A = Prelude.Option Code} (Some k) None = q in cc)
+          go (some j) e q = suits j (is_node j b c) e refl q
 
       -- The three fields of a B line.
       edge_none : is_edge a b c ≡ false → form_of ((66 ∷ []) ∷ split 44 s) ≡ malformed
       unfolding form_of choose same ◌and◌
       edge_none n = pieces 44 c (λ e. simp (fields, e, n)) (too_many (66 ∷ []))
 
-      module _ (i : ℕ) (ei : i ≡ choose (is_number a) (min (value_from 0 a) 65536) 65537) where
-        pub edge_from : 65536 < i → form_of ((66 ∷ []) ∷ split 44 s) ≡ malformed
+      pub edge_from : ◌≡◌ {A = Prelude.Option ℕ} None (number_read a) → form_of ((66 ∷ []) ∷ split 44 s) ≡ malformed
+      unfolding is_edge ◌and◌
+      edge_from e = edge_none (simp (no_number a e))
+
+      module _ (i : ℕ) (ei : Some i ≡ number_read a) where
+        pub edge_to : ◌≡◌ {A = Prelude.Option ℕ} None (number_read c) → form_of ((66 ∷ []) ∷ split 44 s) ≡ malformed
         unfolding is_edge ◌and◌
-        edge_from l = edge_none (simp (no_number a i ei l))
+        edge_to e = edge_none (simp (a_number a i ei, no_number c e) (and_not (is_word b)))
 
-        module _ (l : i ≤ 65536) (j : ℕ) (ej : j ≡ choose (is_number c) (min (value_from 0 c) 65536) 65537) where
-          pub edge_to : 65536 < j → form_of ((66 ∷ []) ∷ split 44 s) ≡ malformed
+        module _ (j : ℕ) (ej : Some j ≡ number_read c) (t : Bool) (et : t ≡ is_word b) where
+          pub edge_word : t ≡ false → form_of ((66 ∷ []) ∷ split 44 s) ≡ malformed
           unfolding is_edge ◌and◌
-          edge_to m = edge_none (simp (a_number a i ei l, no_number c j ej m) (and_not (is_word b)))
+          edge_word n = edge_none (simp (a_number a i ei, ← et, n))
 
-          module _ (m : j ≤ 65536) (t : Bool) (et : t ≡ is_word b) where
-            pub edge_word : t ≡ false → form_of ((66 ∷ []) ∷ split 44 s) ≡ malformed
-            unfolding is_edge ◌and◌
-            edge_word n = edge_none (simp (a_number a i ei l, ← et, n))
-
-            pub edge_is : t ≡ true → form_of ((66 ∷ []) ∷ split 44 s) ≡ edge_line a b c
-            unfolding form_of choose same is_edge ◌and◌
-            edge_is y = simp (fields, number_whole c j ej m, a_number a i ei l, ← et, y, a_number c j ej m)
+          pub edge_is : t ≡ true → form_of ((66 ∷ []) ∷ split 44 s) ≡ edge_line a b c
+          unfolding form_of choose same is_edge ◌and◌
+          edge_is y = simp (fields, number_whole c j ej, a_number a i ei, ← et, y, a_number c j ej)
 
 -- The lines that say nothing.
 pub ruleset unsaid = (says_none, proc_none, node_one, node_two, node_none, edge_one, edge_two, edge_from, edge_to, edge_word)

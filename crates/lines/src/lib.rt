@@ -1,35 +1,59 @@
 // What the fields of an N line say: `N,kind,label,callee`. Every function takes any bytes.
 #![tactic(auto)]
 
-ghost use Rattle.std.specs.Prelude.{◌≡◌};
-ghost use Rattle.laws.specs.Tests.{choose};
+ghost use Rattle.std.specs.Prelude.{◌≡◌, ◌≤◌, MatchOption};
+ghost use Rattle.std.proofs.Math.Option.{none, some};
 ghost use Rattle.rules.specs.Text.{is_callees, names_in};
-ghost use Rattle.rules.specs.Graph.{E, S, C};
-ghost use Rattle.rules.specs.ProgramFile.{is_node};
+ghost use Rattle.rules.specs.ProgramFile.{is_node, kind_of as kind_in};
 ghost use Rattle.lines.specs.Callees.{names_up_to};
-ghost use Rattle.lines.specs.Kinds.{node_kind};
+ghost use Rattle.lines.specs.Kinds.{Decodes, kind_code, kind_meant, node_kind};
 
-// Whether label and callee are those of an E or X: both empty.
-fn is_end(label: &[u8], callee: &[u8]) -> bool
-    ensures { result ≡ is_node E label.now callee.now }
-{
-    if 0 < label.len() {
-        return false;
-    }
-    callee.len() < 1
+// The kinds of node: E, S, C, X in a program file.
+#[derive(Clone, Copy, Debug, PartialEq, Eq)]
+pub enum Kind {
+    Entry,
+    Step,
+    Call,
+    Exit,
 }
 
-// Whether label and callee are those of an S: the callee is empty.
-fn is_step(label: &[u8], callee: &[u8]) -> bool
-    ensures { result ≡ is_node S label.now callee.now }
-{
-    if text::is_label(label) {
-        return callee.len() < 1;
+// A number that no kind has.
+#[derive(Clone, Copy, Debug, PartialEq, Eq)]
+pub struct NoKind(pub usize);
+
+impl Kind {
+    // Its number, as tables hold it.
+    pub fn number(self) -> usize
+        ensures value { result ≡ kind_code self }
+        ensures small { result ≤ 3 }
+    {
+        match self {
+            Kind::Entry => 0,
+            Kind::Step => 1,
+            Kind::Call => 2,
+            Kind::Exit => 3,
+        }
     }
-    false
+}
+
+impl TryFrom<usize> for Kind {
+    type Error = NoKind;
+
+    ghost try_from_gives = { Decodes };
+
+    fn try_from(number: usize) -> Result<Self, NoKind> {
+        match number {
+            0 => Ok(Kind::Entry),
+            1 => Ok(Kind::Step),
+            2 => Ok(Kind::Call),
+            3 => Ok(Kind::Exit),
+            _ => Err(NoKind(number)),
+        }
+    }
 }
 
 // Whether the bytes are 1 to `most` names joined by `+`. One name, which nearly every callee field is, is told at once.
+#[tactic(auto, using(crate::proofs::Laws::callees))]
 fn names_up_to(field: &[u8], most: usize) -> bool
     ensures { result ≡ names_up_to most (names_in field.now) }
 {
@@ -39,58 +63,60 @@ fn names_up_to(field: &[u8], most: usize) -> bool
     if text::is_name(field) {
         return true;
     }
-    let name = text::first_short(field, 43);
-    if field.len() <= name.len() {
+    let name = text::first_short(field, b'+');
+    if field.len() <= name.len() || !text::is_name(name) {
         return false;
     }
-    if text::is_name(name) {
-        return names_up_to(text::after(field, name.len() + 1), most - 1);
-    }
-    false
+    names_up_to(text::after(field, name.len() + 1), most - 1)
 }
 
 // Whether the bytes are a callee field.
+#[tactic(auto, using(crate::proofs::Laws::callees))]
 fn is_callees(field: &[u8]) -> bool
     ensures { result ≡ is_callees field.now }
 {
     names_up_to(field, 4)
 }
 
-// Whether label and callee are those of a C: the callee is 1 to 4 names joined by `+`.
-fn is_call(label: &[u8], callee: &[u8]) -> bool
-    ensures { result ≡ is_node C label.now callee.now }
+// Whether label and callee suit the kind: an E and an X leave both empty, an S leaves the callee empty, a C fills both.
+#[tactic(auto, using(crate::proofs::Laws::suits))]
+fn suits(kind: Kind, label: &[u8], callee: &[u8]) -> bool
+    ensures { result ≡ is_node (kind_meant kind) label.now callee.now }
 {
-    if text::is_label(label) {
-        return is_callees(callee);
+    match kind {
+        Kind::Entry | Kind::Exit => label.is_empty() && callee.is_empty(),
+        Kind::Step => text::is_label(label) && callee.is_empty(),
+        Kind::Call => text::is_label(label) && is_callees(callee),
     }
-    false
 }
 
-// The kind's number k, where label and callee suit the kind; else 4.
-fn kind_if(suits: bool, k: usize) -> usize
-    ensures { result ≡ choose suits k 4 }
+// The kind that a field names.
+#[tactic(auto, using(crate::proofs::Laws::names))]
+fn named(field: &[u8]) -> Option<Kind>
+    ensures { MatchOption result (kind_in field.now ≡ none) (λ k. kind_in field.now ≡ some (kind_meant k)) }
 {
-    if suits {
-        return k;
+    if text::same(field, b"E") {
+        Some(Kind::Entry)
+    } else if text::same(field, b"S") {
+        Some(Kind::Step)
+    } else if text::same(field, b"C") {
+        Some(Kind::Call)
+    } else if text::same(field, b"X") {
+        Some(Kind::Exit)
+    } else {
+        None
     }
-    4
 }
 
-// The number of the kind that the field `kind` names (E 0, S 1, C 2, X 3), where label and callee suit that kind; else 4.
-pub fn kind_of(kind: &[u8], label: &[u8], callee: &[u8]) -> usize
+// The kind that the field `kind` names, where label and callee suit it.
+#[tactic(auto, using(crate::proofs::Laws::kinds))]
+pub fn kind_of(kind: &[u8], label: &[u8], callee: &[u8]) -> Option<Kind>
     ensures { result ≡ node_kind kind.now label.now callee.now }
 {
-    if text::same(kind, b"E") {
-        return kind_if(is_end(label, callee), 0);
+    let kind = named(kind)?;
+    if suits(kind, label, callee) {
+        Some(kind)
+    } else {
+        None
     }
-    if text::same(kind, b"S") {
-        return kind_if(is_step(label, callee), 1);
-    }
-    if text::same(kind, b"C") {
-        return kind_if(is_call(label, callee), 2);
-    }
-    if text::same(kind, b"X") {
-        return kind_if(is_end(label, callee), 3);
-    }
-    4
 }

@@ -15,11 +15,11 @@ use Rattle.laws.specs.Tests.{◌and◌, first, found, listed}
 use Rattle.laws.specs.TestLaws.{and_right, fails, first_none}
 use Rattle.laws.specs.Lists.{choose_yes, choose_no}
 use Rattle.laws.specs.Counting.{first_agree}
-use Rattle.laws.specs.Slices.{below_or, sets_three}
+use Rattle.laws.specs.Slices.{below_or}
 use Rattle.laws.specs.Bits.{bit_at, bit_in, first_no_word, first_within, first_word, zeros_fit}
 use Rattle.laws.specs.BitSets.{bit_from, with_bit, word_bit}
-use Rattle.pairset.specs.Store.{danger_bit, danger_word, pair_base, pair_bit, old_at, new_at, link_at, pairs_in, Store, last_pair, pair_before, Has, Appends, Appended, MarksDanger, DangerMarked, Empties, Emptied, NextPartner, RowFrom}
-use Rattle.pairset.specs.StoreLaws.{danger_more, dangers_stay, listed_at, listed_inside, marked_length, more, more_length, new_stays, no_dangers, old_stays, pairs_more, store_marked, store_more, store_none}
+use Rattle.pairset.specs.Store.{danger_bit, danger_word, head_at, pair_base, pair_bit, new_at, link_at, pairs_in, Store, last_pair, pair_before, Has, Appends, Appended, MarksDanger, DangerMarked, Empties, Emptied, NextPartner, RowFrom}
+use Rattle.pairset.specs.StoreLaws.{danger_more, dangers_stay, listed_at, listed_inside, marked_length, more_length, new_stays, no_dangers, old_stays, pairs_more, store_marked, store_more, store_none}
 
 -- ---- `old_of`, `new_of`, `danger_word`, `last_pair`, `pair_before`
 
@@ -27,11 +27,8 @@ module _ (w : List ℕ) (k : ℕ) where
   past : (i : ℕ) → length w ≤ k → k ≤ i → 0 ≡ get_or w i 0
   past i h l = sym (get_or-eq_default w 0 (omega arith))
 
-  pub old_past : length w ≤ k → 0 ≡ old_at w k
-  old_past h = past (pair_base + 3 * k) h (omega arith)
-
-  pub new_past : length w ≤ k → 0 ≡ new_at w k
-  new_past h = past (pair_base + 1 + 3 * k) h (omega arith)
+  pub number_past : (j : ℕ) → length w ≤ k → 0 ≡ get_or w (pair_base + j + 3 * k) 0
+  number_past j h = past (pair_base + j + 3 * k) h (omega arith)
 
   pub danger_past : length w ≤ k → 0 ≡ danger_word w k
   danger_past h = past (4608 + k) h (omega arith)
@@ -44,10 +41,6 @@ module _ (w : List ℕ) (k : ℕ) where
   unfolding last_pair
   last_out h = sym (choose_no _ _ (le-ltb k 512 h))
 
-  pub before_past : length w ≤ k → 0 ≡ pair_before w k
-  unfolding pair_before
-  before_past h = let e : link_at w k ≡ 0 = sym (past (pair_base + 2 + 3 * k) h (omega arith)) in rw e (sym (choose_yes 0 0 (le-leb 0 k (omega arith))))
-
   module _ (place : ℕ) (p : place ≡ link_at w k) where
     pub before_in : place ≤ k → place ≡ pair_before w k
     unfolding pair_before
@@ -57,7 +50,7 @@ module _ (w : List ℕ) (k : ℕ) where
     unfolding pair_before
     before_out h = rw (← p) (sym (choose_no place 0 (lt-leb place k h)))
 
-pub ruleset reads = (old_past, new_past, danger_past, last_in, last_out, before_past, before_in, before_out)
+pub ruleset reads = (number_past, danger_past, last_in, last_out, before_in, before_out)
 
 -- ---- `empty`
 
@@ -65,20 +58,25 @@ pub empty_short : (w : List ℕ) → length w < pair_base → Emptied w w
 unfolding Empties
 empty_short w h = record { empties = λ l. absurd (let z : ⊥ = omega arith in z); size = refl }
 
-module _ (w u : List ℕ) (h : pair_base ≤ length w) (e : u ≡ replicate (length (take pair_base w)) 0) where
-  long : length u ≡ pair_base
-  long = ap length e ∙ length-replicate (length (take pair_base w)) 0 ∙ length-take-le pair_base w h
+module _ (w : List ℕ) (h : pair_base ≤ length w) where
+  abbrev cleared : List ℕ
+  cleared = replicate (length (take pair_base w)) 0
 
-  zeros : (k : ℕ) → k < pair_base → get_or (u ++ drop pair_base w) k 0 ≡ 0
+  long : length cleared ≡ pair_base
+  long = length-replicate (length (take pair_base w)) 0 ∙ length-take-le pair_base w h
+
+  zeros : (k : ℕ) → k < pair_base → get_or (cleared ++ drop pair_base w) k 0 ≡ 0
   zeros k l =
-      get_or-append u (drop pair_base w) 0 k (omega (arith, long)) ∙ ap (λ (t : List ℕ). get_or t k 0) e
+      get_or-append cleared (drop pair_base w) 0 k (omega (arith, long))
       ∙ get_or-replicate (length (take pair_base w)) k 0 0 (omega (arith, length-take-le pair_base w h))
 
-  pub empty_done : Emptied w (u ++ drop pair_base w)
+  pub empty_done : Emptied w (replicate (length (take pair_base w)) 0 ++ drop pair_base w)
   unfolding Empties
   empty_done =
-      let size : length (u ++ drop pair_base w) ≡ length w = omega (arith, length-append u (drop pair_base w), long, length-drop pair_base w) in
+      let size : length (cleared ++ drop pair_base w) ≡ length w = omega (arith, length-append cleared (drop pair_base w), long, length-drop pair_base w) in
       record { empties = λ _. (store_none _ (omega arith) zeros, no_dangers _ (omega arith) zeros); size = size }
+
+pub ruleset clears = (empty_short, empty_done)
 
 -- ---- `has`
 
@@ -97,7 +95,7 @@ module _ (w : List ℕ) (a b : ℕ) where
 
 pub ruleset finds = (has_no_row, has_no_bit, has_is)
 
--- ---- `put_row`, `append`
+-- ---- `append`
 
 module _ (w : List ℕ) (c a b : ℕ) where
   pub append_past : length w ≤ c → Appended w c a b w
@@ -112,15 +110,13 @@ module _ (w : List ℕ) (c a b : ℕ) where
   unfolding Appends
   append_no_bit h = record { appends = λ s an bn room. absurd (let z : ⊥ = omega arith in z); size = refl }
 
-  pub append_done : (p : ℕ) (v₁ v₂ v₃ : List ℕ) → p ≡ last_pair w a → v₁ ≡ sets w (pair_base + 3 * c) (a ∷ b ∷ p ∷ []) → v₂ ≡ with_bit v₁ (pair_bit a b) → v₃ ≡ set v₂ a (c + 1)
-      → Appended w c a b v₃
+  pub append_done : a < 512 → Appended w c a b (set (with_bit (sets w (pair_base + 3 * c) (a ∷ b ∷ head_at w a ∷ [])) (pair_bit a b)) a (c + 1))
   unfolding Appends
-  append_done p v₁ v₂ v₃ e x y z =
-      let q : v₁ ≡ sets w (pair_base + 3 * c) (a ∷ b ∷ last_pair w a ∷ []) = x ∙ ap (λ (k : ℕ). sets w (pair_base + 3 * c) (a ∷ b ∷ k ∷ [])) e in
-      let r : v₃ ≡ more w c a b = z ∙ ap (λ (l : List ℕ). set l a (c + 1)) (y ∙ ap (λ (l : List ℕ). with_bit l (pair_bit a b)) q) in
-      rw r (record { appends = λ s an bn room. (store_more w c a b s an bn room, pairs_more w c a b s an bn room, dangers_stay w c a b s an bn room); size = more_length w c a b })
+  append_done h =
+      rw (last_in w a (head_at w a) h refl)
+      (record { appends = λ s an bn room. (store_more w c a b s an bn room, pairs_more w c a b s an bn room, dangers_stay w c a b s an bn room); size = more_length w c a b })
 
-pub ruleset adds = (sets_three, append_past, append_no_row, append_no_bit, append_done)
+pub ruleset adds = (append_past, append_no_row, append_no_bit, append_done)
 
 -- ---- `mark_danger`
 
@@ -138,20 +134,16 @@ pub ruleset dangers = (mark_past, mark_done)
 
 -- ---- `row_from`
 
-module _ (w : List ℕ) (a k from word : ℕ) (e : word ≡ get_or w (512 + 8 * a + k) 0) where
+module _ (w : List ℕ) (a k from word skip : ℕ) (e : word ≡ get_or w (512 + 8 * a + k) 0) where
   -- The word, bit by bit.
   row_bit : (j : ℕ) → j < 64 → bit_at word j ≡ bit_in w (pair_bit a (64 * k + j))
   row_bit j h =
       let q : 64 * (512 + 8 * a + k) + j ≡ pair_bit a (64 * k + j) = omega arith in
       ap (λ (n : ℕ). bit_at n j) e ∙ sym (word_bit w (512 + 8 * a + k) j h) ∙ ap (bit_in w) q
 
-  pub row_whole : from ≤ 64 * k → RowFrom w a k from word
-  unfolding RowFrom ◌and◌
-  row_whole l j h = row_bit j h ∙ sym (ap (λ (t : Bool). t and bit_in w (pair_bit a (64 * k + j))) (le-leb from (64 * k + j) (omega arith)))
-
-  pub row_part : (skip : ℕ) → word < 2 ^ 64 → 64 * k < from → skip ≡ from - 64 * k → RowFrom w a k from (word / 2 ^ skip * 2 ^ skip % 18446744073709551616)
+  pub row_part : word < 2 ^ 64 → skip ≡ from - 64 * k → RowFrom w a k from (word / 2 ^ skip * 2 ^ skip % 18446744073709551616)
   unfolding RowFrom
-  row_part skip small l d j h =
+  row_part small d j h =
       let exact : word / 2 ^ skip * 2 ^ skip % 2 ^ 64 ≡ word / 2 ^ skip * 2 ^ skip = mod-eq_of_lt (omega (arith, small, div-mul-le_self word (2 ^ skip))) in
       let same : leb skip j ≡ leb from (64 * k + j) =
       below_or j skip
@@ -159,7 +151,7 @@ module _ (w : List ℕ) (a k from word : ℕ) (e : word ≡ get_or w (512 + 8 * 
       (λ q. le-leb skip j q ∙ sym (le-leb from (64 * k + j) (omega arith))) in
       ap (λ (n : ℕ). bit_at n j) exact ∙ bit_from skip word j ∙ ap₂ (λ (t u : Bool). t and u) same (row_bit j h)
 
-pub ruleset rows = (row_whole, row_part, zeros_fit)
+pub ruleset rows = (row_part, zeros_fit)
 
 -- ---- `next_partner`
 
@@ -211,11 +203,9 @@ module _ (w : List ℕ) (a from : ℕ) where
     unfolding RowFrom
     is j h = sym (row j h)
 
-    pub next_found : (z : ℕ) → a < 512 → k < 8 → (word ≡ 0 → ⊥) → z ≡ count_trailing_zeros 64 word → NextPartner w a from (64 * k + z + 1)
+    pub next_found : a < 512 → k < 8 → (word ≡ 0 → ⊥) → NextPartner w a from (suc (64 * k + count_trailing_zeros 64 word))
     unfolding NoneTo
-    next_found z an h n e =
-        let q : 64 * k + z + 1 ≡ suc (64 * k + count_trailing_zeros 64 word) = omega (arith, e) in
-        next_is w a from an (64 * k + z + 1) (q ∙ sym (ap found (first_word (partner w a from) k word small is 8 h (omega arith) inv)))
+    next_found an h n = next_is w a from an _ (sym (ap found (first_word (partner w a from) k word small is 8 h (omega arith) inv)))
 
     pub next_on : word ≡ 0 → NoneTo w a from (k + 1)
     unfolding NoneTo
@@ -227,12 +217,4 @@ module _ (w : List ℕ) (a from : ℕ) where
       next_is w a from an 0
       (sym (ap found (none_of (partner w a from) 512 (λ j l. fails _ (λ e. first_none (partner w a from) (64 * k) inv j (omega arith) e)))))
 
-pub next_room : (k z w : ℕ) → k < 8 → z ≡ count_trailing_zeros 64 w → 64 * k + z < 2 ^ 64
-next_room k z w h e = omega (arith, trailing_le 64 w)
-
-pub next_room_one : (k z w : ℕ) → k < 8 → z ≡ count_trailing_zeros 64 w → 64 * k + z + 1 < 2 ^ 64
-next_room_one k z w h e = omega (arith, trailing_le 64 w)
-
-pub ruleset nexts = (next_no_row, next_start, next_found, next_on, next_none, next_room, next_room_one)
-
-pub ruleset all = (reads, finds, adds, dangers, rows, nexts)
+pub ruleset nexts = (next_no_row, next_start, next_found, next_on, next_none, trailing_le)

@@ -1,109 +1,92 @@
 // A set of pairs of nodes in one table, to which pairs are added at the end, and a set of old edges. Every public function takes any slice and
 // any number: what stands past the end is 0, a store past the end does nothing, and a link leads only downwards.
-#![tactic(auto)]
+#![tactic(auto, using(crate::proofs::Laws::reads))]
 
-ghost use Rattle.std.specs.Prelude.{◌≡◌, ◌∷◌, [], ◌+◌, ◌*◌, ◌^◌, ◌<◌};
-ghost use Rattle.std.specs.Int.Count.{count_trailing_zeros};
-ghost use Rattle.std.proofs.lemmas.List.Edits.{sets};
-ghost use Rattle.pairset.specs.Store.{Appended, DangerMarked, Emptied, Has, NextPartner, RowFrom, danger_word, last_pair, new_at, old_at, pair_before};
+ghost use Rattle.std.specs.Prelude.{◌≡◌, ◌+◌, ◌*◌, ◌<◌, get_or};
+ghost use Rattle.laws.specs.Places.{place};
+ghost use Rattle.pairset.specs.Store.{Appended, DangerMarked, Emptied, Has, NextPartner, RowFrom, danger_word, last_pair, new_at, old_at, pair_base, pair_before};
+
+// The number j of the row of the pair k.
+fn pair_number(w: &[usize], k: usize, j: usize) -> usize
+    requires { j < 3 }
+    ensures { result ≡ get_or w.now (pair_base + j + 3 * k) 0 }
+{
+    if w.len() <= k {
+        return 0;
+    }
+    text::get(w, 4624 + j + 3 * k)
+}
 
 // The old node of the pair k.
 pub fn old_of(w: &[usize], k: usize) -> usize
     ensures { result ≡ old_at w.now k }
 {
-    if w.len() <= k {
-        return 0;
-    }
-    text::get(w, 4624 + 3 * k)
+    pair_number(w, k, 0)
 }
 
 // The new node of the pair k.
 pub fn new_of(w: &[usize], k: usize) -> usize
     ensures { result ≡ new_at w.now k }
 {
-    if w.len() <= k {
-        return 0;
-    }
-    text::get(w, 4625 + 3 * k)
+    pair_number(w, k, 1)
 }
 
-// 1 + the latest pair of the old node a, or 0.
-pub fn last_pair(w: &[usize], a: usize) -> usize
-    ensures { result ≡ last_pair w.now a }
+// The latest pair of the old node a. The table holds 1 + the pair, or 0 for none.
+pub fn last_pair(w: &[usize], a: usize) -> Option<usize>
+    ensures { place result ≡ last_pair w.now a }
 {
-    if a < 512 {
-        return text::get(w, a);
+    if 512 <= a {
+        return None;
     }
-    0
+    text::get(w, a).checked_sub(1)
 }
 
-// 1 + the pair before k of the same old node, or 0; 0 too where the link leads past k.
-pub fn pair_before(w: &[usize], k: usize) -> usize
-    ensures { result ≡ pair_before w.now k }
+// The pair before k of the same old node; none too where the link leads past k.
+pub fn pair_before(w: &[usize], k: usize) -> Option<usize>
+    ensures { place result ≡ pair_before w.now k }
 {
-    if w.len() <= k {
-        return 0;
+    // a test, since `filter` compiles to more
+    let place = pair_number(w, k, 2);
+    if k < place {
+        return None;
     }
-    let place = text::get(w, 4626 + 3 * k);
-    if place <= k {
-        return place;
-    }
-    0
+    place.checked_sub(1)
 }
 
 // Whether (a, b) is one of the pairs, by its bit.
+#[tactic(auto, using(crate::proofs::Laws::finds))]
 pub fn has(w: &[usize], a: usize, b: usize) -> bool
     ensures { Has w.now a b result }
 {
-    if 512 <= a {
-        return false;
-    }
-    if 512 <= b {
-        return false;
-    }
-    text::bit_at(w, 64 * (512 + 8 * a) + b)
+    a < 512 && b < 512 && text::bit_at(w, 64 * (512 + 8 * a) + b)
 }
 
 // Makes the table one of no pairs and no dangerous edges. What stands where pairs do stays: it is of no matter.
+#[tactic(auto, using(crate::proofs::Laws::clears))]
 pub fn empty(w: &mut [usize])
     ensures { Emptied w.old w.new }
 {
-    if w.len() < 4624 {
-        return;
+    if 4624 <= w.len() {
+        text::clear(&mut w[..4624]);
     }
-    text::clear(&mut w[..4624]);
-}
-
-// Puts three numbers at `at`.
-fn put_row(w: &mut [usize], at: usize, x: usize, y: usize, z: usize)
-    requires { at + 2 < 2 ^ 64 }
-    ensures { w.new ≡ sets w.old at (x ∷ (y ∷ (z ∷ []))) }
-{
-    text::put(w, at, x);
-    text::put(w, at + 1, y);
-    text::put(w, at + 2, z);
 }
 
 // Adds the pair (a, b) after c others.
+#[tactic(auto, using(crate::proofs::Laws::adds))]
 pub fn append(w: &mut [usize], c: usize, a: usize, b: usize)
     ensures { Appended w.old c a b w.new }
 {
-    if w.len() <= c {
+    if w.len() <= c || 512 <= a || 512 <= b {
         return;
     }
-    if 512 <= a {
-        return;
-    }
-    if 512 <= b {
-        return;
-    }
-    let before = last_pair(w, a);
-    put_row(w, 4624 + 3 * c, a, b, before);
+    let before = text::get(w, a);
+    text::copy(w, 4624 + 3 * c, &[a, b, before]);
     text::set_bit(w, 64 * (512 + 8 * a) + b);
     text::put(w, a, c + 1);
 }
 
 // Puts the old edge e into the set of dangerous edges.
+#[tactic(auto, using(crate::proofs::Laws::dangers))]
 pub fn mark_danger(w: &mut [usize], e: usize)
     ensures { DangerMarked w.old e w.new }
 {
@@ -123,40 +106,29 @@ pub fn danger_word(w: &[usize], k: usize) -> usize
 }
 
 // The word k of the row of a, with the bits from `from` on only.
+#[tactic(auto, using(crate::proofs::Laws::rows))]
 fn row_from(w: &[usize], a: usize, k: usize, from: usize) -> usize
     requires { (a < 512) × (k < 8) × (from < 64 * k + 64) }
     ensures { RowFrom w.now a k from result }
 {
     let word = text::get(w, 512 + 8 * a + k);
-    let start = 64 * k;
-    if from <= start {
-        return word;
-    }
-    let skip = from - start;
+    let skip = from.saturating_sub(64 * k);
     word >> skip << skip
 }
 
-// How many bits stand below the lowest that is set.
-fn zeros_below(w: usize) -> usize
-    ensures { result ≡ count_trailing_zeros 64 w }
-{
-    usize::trailing_zeros(w) as usize
-}
-
-// 1 + the lowest new node from `from` on that is paired with a, or 0: goes over the words of the row of a, at most 8.
-pub fn next_partner(w: &[usize], a: usize, from: usize) -> usize
-    ensures { NextPartner w.now a from result }
+// The lowest new node from `from` on that is paired with a: goes over the words of the row of a, at most 8.
+#[tactic(auto, using(crate::proofs::Laws::nexts))]
+pub fn next_partner(w: &[usize], a: usize, from: usize) -> Option<usize>
+    ensures { NextPartner w.now a from (place result) }
 {
     if 512 <= a {
-        return 0;
+        return None;
     }
-    let mut k = from / 64;
-    while k < 8 {
+    for k in from / 64..8 {
         let word = row_from(w, a, k, from);
         if word != 0 {
-            return 64 * k + zeros_below(word) + 1;
+            return Some(64 * k + word.trailing_zeros() as usize);
         }
-        k += 1;
     }
-    0
+    None
 }

@@ -1,8 +1,8 @@
--- The turns and the returns of the functions that find where the runs may part, as `search` finds them: the premises are what the code holds there.
+-- The turns and the returns of the functions that find where the runs may part: the premises are what the code holds there.
 use mathlib.Core.Path.{◌≡◌, refl, sym, ap, ◌∙◌}
 use mathlib.Core.Bool.{Bool, true, false}
 use mathlib.Core.List.{List}
-use Prim.Native.Nat.{ℕ, ◌+◌, ◌-◌, ◌≤◌, ◌<◌}
+use Prim.Native.Nat.{ℕ, suc, ◌+◌, ◌≤◌, ◌<◌}
 use native.Mathlib.Numerals.{add-one}
 use native.Mathlib.Omega.{arith}
 use lib.Dec.{eqb, ltb}
@@ -18,11 +18,12 @@ use Rattle.rules.specs.Graph.{edge_count, source_at}
 use Rattle.rules.specs.ProgramFile.{Listing}
 use Rattle.rules.proofs.Closure.{dangers_iff, parted_danger}
 use Rattle.graph.specs.Table.{edge_base}
-use Rattle.pairset.specs.Store.{last_pair, new_at, old_at, pair_before, pairs_in}
+use Rattle.pairset.specs.Store.{last_pair, new_at, pair_before, pairs_in}
+use Rattle.pairset.specs.StoreLaws.{before_le}
 use Rattle.versions.specs.MemoryLaws.{sound, well_formed}
 use Rattle.selection.specs.Compared.{Compared, Joins, JoinsBefore, met_parted}
-use Rattle.selection.proofs.Dangers.{before_less, source_of}
-use Rattle.selection.proofs.Hits.{EdgesLeft, PairsLeft, edges_end, edges_on, edges_start, hit_less, pair_at, pairs_end, pairs_on, pairs_start}
+use Rattle.selection.proofs.Dangers.{source_of}
+use Rattle.selection.proofs.Hits.{EdgesLeft, PairsLeft, edges_end, edges_on, edges_start, joins_le, owner_at, pair_at, pairs_end, pairs_on, pairs_start}
 use Rattle.probes.specs.Starts.{AddsAll, AddsAt, AddsParted, AddsStart, AllStart, Parts, PartsAt, Starts, parts_to}
 
 pub adding : Adding ◌or◌
@@ -45,21 +46,21 @@ module _ (on ol nn nl w : List ℕ) (e n m : ℕ) (set : List ℕ) where
   unfolding AddsFrom Joins
   at_start place j = record { from = λ o p c h i en l room x. edges_start h e false ◌or◌ adding x m _ place (j o p c h i en l); size = refl }
 
-  module _ (set₁ : List ℕ) (place : ℕ) (inv : PartsFrom on ol nn nl w e n m set set₁ place) where
-    pub at_end : place ≤ 0 → PartsAt on ol nn nl w e n m set set₁
-    unfolding AddsFrom AddsAt
-    at_end z = record { adds = λ o p c h i en l room x. edges_end h e false ◌or◌ adding x m _ _ place (inv.from o p c h i en l room x) z; size = inv.size }
+  pub at_end : (set₁ : List ℕ) → PartsFrom on ol nn nl w e n m set set₁ 0 → PartsAt on ol nn nl w e n m set set₁
+  unfolding AddsFrom AddsAt
+  at_end set₁ inv = record { adds = λ o p c h i en l room x. edges_end h e false ◌or◌ adding x m _ _ (inv.from o p c h i en l room x); size = inv.size }
 
-    pub at_on : (f next : ℕ) (set₂ : List ℕ) → 0 < place → f ≡ place - 1 → set₂ ≡ with_bit set₁ f → JoinsBefore ol nl w e f false next → PartsFrom on ol nn nl w e n m set set₂ next
-    unfolding AddsFrom
-    at_on f next set₂ pos d er j =
-        record {
-          from = λ o p c h i en l room x.
-              let r = inv.from o p c h i en l room x in
-              edges_on h e false ◌or◌ adding x m _ _ _ place f next r i (rw (← en) l) pos d
-              (ap (λ (v : List ℕ). bit_in v x) er ∙ bit_with set₁ f x (omega (arith, r.within, (sound _ p h.new_in).few_edges, inv.size)) ∙ or_swap (eqb f x) (bit_in set₁ x)) j;
-          size = ap length er ∙ with_size set₁ f ∙ inv.size;
-        }
+  pub at_on : (set₁ : List ℕ) (f next : ℕ) (set₂ : List ℕ) → PartsFrom on ol nn nl w e n m set set₁ (suc f) → set₂ ≡ with_bit set₁ f → JoinsBefore ol nl w e f false next
+      → PartsFrom on ol nn nl w e n m set set₂ next
+  unfolding AddsFrom
+  at_on set₁ f next set₂ inv er j =
+      record {
+        from = λ o p c h i en l room x.
+            let r = inv.from o p c h i en l room x in
+            edges_on h e false ◌or◌ adding x m _ _ _ f next r i (rw (← en) l)
+            (ap (λ (v : List ℕ). bit_in v x) er ∙ bit_with set₁ f x (omega (arith, r.within, (sound _ p h.new_in).few_edges, inv.size)) ∙ or_swap (eqb f x) (bit_in set₁ x)) j;
+        size = ap length er ∙ with_size set₁ f ∙ inv.size;
+      }
 
 -- ---- `part`
 
@@ -81,28 +82,29 @@ part_start on ol nn nl w e n place set en ep =
       size = refl;
     }
 
-module _ (on ol nn nl w : List ℕ) (e n : ℕ) (set set₁ : List ℕ) (place : ℕ) (inv : PartsTo on ol nn nl w e n set set₁ place) where
-  pub part_end : place ≤ 0 → Parts on ol nn nl w e set set₁
+module _ (on ol nn nl w : List ℕ) (e n : ℕ) (set set₁ : List ℕ) where
+  pub part_end : PartsTo on ol nn nl w e n set set₁ 0 → Parts on ol nn nl w e set set₁
   unfolding AddsTo AddsParted
-  part_end z =
+  part_end inv =
       record {
         adds = λ o p c h i room x.
-            pairs_end h e false ◌or◌ adding x _ _ place ((inv.to o p c h i room).1 x) z
+            pairs_end h e false ◌or◌ adding x _ _ ((inv.to o p c h i room).1 x)
             ∙ ap (λ (t : Bool). bit_in set x or (ltb x (edge_count p.program) and t)) (met_parted o.program p.program _ e x);
         size = inv.size;
       }
 
-  pub part_on : (k m next : ℕ) (set₂ : List ℕ) → 0 < place → k ≡ place - 1 → m ≡ new_at w k → PartsAt on ol nn nl w e n m set₁ set₂ → next ≡ pair_before w k → PartsTo on ol nn nl w e n set set₂ next
+  pub part_on : (k m next : ℕ) (set₂ : List ℕ) → PartsTo on ol nn nl w e n set set₁ (suc k) → m ≡ new_at w k → PartsAt on ol nn nl w e n m set₁ set₂ → next ≡ pair_before w k
+      → PartsTo on ol nn nl w e n set set₂ next
   unfolding AddsTo AddsAt
-  part_on k m next set₂ pos d em a en =
+  part_on k m next set₂ inv em a en =
       record {
         to = λ o p c h i room.
             let r = inv.to o p c h i room in (
               r.0,
               λ x.
                   let y = r.1 x in
-                  let there = pair_at h n m k (omega (arith, y.within)) (r.0 ∙ sym (y.owner pos) ∙ ap (old_at w) (sym d)) em in
-                  pairs_on h e false ◌or◌ adding x _ _ _ place k m next y pos d em (a.adds o p c h i r.0 there (omega (arith, inv.size)) x) en,
+                  let there = pair_at h n m k (omega (arith, y.within)) (r.0 ∙ sym (owner_at k y)) em in
+                  pairs_on h e false ◌or◌ adding x _ _ _ k m next y em (a.adds o p c h i r.0 there (omega (arith, inv.size)) x) en,
             );
         size = a.size ∙ inv.size;
       }
@@ -148,4 +150,4 @@ module _ (on ol nn nl w dangers : List ℕ) (edges : ℕ) (set : List ℕ) where
     pub all_end : e ≤ edges → edges ≤ e → AllStart on ol nn nl w dangers edges edges set set₁
     all_end a b = let q : e ≡ edges = omega arith in rw q at inv
 
-pub ruleset starts = (before_less, hit_less, at_start, at_end, at_on, part_start, part_end, part_on, start_on, start_past, all_none, all_on, all_end)
+pub ruleset starts = (before_le, joins_le, at_start, at_end, at_on, part_start, part_end, part_on, start_on, start_past, all_none, all_on, all_end)

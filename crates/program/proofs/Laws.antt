@@ -5,6 +5,9 @@ use mathlib.Core.List.{List, [], ◌∷◌}
 use Prim.Native.Nat.{ℕ, zero, suc, ◌+◌, ◌-◌, ◌*◌, ◌≤◌, ◌<◌}
 use native.Mathlib.Omega.{arith}
 use lib.ListN.{length, get_or, take, drop, length-drop}
+use lib.Pointwise.{pointwise}
+use Rattle.std.specs.Prelude.{nat_eq}
+use Rattle.text.specs.Runs.{numbers_same}
 use lib.Seq.{sets, ext_get_or, length-sets}
 use Rattle.laws.specs.Tests.{◌and◌, choose}
 use Rattle.laws.specs.TestLaws.{both_ways, fails}
@@ -16,8 +19,7 @@ use Rattle.rules.specs.Graph.{node_count, edge_count, proc_count}
 use Rattle.rules.specs.ProgramFile.{Listing, read_listing}
 use Rattle.graph.specs.Table.{At, node_row, proc_row, edge_row, head_of, nodes_after, links_after}
 use Rattle.graph.specs.Lookups.{in_table}
-use Rattle.reader.specs.declared.Count.{Count}
-use Rattle.reader.specs.Result.{links_of, InTable, Told, Small, ReadInto}
+use Rattle.reader.specs.Result.{Count, links_of, InTable, Told, Small, ReadInto}
 use Rattle.program.specs.Lent.{copied_nodes, copied_links, Counted, is_left, left_number, TablesLeft}
 
 -- ---- what is copied
@@ -63,9 +65,9 @@ pub ruleset copies = (links_copy)
 
 -- ---- `same_nodes`, `same_links`
 
-pub nodes_same : (w v t : List ℕ) (n : ℕ) (r : Bool) → v ≡ take (4 * n) (drop 0 w) → r ≡ same (sets t 0 v) t → r ≡ same (copied_nodes w n t) t
+pub nodes_same : (w v t : List ℕ) (n : ℕ) (r : Bool) → v ≡ take (4 * n) (drop 0 w) → r ≡ pointwise nat_eq (sets t 0 v) t → r ≡ same (copied_nodes w n t) t
 unfolding copied_nodes
-nodes_same w v t n r e q = q ∙ ap (λ (l : List ℕ). same (sets t 0 l) t) e
+nodes_same w v t n r e q = q ∙ numbers_same (sets t 0 v) t ∙ ap (λ (l : List ℕ). same (sets t 0 l) t) e
 
 -- Where a store from j on gives t, and what stands from j on is t's before it, it was t.
 undo : (u vs t : List ℕ) (j : ℕ) → sets u j vs ≡ t → ((k : ℕ) → j ≤ k → get_or u k 0 ≡ get_or t k 0) → u ≡ t
@@ -97,27 +99,27 @@ module _ (w m a b d t : List ℕ) (c : Count) (sm : Small c) (em : m ≡ links_o
   first_of : sets (sets (sets t 0 A) 448 B) 5568 D ≡ t → sets t 0 A ≡ t
   first_of e = undo (sets t 0 A) B t 448 (second e) (λ k l. get_d_sets_after A t 0 k 0 (omega (arith, short_a)))
 
-  pub links_not : (r : Bool) → r ≡ same (sets t 0 a) t → r ≡ false → false ≡ same (copied_links w c t) t
+  pub links_not : (r : Bool) → r ≡ pointwise nat_eq (sets t 0 a) t → r ≡ false → false ≡ same (copied_links w c t) t
   unfolding copied_links
-  links_not r q z = sym (fails _ (λ y. both_ways (ap (λ (l : List ℕ). same (sets t 0 l) t) is_a ∙ same_of (first_of (same_true _ t y))) (sym q ∙ z)))
+  links_not r q z = sym (fails _ (λ y. both_ways (ap (λ (l : List ℕ). same (sets t 0 l) t) is_a ∙ same_of (first_of (same_true _ t y))) (sym (numbers_same (sets t 0 a) t) ∙ sym q ∙ z)))
 
-  module _ (r : Bool) (q : r ≡ same (sets t 0 a) t) (z : r ≡ true) (eb : b ≡ take (5 * c.edges) (drop 448 m)) where
+  module _ (r : Bool) (q : r ≡ pointwise nat_eq (sets t 0 a) t) (z : r ≡ true) (eb : b ≡ take (5 * c.edges) (drop 448 m)) where
     kept_a : sets t 0 A ≡ t
-    kept_a = ap (sets t 0) (sym is_a) ∙ same_true _ t (sym q ∙ z)
+    kept_a = ap (sets t 0) (sym is_a) ∙ same_true _ t (sym (numbers_same (sets t 0 a) t) ∙ sym q ∙ z)
 
     is_b : b ≡ B
     is_b = eb ∙ ap (λ (l : List ℕ). take (5 * c.edges) (drop 448 l)) em
 
-    pub links_not_edges : (r' : Bool) → r' ≡ same (sets t 448 b) t → r' ≡ false → false ≡ same (copied_links w c t) t
+    pub links_not_edges : (r' : Bool) → r' ≡ pointwise nat_eq (sets t 448 b) t → r' ≡ false → false ≡ same (copied_links w c t) t
     unfolding copied_links
     links_not_edges r' q' z' =
-        sym (fails _ (λ y. both_ways (ap (λ (l : List ℕ). same (sets t 448 l) t) is_b ∙ same_of (ap (λ (l : List ℕ). sets l 448 B) (sym kept_a) ∙ second (same_true _ t y))) (sym q' ∙ z')))
+        sym (fails _ (λ y. both_ways (ap (λ (l : List ℕ). same (sets t 448 l) t) is_b ∙ same_of (ap (λ (l : List ℕ). sets l 448 B) (sym kept_a) ∙ second (same_true _ t y))) (sym (numbers_same (sets t 448 b) t) ∙ sym q' ∙ z')))
 
-    pub links_same : (r' r'' : Bool) → r' ≡ same (sets t 448 b) t → r' ≡ true → d ≡ take c.nodes (drop 5568 m) → r'' ≡ same (sets t 5568 d) t → r'' ≡ same (copied_links w c t) t
+    pub links_same : (r' r'' : Bool) → r' ≡ pointwise nat_eq (sets t 448 b) t → r' ≡ true → d ≡ take c.nodes (drop 5568 m) → r'' ≡ pointwise nat_eq (sets t 5568 d) t → r'' ≡ same (copied_links w c t) t
     unfolding copied_links
     links_same r' r'' q' z' ed q'' =
-        let kept_b : sets t 448 B ≡ t = ap (sets t 448) (sym is_b) ∙ same_true _ t (sym q' ∙ z') in
-        q'' ∙ ap (λ (l : List ℕ). same (sets t 5568 l) t) (ed ∙ ap (λ (l : List ℕ). take c.nodes (drop 5568 l)) em)
+        let kept_b : sets t 448 B ≡ t = ap (sets t 448) (sym is_b) ∙ same_true _ t (sym (numbers_same (sets t 448 b) t) ∙ sym q' ∙ z') in
+        q'' ∙ numbers_same (sets t 5568 d) t ∙ ap (λ (l : List ℕ). same (sets t 5568 l) t) (ed ∙ ap (λ (l : List ℕ). take c.nodes (drop 5568 l)) em)
         ∙ ap (λ (l : List ℕ). same (sets l 5568 D) t) (sym (ap (λ (l : List ℕ). sets l 448 B) kept_a ∙ kept_b))
 
 -- ---- `tables_left`

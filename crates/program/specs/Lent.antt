@@ -1,13 +1,13 @@
 -- What reading a program file leaves in lent tables.
-use Rattle.std.specs.Prelude.{◌≡◌, Bool, List, ℕ, ◌*◌, take, drop}
+use Rattle.std.specs.Prelude.{◌≡◌, Bool, List, ℕ, ◌*◌, take, drop, Option, Some, None}
 use Rattle.std.proofs.lemmas.List.Edits.{sets}
 use Rattle.laws.specs.Tests.{◌and◌, choose}
 use Rattle.rules.specs.Text.{Bytes, same, Reading, refused, accepted}
 use Rattle.rules.specs.Graph.{proc_count, node_count, edge_count}
 use Rattle.rules.specs.ProgramFile.{Listing, read_listing}
 use Rattle.graph.specs.Table.{nodes_after, links_after}
-use Rattle.reader.specs.declared.Count.{Count}
-use Rattle.reader.specs.Result.{links_of}
+use Rattle.reader.specs.declared.Counts.{Counts}
+use Rattle.reader.specs.Result.{Count, counts_of, links_of}
 
 -- The rows of a work table, copied.
 unfoldable pub copied_nodes : List ℕ → ℕ → List ℕ → List ℕ
@@ -31,6 +31,11 @@ is_left s n l = same (nodes_after s n) n and same (links_after s l) l
 unfoldable pub left_number : Reading Listing → List ℕ → List ℕ → ℕ
 left_number (refused k p) n l = 14
 left_number (accepted s) n l = choose (is_left s n l) 0 14
+
+-- What `tables_left` answers, as one record: 14 for none.
+abbrev pub left_count : Option Counts → Count
+left_count None = record { number = 14; place = 0; procs = 0; nodes = 0; edges = 0 }
+left_count (Some c) = counts_of c
 
 -- `tables_left`. What the work table holds afterwards is left open, and so are the counts beside 14.
 pub record TablesLeft (text : Bytes) (n l : List ℕ) (r : Count) : Type 0 where

@@ -6,38 +6,40 @@
 // byte 10: the lengths of the two texts, of six digits each, and a name of at most 32 bytes without blanks.
 #![tactic(auto)]
 
+use answer::Refusal;
+use reader::Counts;
 use std::io;
 use std::io::{Read, Write};
 
-fn refused<W: Write>(to: &mut W, name: &[u8], file: &[u8], r: reader::Count) -> io::Result<()> {
+fn refused<W: Write>(to: &mut W, name: &[u8], file: &[u8], refusal: Refusal) -> io::Result<()> {
     to.write_all(name)?;
-    files::print_answer(to, file, r.number, r.place)
+    files::print_answer(to, file, refusal.fault.number(), refusal.place)
 }
 
 fn told<W: Write>(
     to: &mut W,
     name: &[u8],
-    old: reader::Count,
-    new: reader::Count,
+    old: Result<Counts, Refusal>,
+    new: Result<Counts, Refusal>,
 ) -> io::Result<()> {
-    if old.number != 0 {
-        return refused(to, name, b",old", old);
+    match (old, new) {
+        (Err(refusal), _) => refused(to, name, b",old", refusal),
+        (Ok(_), Err(refusal)) => refused(to, name, b",new", refusal),
+        (Ok(_), Ok(_)) => {
+            to.write_all(name)?;
+            to.write_all(b",read\n")
+        }
     }
-    if new.number != 0 {
-        return refused(to, name, b",new", new);
-    }
-    to.write_all(name)?;
-    to.write_all(b",read\n")
 }
 
 // What the reader says of the text in the first n bytes.
-fn read_front(buffer: &[u8], n: usize) -> reader::Count {
+fn read_front(buffer: &[u8], n: usize) -> Result<Counts, Refusal> {
     let mut work = [0usize; 8128];
     reader::read_into(text::front(buffer, n), &mut work)
 }
 
 // What the reader says of the text in the next n bytes. The buffer has one byte more than a program file may have.
-fn read_next<R: Read>(cases: &mut R, n: usize) -> io::Result<reader::Count> {
+fn read_next<R: Read>(cases: &mut R, n: usize) -> io::Result<Result<Counts, Refusal>> {
     let mut buffer = [0u8; 65537];
     let came = files::fill(cases, &mut buffer, n)?;
     Ok(read_front(&buffer, came))
@@ -67,9 +69,9 @@ fn all_cases<R: Read, W: Write>(cases: &mut R, to: &mut W) -> io::Result<()> {
 }
 
 // The line of a kind in the table of degrees.
-fn degrees<W: Write>(to: &mut W, kind: &[u8], k: usize) -> io::Result<()> {
-    let d = reader::degrees_of(k);
-    files::print_answer(to, kind, d.fewest, d.most)
+fn degrees<W: Write>(to: &mut W, letter: &[u8], kind: usize) -> io::Result<()> {
+    let d = reader::degrees_of(kind);
+    files::print_answer(to, letter, d.fewest, d.most)
 }
 
 fn main(rt: HostRuntime) -> io::Result<()> {

@@ -4,7 +4,10 @@ use mathlib.Core.Bool.{Bool, true, false}
 use mathlib.Core.List.{List, [], ◌∷◌}
 use Prim.Native.Nat.{ℕ, zero, suc, ◌+◌, ◌-◌, ◌*◌, ◌%◌, ◌^◌, ◌≤◌, ◌<◌}
 use native.Mathlib.Omega.{arith}
-use lib.ListN.{length, get_or, take, drop}
+use lib.ListN.{length, get_or, take, drop, length-take}
+use lib.Seq.{take_all}
+use Rattle.std.specs.Prelude.{Some, None}
+use Rattle.laws.specs.Slices.{below_or}
 use Rattle.laws.specs.Digits.{number}
 use Rattle.laws.specs.Tests.{isnt, found}
 use Rattle.laws.specs.TestLaws.{and_left, and_right, and_both, fails, both_ways, true_isnt, isnt_true, any_of_lem, any_at, first_at, found_some}
@@ -34,46 +37,36 @@ module _ (f : Bytes → ℕ) where
   all_cons p ps h hs zero l = h
   all_cons p ps h hs (suc i) l = hs i (omega arith)
 
-  number_one : (p : Bytes) → NumberOf f (p ∷ []) (f p)
-  unfolding number
-  number_one p =
-      record {
-        unknown = λ z. (0, omega arith, z);
-        known = λ z. (let e : f p ≡ 0 * 256 + f p = omega arith in e, all_cons p [] (positive (f p) z) (λ i l. absurd (let y : ⊥ = omega arith in y)));
-      }
+  number_lost : (p : Bytes) (ps : List Bytes) → f p ≡ 0 → NumberOf f (p ∷ ps) None
+  number_lost p ps e = (0, omega arith, e)
 
-  number_lost : (p : Bytes) (ps : List Bytes) → f p ≡ 0 → NumberOf f (p ∷ ps) 0
-  number_lost p ps e = record { unknown = λ z. (0, omega arith, e); known = λ z. absurd (z refl) }
+  number_behind : (p : Bytes) (ps : List Bytes) → NumberOf f ps None → NumberOf f (p ∷ ps) None
+  number_behind p ps u = (suc u.0, omega (arith, u.1), u.2)
 
-  module _ (p : Bytes) (ps : List Bytes) (r : ℕ) (h : NumberOf f ps r) where
-    number_behind : r ≡ 0 → NumberOf f (p ∷ ps) 0
-    number_behind e = record { unknown = λ z. let u = h.unknown e in (suc u.0, omega (arith, u.1), u.2); known = λ z. absurd (z refl) }
+  module _ (small : (x : Bytes) → f x < 256) (p : Bytes) (q : ℕ) (e : suc q ≡ f p) where
+    number_one : NumberOf f (p ∷ []) (Some (q % 255 + 1))
+    unfolding number
+    number_one = (let z : q % 255 + 1 ≡ 0 * 256 + f p = omega (arith, small p) in z, all_cons p [] (omega arith) (λ i l. absurd (let y : ⊥ = omega arith in y)))
 
-    module _ (small : (x : Bytes) → f x < 256) where
-      -- k digits make a number below 256 ^ k.
-      number_below : (k : ℕ) (qs : List Bytes) → length qs ≤ k → number 256 f qs < 256 ^ k
-      unfolding number
-      number_below zero [] l = omega arith
-      number_below zero (q ∷ qs) l = absurd (let z : ⊥ = omega arith in z)
-      number_below (suc k) [] l = omega (arith, number_below k [] (omega arith))
-      number_below (suc k) (q ∷ qs) l = omega (arith, number_below k qs (omega arith), small q)
+    -- k digits make a number below 256 ^ k.
+    number_below : (k : ℕ) (qs : List Bytes) → length qs ≤ k → number 256 f qs < 256 ^ k
+    unfolding number
+    number_below zero [] l = omega arith
+    number_below zero (q ∷ qs) l = absurd (let z : ⊥ = omega arith in z)
+    number_below (suc k) [] l = omega (arith, number_below k [] (omega arith))
+    number_below (suc k) (q ∷ qs) l = omega (arith, number_below k qs (omega arith), small q)
 
-      number_more : (r ≡ 0 → ⊥) → (f p ≡ 0 → ⊥) → length ps ≤ 3 → NumberOf f (p ∷ ps) (r % 16777216 * 256 + f p % 256)
-      unfolding number
-      number_more y z l =
-          let u = h.known y in
-          let a = number_below 3 ps l in
-          let b = small p in
-          let e : r % 16777216 * 256 + f p % 256 ≡ number 256 f ps * 256 + f p = omega (arith, u.0) in
-          record {
-            unknown = λ d. absurd (let x : ⊥ = omega (arith, positive (f p) z) in x);
-            known = λ d. (e, all_cons p ps (positive (f p) z) u.1);
-          }
+    number_more : (ps : List Bytes) (r : ℕ) → NumberOf f ps (Some r) → length ps ≤ 3 → NumberOf f (p ∷ ps) (Some (r % 16777216 * 256 + q % 255 + 1))
+    unfolding number
+    number_more ps r u l =
+        let a = number_below 3 ps l in
+        let b = small p in
+        (let z : r % 16777216 * 256 + q % 255 + 1 ≡ number 256 f ps * 256 + f p = omega (arith, u.0) in z, all_cons p ps (omega arith) u.1)
 
 -- ---- `callees_in`
 
 module _ (text links : List ℕ) (procs : ℕ) (field : Bytes) (most : ℕ) where
-  pub callees_none : most ≡ 0 → CalleesIn text links procs field most 0
+  pub callees_none : most ≡ 0 → CalleesIn text links procs field most None
   unfolding CalleesIn name_count
   callees_none e s h ep few l = absurd (let z : ⊥ = omega (arith, some_name field) in z)
 
@@ -81,40 +74,47 @@ module _ (text links : List ℕ) (procs : ℕ) (field : Bytes) (most : ℕ) wher
   unfolding ProcNamed proc_digit
   digit_is name q pn s h ep = pn s h ep
 
+  small_digits : (s : Listing) → proc_count s.program ≤ 64 → (x : Bytes) → proc_digit s.program x < 256
+  small_digits s few x = let b = digit_small s.program x in omega (arith, few)
+
   module _ (name : Bytes) (e : name ≡ take (span 43 field) field) where
-    pub callees_last : (r : ℕ) → length field ≤ length name → ProcNamed text links procs field r → CalleesIn text links procs field most r
+    last_name : length field ≤ length name → split 43 field ≡ name ∷ []
+    last_name h =
+        let whole : name ≡ field = e ∙ take_all (span 43 field) field (omega (arith, ap length e, length-take (span 43 field) field)) in
+        first_last 43 field name e h ∙ ap (λ (p : Bytes). p ∷ []) (sym whole)
+
+    first_name : (ps : List Bytes) × (split 43 field ≡ name ∷ ps)
+    first_name =
+        below_or (length name) (length field) (λ h. (split 43 (drop (length name + 1) field), first_more 43 field name e (drop (length name + 1) field) h refl))
+        (λ h. ([], last_name h))
+
+    pub callees_unknown : ProcNamed text links procs name 0 → CalleesIn text links procs field most None
     unfolding CalleesIn
-    callees_last r h pn s hs ep few l =
-        rw (first_last 43 field name e h, digit_is field r pn s hs ep) (number_one (proc_digit s.program) field)
+    callees_unknown pn s hs ep few l = rw first_name.1 (number_lost (proc_digit s.program) name first_name.0 (sym (digit_is name 0 pn s hs ep)))
 
-    module _ (h : length name < length field) (q : ℕ) (pn : ProcNamed text links procs name q) where
-      pub callees_lost : q ≡ 0 → CalleesIn text links procs field most 0
+    pub callees_one : length field ≤ length name → (q : ℕ) → ProcNamed text links procs name (suc q) → CalleesIn text links procs field most (Some (q % 255 + 1))
+    unfolding CalleesIn
+    callees_one h q pn s hs ep few l = rw (last_name h) (number_one (proc_digit s.program) (small_digits s few) name q (digit_is name (suc q) pn s hs ep))
+
+    module _ (h : length name < length field) (q : ℕ) (pn : ProcNamed text links procs name (suc q)) (rest : Bytes) (er : rest ≡ drop (length name + 1) field) where
+      names_are : split 43 field ≡ name ∷ split 43 rest
+      names_are = first_more 43 field name e rest h er
+
+      names_behind : name_count field ≤ most → name_count rest ≤ most - 1
+      unfolding name_count
+      names_behind l = omega (arith, ap length names_are)
+
+      pub callees_behind : CalleesIn text links procs rest (most - 1) None → CalleesIn text links procs field most None
       unfolding CalleesIn
-      callees_lost z s hs ep few l =
-          rw (first_more 43 field name e (drop (length name + 1) field) h refl) (number_lost (proc_digit s.program) name _ (sym (digit_is name q pn s hs ep) ∙ z))
+      callees_behind c s hs ep few l = rw names_are (number_behind (proc_digit s.program) name (split 43 rest) (c s hs ep few (names_behind l)))
 
-      module _ (rest : Bytes) (er : rest ≡ drop (length name + 1) field) (r : ℕ) (c : CalleesIn text links procs rest (most - 1) r) where
-        names_are : split 43 field ≡ name ∷ split 43 rest
-        names_are = first_more 43 field name e rest h er
+      pub callees_more : (r : ℕ) → CalleesIn text links procs rest (most - 1) (Some r) → most ≤ 4 → CalleesIn text links procs field most (Some (r % 16777216 * 256 + q % 255 + 1))
+      unfolding CalleesIn name_count
+      callees_more r c m s hs ep few l =
+          rw names_are
+          (number_more (proc_digit s.program) (small_digits s few) name q (digit_is name (suc q) pn s hs ep) (split 43 rest) r (c s hs ep few (names_behind l)) (omega (arith, names_behind l)))
 
-        names_behind : name_count field ≤ most → name_count rest ≤ most - 1
-        unfolding name_count
-        names_behind l = omega (arith, ap length names_are)
-
-        pub callees_behind : r ≡ 0 → CalleesIn text links procs field most 0
-        unfolding CalleesIn
-        callees_behind z s hs ep few l =
-            rw names_are (number_behind (proc_digit s.program) name (split 43 rest) r (c s hs ep few (names_behind l)) z)
-
-        pub callees_more : (q ≡ 0 → ⊥) → (r ≡ 0 → ⊥) → most ≤ 4 → CalleesIn text links procs field most (r % 16777216 * 256 + q % 256)
-        unfolding CalleesIn name_count
-        callees_more y z m s hs ep few l =
-            let d = digit_is name q pn s hs ep in
-            rw (names_are, d)
-            (number_more (proc_digit s.program) name (split 43 rest) r (c s hs ep few (names_behind l)) (λ x. let b = digit_small s.program x in omega (arith, few)) z (λ x. y (d ∙ x))
-            (omega (arith, names_behind l)))
-
-pub ruleset callees = (callees_none, callees_last, callees_lost, callees_behind, callees_more)
+pub ruleset callees = (callees_none, callees_unknown, callees_one, callees_behind, callees_more)
 
 -- ---- the callees of a node
 
@@ -170,15 +170,11 @@ module _ (text : Bytes) (s : Listing) (k : Known text s) (n : ℕ) (l : n < node
     pub is_callees_lem : is_callees (callee_at p n) ≡ true
     is_callees_lem = call_field (kind_at p n) (label_at p n) (callee_at p n) form is_c
 
-    module _ (r : ℕ) (h : NumberOf (proc_digit p) (names_in (callee_at p n)) r) where
-      pub call_lost : r ≡ 0 → lost p n ≡ true
-      unfolding lost name_count name_in
-      call_lost z =
-          let u = h.unknown z in
-          and_both (same_kind_of is_c) (any_of_lem (λ i. isnt (named p (callee_name p n i))) (callee_count p n) u.0 u.1 (true_isnt (unknown_name p _ u.2)))
+    pub call_lost : NumberOf (proc_digit p) (names_in (callee_at p n)) None → lost p n ≡ true
+    unfolding lost name_count name_in
+    call_lost u =
+        and_both (same_kind_of is_c) (any_of_lem (λ i. isnt (named p (callee_name p n i))) (callee_count p n) u.0 u.1 (true_isnt (unknown_name p _ u.2)))
 
-      pub call_known : (r ≡ 0 → ⊥) → (lost p n ≡ false) × (r ≡ callees_from p n 0)
-      unfolding lost name_count name_in callees_from
-      call_known z =
-          let u = h.known z in
-          (fails _ (λ t. let v = any_at (λ i. isnt (named p (callee_name p n i))) (callee_count p n) (and_right _ _ t) in both_ways (known_name p _ (u.1 v.0 v.1)) (isnt_true _ v.2)), u.0)
+    pub call_known : (r : ℕ) → NumberOf (proc_digit p) (names_in (callee_at p n)) (Some r) → (lost p n ≡ false) × (r ≡ callees_from p n 0)
+    unfolding lost name_count name_in callees_from
+    call_known r u = (fails _ (λ t. let v = any_at (λ i. isnt (named p (callee_name p n i))) (callee_count p n) (and_right _ _ t) in both_ways (known_name p _ (u.1 v.0 v.1)) (isnt_true _ v.2)), u.0)

@@ -1,6 +1,6 @@
 -- The functions that test whether the procedure that is being read is complete: what each return and each turn of a loop shows.
 use mathlib.Core.Path.{◌≡◌, refl, sym, ap, ◌∙◌, subst}
-use mathlib.Core.Logic.{⊎_elim}
+use mathlib.Core.Logic.{◌⊎◌, ⊎_elim}
 use mathlib.Core.Bool.{Bool, true, false}
 use mathlib.Core.List.{List}
 use Prim.Native.Nat.{ℕ, zero, suc, ◌+◌, ◌-◌, ◌*◌, ◌≤◌, ◌<◌}
@@ -11,6 +11,7 @@ use lib.Seq.{get_or-drop}
 use borrow.Author.Tests.{eqb-true, eq-eqb, ne_eqb, leb-true, le-leb, lt-leb}
 use Rattle.laws.specs.Tests.{◌and◌, ◌⇒◌, every, count}
 use Rattle.laws.specs.TestLaws.{and_left, and_right, and_both, implied, implies, same_test, fails, both_ways, every_at, every_of, count_skip, count_more, below_suc}
+use Rattle.laws.specs.Slices.{below_or}
 use Rattle.laws.specs.Lists.{choose_no, count_agree}
 use Rattle.laws.specs.Counting.{count_zero, every_agree}
 use Rattle.rules.specs.Text.{Bytes, same}
@@ -19,10 +20,13 @@ use Rattle.rules.specs.ProgramFile.{Listing, current, degree_fine, complete}
 use Rattle.rules.specs.Kept.{Sound}
 use Rattle.graph.specs.Table.{proc_head, first_node}
 use Rattle.graph.specs.Lookups.{in_table, Edges, Procs, Degree, Dashed}
+use Rattle.lines.specs.declared.Kind.{Kind as Code}
+use Rattle.lines.specs.declared.Kind.TheVariants.{Entry, Step, Call, Exit}
+use Rattle.lines.specs.Kinds.{kind_code, kind_meant}
 use Rattle.lines.specs.Known.{Known}
-use Rattle.reader.specs.declared.Count.{Count}
+use Rattle.rules.proofs.GraphLaws.{same_kind_true}
 use Rattle.reader.specs.declared.Degrees.{Degrees}
-use Rattle.reader.specs.Result.{links_of, DegreesOf}
+use Rattle.reader.specs.Result.{Count, links_of, DegreesOf}
 use Rattle.reader.specs.Reading.{Holds, of_current, kind_count, node_fine, NodeFine, AllFine, FineTo, Completes}
 use Rattle.reader.proofs.Programs.{is_current}
 
@@ -56,7 +60,7 @@ current_row w c s h some k l =
 -- ---- `count_kind`
 
 module _ (w : List ℕ) (first k : ℕ) where
-  pub kind_none : (nodes : ℕ) → nodes < first → 0 ≡ kind_count w first nodes k
+  kind_none : (nodes : ℕ) → nodes ≤ first → 0 ≡ kind_count w first nodes k
   unfolding kind_count ◌and◌
   kind_none nodes h = sym (count_zero _ nodes (λ i l. let z : leb first i ≡ false = lt-leb first i (omega arith) in rw z))
 
@@ -79,10 +83,12 @@ module _ (w : List ℕ) (first k : ℕ) where
       e ∙ sym (count_skip (λ n. leb first n and eqb (get_or w (4 * n) 0) k) i (fails _ (λ t. q (p ∙ eqb-true (get_or w (4 * i) 0) k (and_right _ _ t)))))
       ∙ ap (λ (m : ℕ). count m (λ n. leb first n and eqb (get_or w (4 * n) 0) k)) (sym z)
 
-  pub kind_end : (n i nodes : ℕ) → n ≡ kind_count w first i k → i ≤ nodes → nodes ≤ i → n ≡ kind_count w first nodes k
-  kind_end n i nodes e a b = e ∙ ap (λ (m : ℕ). kind_count w first m k) (let z : i ≡ nodes = omega arith in z)
+  -- The end of the loop, which does not run where no node stands from `first` on.
+  pub kind_end : (n i nodes : ℕ) → (nodes ≤ first → n ≡ 0) → n ≡ kind_count w first i k → (first ≤ nodes → i ≤ nodes) → nodes ≤ i → n ≡ kind_count w first nodes k
+  kind_end n i nodes z e a b =
+      below_or first nodes (λ h. let y : i ≡ nodes = omega (arith, a (omega arith)) in e ∙ ap (λ (m : ℕ). kind_count w first m k) y) (λ h. z h ∙ kind_none nodes h)
 
-pub ruleset kinds = (kind_none, kind_start, kind_hit, kind_miss, kind_end)
+pub ruleset kinds = (kind_start, kind_hit, kind_miss, kind_end)
 
 -- ---- `node_fine`
 
@@ -92,28 +98,35 @@ number_kind S = (λ e. absurd (let z : ⊥ = omega arith in z), λ e. absurd (le
 number_kind C = (λ e. absurd (let z : ⊥ = omega arith in z), λ e. refl)
 number_kind X = (λ e. absurd (let z : ⊥ = omega arith in z), λ e. absurd (let z : ⊥ = omega arith in z))
 
--- A kind that asks nothing of its edges' words.
-any_word : (k : Kind) (w : Bytes) → (kind_number k ≡ 0 → ⊥) → (kind_number k ≡ 2 → ⊥) → worded k w ≡ true
-unfolding worded
-any_word E w a b = absurd (a refl)
-any_word S w a b = refl
-any_word C w a b = absurd (b refl)
-any_word X w a b = refl
+few_kinds : (k : Kind) → kind_number k ≤ 3
+few_kinds E = omega arith
+few_kinds S = omega arith
+few_kinds C = omega arith
+few_kinds X = omega arith
 
-module _ (w l : List ℕ) (n kind d : ℕ) (b : Degrees) (ek : kind ≡ get_or w (4 * n) 0) (eb : DegreesOf kind b) (el : l ≡ links_of w) (dd : Degree l n d) where
-  module _ (s : Listing) (c : Count) (k : Sound s.program) (h : Holds w c s) (m : n < node_count s.program) where
-    kind_is : kind ≡ kind_number (kind_at s.program n)
-    kind_is = ek ∙ kind_at_lem w c s h n m
+-- The table has kinds alone.
+pub fine_no_kind : (w : List ℕ) (n m : ℕ) → m ≡ get_or w (4 * n) 0 → 3 < m → NodeFine w n false
+unfolding NodeFine
+fine_no_kind w n m e h s c k hs l = absurd (let z : ⊥ = omega (arith, e ∙ kind_at_lem w c s hs n l, few_kinds (kind_at s.program n)) in z)
+
+module _ (w l : List ℕ) (n m d : ℕ) (kind : Code) (b : Degrees) (em : m ≡ get_or w (4 * n) 0) (ek : kind_code kind ≡ m) (ed : DegreesOf m b) (el : l ≡ links_of w) (dd : Degree l n d) where
+  eb : DegreesOf (kind_code kind) b
+  eb = subst (λ (x : ℕ). DegreesOf x b) (sym ek) ed
+
+  module _ (s : Listing) (c : Count) (k : Sound s.program) (h : Holds w c s) (a : n < node_count s.program) where
+    kind_is : kind_meant kind ≡ kind_at s.program n
+    unfolding same_kind
+    kind_is = same_kind_true _ _ (eq-eqb _ _ (ek ∙ em ∙ kind_at_lem w c s h n a))
 
     fewest_is : b.fewest ≡ fewest (kind_at s.program n)
-    fewest_is = eb.fewest_is ∙ ap (λ (i : ℕ). (get_or degrees i (0, 0)).0) kind_is
+    fewest_is = eb.fewest_is ∙ ap (λ (t : Kind). (get_or degrees (kind_number t) (0, 0)).0) kind_is
 
     most_is : b.most ≡ most (kind_at s.program n)
-    most_is = eb.most_is ∙ ap (λ (i : ℕ). (get_or degrees i (0, 0)).1) kind_is
+    most_is = eb.most_is ∙ ap (λ (t : Kind). (get_or degrees (kind_number t) (0, 0)).1) kind_is
 
     degree_is : d ≡ degree s.program n
     unfolding Degree
-    degree_is = dd s (subst (λ (x : List ℕ). Edges (in_table x) s) (sym el) (edges_of w c s k h)) m
+    degree_is = dd s (subst (λ (x : List ℕ). Edges (in_table x) s) (sym el) (edges_of w c s k h)) a
 
     fine : b.fewest ≤ d → d ≤ b.most → degree_fine s.program n ≡ true
     unfolding degree_fine
@@ -127,32 +140,26 @@ module _ (w l : List ℕ) (n kind d : ℕ) (b : Degrees) (ek : kind ≡ get_or w
   unfolding NodeFine node_fine degree_fine
   fine_many a s c k h m = sym (fails _ (λ t. let z : degree s.program n ≤ most (kind_at s.program n) = leb-true _ _ (and_right _ _ (and_left _ _ t)) in let y : ⊥ = omega (arith, most_is s c k h m, degree_is s c k h m) in y))
 
-  module _ (a : b.fewest ≤ d) (e : d ≤ b.most) (l' : List ℕ) (el' : l' ≡ links_of w) where
+  module _ (a : b.fewest ≤ d) (e : d ≤ b.most) where
     -- An E or a C: its edges are `-`.
-    dash_words : (s : Listing) (c : Count) → Sound s.program → Holds w c s → n < node_count s.program → (r : Bool) → Dashed l' n r → ((u : Bytes) → worded (kind_at s.program n) u ≡ same u dash) → r ≡ node_fine s.program n
-    unfolding node_fine Dashed ◌and◌
-    dash_words s c k h m r q same_words =
-        let z : degree_fine s.program n ≡ true = fine s c k h m a e in
+    pub fine_dashed : (l' : List ℕ) → l' ≡ links_of w → ◌⊎◌ (kind ≡ Entry) (kind ≡ Call) → (r : Bool) → Dashed l' n r → NodeFine w n r
+    unfolding NodeFine node_fine Dashed ◌and◌ worded
+    fine_dashed l' el' z r q s c k h m =
+        let same_words : (u : Bytes) → worded (kind_at s.program n) u ≡ same u dash
+        = λ u. ⊎_elim (λ y. ap (λ (t : Kind). worded t u) (sym (kind_is s c k h m) ∙ ap kind_meant y)) (λ y. ap (λ (t : Kind). worded t u) (sym (kind_is s c k h m) ∙ ap kind_meant y)) z in
+        let f : degree_fine s.program n ≡ true = fine s c k h m a e in
         q s (subst (λ (x : List ℕ). Edges (in_table x) s) (sym el') (edges_of w c s k h)) m
         ∙ every_agree _ _ (edge_count s.program) (λ i b. ap (λ (t : Bool). eqb (source_at s.program i) n ⇒ t) (sym (same_words (word_at s.program i))))
-        ∙ ap (λ (t : Bool). t and every (edge_count s.program) (λ e. eqb (source_at s.program e) n ⇒ worded (kind_at s.program n) (word_at s.program e))) (sym z)
+        ∙ ap (λ (t : Bool). t and every (edge_count s.program) (λ e. eqb (source_at s.program e) n ⇒ worded (kind_at s.program n) (word_at s.program e))) (sym f)
 
-    pub fine_entry : kind ≡ 0 → (r : Bool) → Dashed l' n r → NodeFine w n r
-    unfolding NodeFine worded
-    fine_entry z r q s c k h m =
-        dash_words s c k h m r q (λ u. ap (λ (t : Kind). worded t u) ((number_kind (kind_at s.program n)).0 (sym (kind_is s c k h m) ∙ z)))
+    -- An S or an X asks nothing of its edges' words.
+    pub fine_free : ◌⊎◌ (kind ≡ Step) (kind ≡ Exit) → NodeFine w n true
+    unfolding NodeFine node_fine worded
+    fine_free z s c k h m =
+        sym (and_both (fine s c k h m a e) (every_of _ (edge_count s.program) (λ i b. implies _ _ (λ t.
+        ⊎_elim (λ y. ap (λ (t : Kind). worded t (word_at s.program i)) (sym (kind_is s c k h m) ∙ ap kind_meant y)) (λ y. ap (λ (t : Kind). worded t (word_at s.program i)) (sym (kind_is s c k h m) ∙ ap kind_meant y)) z))))
 
-    pub fine_call : kind ≡ 2 → (r : Bool) → Dashed l' n r → NodeFine w n r
-    unfolding NodeFine worded
-    fine_call z r q s c k h m =
-        dash_words s c k h m r q (λ u. ap (λ (t : Kind). worded t u) ((number_kind (kind_at s.program n)).1 (sym (kind_is s c k h m) ∙ z)))
-
-  pub fine_other : b.fewest ≤ d → d ≤ b.most → (kind ≡ 0 → ⊥) → (kind ≡ 2 → ⊥) → NodeFine w n true
-  unfolding NodeFine node_fine
-  fine_other a e y z s c k h m =
-      sym (and_both (fine s c k h m a e) (every_of _ (edge_count s.program) (λ i b. implies _ _ (λ t. any_word (kind_at s.program n) _ (λ q. y (kind_is s c k h m ∙ q)) (λ q. z (kind_is s c k h m ∙ q))))))
-
-pub ruleset fines = (fine_few, fine_many, fine_entry, fine_call, fine_other)
+pub ruleset fines = (fine_no_kind, fine_few, fine_many, fine_dashed, fine_free)
 
 -- ---- `all_fine`
 
@@ -160,7 +167,7 @@ module _ (w : List ℕ) (first nodes : ℕ) where
   below_first : (s : Listing) (i : ℕ) → i < first → (leb first i ⇒ node_fine s.program i) ≡ true
   below_first s i l = implies _ _ (λ t. absurd (both_ways t (lt-leb first i (omega arith))))
 
-  pub fine_none : nodes < first → AllFine w first nodes true
+  fine_none : nodes ≤ first → AllFine w first nodes true
   unfolding AllFine
   fine_none h s c k hs e = sym (every_of _ nodes (λ i l. below_first s i (omega arith)))
 
@@ -180,11 +187,12 @@ module _ (w : List ℕ) (first nodes : ℕ) where
   fine_not n a l q s c k h e =
       sym (fails _ (λ t. both_ways (implied _ _ (every_at (λ i. leb first i ⇒ node_fine s.program i) nodes t n l) (le-leb first n a)) (sym (q s c k h (omega arith)))))
 
-  pub fine_end : (n : ℕ) → FineTo w first nodes n → n ≤ nodes → nodes ≤ n → AllFine w first nodes true
+  pub fine_end : (n : ℕ) → FineTo w first nodes n → (first ≤ nodes → n ≤ nodes) → nodes ≤ n → AllFine w first nodes true
   unfolding FineTo AllFine
-  fine_end n f a b s c k h e = sym (ap (λ (m : ℕ). every m (λ i. leb first i ⇒ node_fine s.program i)) (let z : nodes ≡ n = omega arith in z) ∙ f s c k h e)
+  fine_end n f a b =
+      below_or first nodes (λ h s c k hs e. let z : nodes ≡ n = omega (arith, a (omega arith)) in sym (ap (λ (m : ℕ). every m (λ i. leb first i ⇒ node_fine s.program i)) z ∙ f s c k hs e)) (λ h. fine_none h)
 
-pub ruleset all_fines = (fine_none, fine_start, fine_on, fine_not, fine_end)
+pub ruleset all_fines = (fine_start, fine_on, fine_not, fine_end)
 
 -- A node test that passes.
 pub fine_yes : (w : List ℕ) (n : ℕ) (r : Bool) → NodeFine w n r → r ≡ true → NodeFine w n true

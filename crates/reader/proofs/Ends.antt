@@ -2,7 +2,8 @@
 use mathlib.Core.Path.{◌≡◌, refl, sym, ap, ◌∙◌, subst}
 use mathlib.Core.Logic.{⊎_elim}
 use mathlib.Core.Bool.{Bool, true, false}
-use mathlib.Core.Option.{Option}
+use mathlib.Core.Option as Maybe
+use Rattle.std.specs.Prelude.{Option, Some, None}
 use mathlib.Core.List.{List, [], ◌∷◌}
 use Prim.Native.Nat.{ℕ, zero, suc, ◌+◌, ◌-◌, ◌*◌, ◌/◌, ◌%◌, ◌≤◌, ◌<◌}
 use native.Mathlib.Omega.{arith}
@@ -23,9 +24,8 @@ use Rattle.graph.specs.Table.{At, first_node, first_edge, node_row, proc_row, ed
 use Rattle.graph.specs.Lookups.{in_table, Procs}
 use Rattle.lines.specs.Callees.{callees_few, callees_short}
 use Rattle.lines.specs.Known.{Known}
-use Rattle.reader.specs.declared.Count.{Count}
-use Rattle.reader.specs.Result.{links_of, Small, InTable, Told, ReadInto}
-use Rattle.reader.specs.Reading.{Holds, Completes, of_current, whole_text, LinesRead, Partly, ResolvedNode, ResolvedTo, Resolved, callee_bytes, CalleesIn, NumberOf, Finished, Refusal, counts}
+use Rattle.reader.specs.Result.{Count, links_of, Small, InTable, Told, ReadInto}
+use Rattle.reader.specs.Reading.{Holds, Completes, of_current, whole_text, LinesRead, Partly, ResolvedNode, ResolvedTo, Resolved, callee_bytes, CalleesIn, NumberOf, Finished, Refused, counts}
 use Rattle.reader.proofs.Completeness.{procs_of, some_procs, current_row}
 use Rattle.reader.proofs.Callees.{positive, calls_nothing, not_lost, is_callees_lem, call_lost, call_known}
 
@@ -85,21 +85,21 @@ module _ (text : Bytes) (s : Listing) (k : Known text s) (w₀ w : List ℕ) (n 
           (get_or-set_other w (4 * n + 3) (4 * n + 2) v 0 (omega arith) ∙ row_label)
           (get_or-set_same w (4 * n + 3) v 0 (omega arith) ∙ ev)
 
-module _ (text w : List ℕ) (procs n kind : ℕ) (ek : kind ≡ get_or w (4 * n) 0) (few : n < 512) where
-  pub resolve_other : (w' : List ℕ) → 8128 ≤ length w → (kind ≡ 2 → ⊥) → w' ≡ set w (4 * n + 3) 0 → ResolvedNode text w procs n 0 w'
+module _ (text w : List ℕ) (procs n kind two : ℕ) (ek : kind ≡ get_or w (4 * n) 0) (is_two : two ≡ 2) (few : n < 512) where
+  pub resolve_other : (w' : List ℕ) → 8128 ≤ length w → (kind ≡ two → ⊥) → w' ≡ set w (4 * n + 3) 0 → ResolvedNode text w procs n 0 0 w'
   unfolding ResolvedNode
   resolve_other w' room z e s c w₀ k hs ep l h =
-      let no_c : kind_number (kind_at s.program n) ≡ 2 → ⊥ = λ q. z (ek ∙ row_kind text s k w₀ w n l h few ∙ q) in
+      let no_c : kind_number (kind_at s.program n) ≡ 2 → ⊥ = λ q. z (ek ∙ row_kind text s k w₀ w n l h few ∙ q ∙ sym is_two) in
       (λ y. partly_next text s k w₀ w n l h few w' 0 room e (calls_nothing text s k n l no_c) (not_lost text s k n l no_c), λ y. absurd (y refl))
 
-  module _ (is_call : kind ≡ 2) (start len last : ℕ) (es : start ≡ get_or w (4 * n + 1) 0) (el : len ≡ get_or w (4 * n + 2) 0) (et : last ≡ get_or w (4 * n + 3) 0)
-      (b : Bytes) (eb : b ≡ callee_bytes text start len (last % 64)) (ls : List ℕ) (els : ls ≡ links_of w) (q : ℕ) (ci : CalleesIn text ls procs b 4 q) where
+  module _ (is_call : kind ≡ two) (start len last : ℕ) (es : start ≡ get_or w (4 * n + 1) 0) (el : len ≡ get_or w (4 * n + 2) 0) (et : last ≡ get_or w (4 * n + 3) 0)
+      (b : Bytes) (eb : b ≡ callee_bytes text start len (last % 64)) (ls : List ℕ) (els : ls ≡ links_of w) where
     module _ (s : Listing) (c : Count) (w₀ : List ℕ) (k : Known text s) (hs : Holds w₀ c s) (ep : procs ≡ proc_count s.program) (l : n < node_count s.program) (h : Partly w₀ w s n) where
-      is_two : kind_number (kind_at s.program n) ≡ 2
-      is_two = sym (row_kind text s k w₀ w n l h few) ∙ sym ek ∙ is_call
+      calls : kind_number (kind_at s.program n) ≡ 2
+      calls = sym (row_kind text s k w₀ w n l h few) ∙ sym ek ∙ is_call ∙ is_two
 
       field : is_callees (callee_at s.program n) ≡ true
-      field = is_callees_lem text s k n l is_two
+      field = is_callees_lem text s k n l calls
 
       short : length (callee_at s.program n) ≤ 51
       short = callees_short (callee_at s.program n) field
@@ -115,23 +115,23 @@ module _ (text w : List ℕ) (procs n kind : ℕ) (ek : kind ≡ get_or w (4 * n
           (let z : start + len + 1 ≡ get_or s.places.label_starts n 0 + length (label_at s.program n) + 1 = omega (arith, es, el, row_start text s k w₀ w n l h few, row_label text s k w₀ w n l h few) in z)
           ∙ part_is text _ (callee_at s.program n) (k.callees n l)
 
-      number_is : NumberOf (proc_digit s.program) (names_in (callee_at s.program n)) q
+      number_is : (o : Option ℕ) → CalleesIn text ls procs b 4 o → NumberOf (proc_digit s.program) (names_in (callee_at s.program n)) o
       unfolding CalleesIn
-      number_is =
-          subst (λ (x : Bytes). CalleesIn text ls procs x 4 q) bytes_are ci
+      number_is o ci =
+          subst (λ (x : Bytes). CalleesIn text ls procs x 4 o) bytes_are ci
           s (subst (λ (x : List ℕ). Procs text (in_table x) s) (sym (els ∙ h.same_links)) (procs_of text w₀ c s k hs)) ep k.sound.few_procs (callees_few (callee_at s.program n) field)
 
-    pub resolve_lost : q ≡ 0 → ResolvedNode text w procs n (last / 64 + 1) w
+    pub resolve_lost : CalleesIn text ls procs b 4 None → ResolvedNode text w procs n 9 (last / 64) w
     unfolding ResolvedNode
-    resolve_lost z s c w₀ k hs ep l h = (
+    resolve_lost ci s c w₀ k hs ep l h = (
       λ y. absurd (let x : ⊥ = omega arith in x),
-      λ y. (call_lost text s k n l (is_two s c w₀ k hs ep l h) q (number_is s c w₀ k hs ep l h) z, let x : last / 64 + 1 ≡ suc (get_or s.places.node_lines n 0) = omega (arith, last_is s c w₀ k hs ep l h, short s c w₀ k hs ep l h) in x),
+      λ y. (call_lost text s k n l (calls s c w₀ k hs ep l h) (number_is s c w₀ k hs ep l h None ci), refl, let x : last / 64 ≡ get_or s.places.node_lines n 0 = omega (arith, last_is s c w₀ k hs ep l h, short s c w₀ k hs ep l h) in x),
     )
 
-    pub resolve_known : (w' : List ℕ) → 8128 ≤ length w → (q ≡ 0 → ⊥) → w' ≡ set w (4 * n + 3) q → ResolvedNode text w procs n 0 w'
+    pub resolve_known : (w' : List ℕ) (q : ℕ) → 8128 ≤ length w → CalleesIn text ls procs b 4 (Some q) → w' ≡ set w (4 * n + 3) q → ResolvedNode text w procs n 0 0 w'
     unfolding ResolvedNode
-    resolve_known w' room z e s c w₀ k hs ep l h =
-        let a = call_known text s k n l (is_two s c w₀ k hs ep l h) q (number_is s c w₀ k hs ep l h) z in
+    resolve_known w' q room ci e s c w₀ k hs ep l h =
+        let a = call_known text s k n l (calls s c w₀ k hs ep l h) q (number_is s c w₀ k hs ep l h (Some q) ci) in
         (λ y. partly_next text s k w₀ w n l h few w' q room e a.1 a.0, λ y. absurd (y refl))
 
 pub ruleset resolves = (callee_part, resolve_other, resolve_lost, resolve_known)
@@ -143,18 +143,18 @@ module _ (text w₀ : List ℕ) (procs nodes : ℕ) where
   unfolding ResolvedTo first
   resolve_start s c k h ep en = record { same_links = refl; done = λ n a b. absurd (let z : ⊥ = omega arith in z); todo = λ n a b. h.reading.nodes n a; none_lost = refl }
 
-  pub resolve_on : (n r : ℕ) (w w' : List ℕ) → ResolvedTo text w₀ procs nodes n w → n < nodes → ResolvedNode text w procs n r w' → r ≡ 0 → ResolvedTo text w₀ procs nodes (n + 1) w'
+  pub resolve_on : (n r p : ℕ) (w w' : List ℕ) → ResolvedTo text w₀ procs nodes n w → n < nodes → ResolvedNode text w procs n r p w' → r ≡ 0 → ResolvedTo text w₀ procs nodes (n + 1) w'
   unfolding ResolvedTo ResolvedNode
-  resolve_on n r w w' f l q z s c k h ep en = (q s c w₀ k h ep (omega arith) (f s c k h ep en)).0 z
+  resolve_on n r p w w' f l q z s c k h ep en = (q s c w₀ k h ep (omega arith) (f s c k h ep en)).0 z
 
-  pub resolve_not : (n r : ℕ) (w w' : List ℕ) → ResolvedTo text w₀ procs nodes n w → n < nodes → ResolvedNode text w procs n r w' → (r ≡ 0 → ⊥) → Resolved text w₀ procs nodes r w'
+  pub resolve_not : (n r p : ℕ) (w w' : List ℕ) → ResolvedTo text w₀ procs nodes n w → n < nodes → ResolvedNode text w procs n r p w' → (r ≡ 0 → ⊥) → Resolved text w₀ procs nodes r p w'
   unfolding ResolvedTo ResolvedNode Resolved
-  resolve_not n r w w' f l q z s c k h ep en =
+  resolve_not n r p w w' f l q z s c k h ep en =
       let b : n < node_count s.program = omega arith in
       let a = (q s c w₀ k h ep b (f s c k h ep en)).1 z in
-      (λ y. absurd (z y), λ y. (n, first_least (lost s.program) (node_count s.program) n b a.0 (f s c k h ep en).none_lost, a.1))
+      (λ y. absurd (z y), λ y. (n, first_least (lost s.program) (node_count s.program) n b a.0 (f s c k h ep en).none_lost, a.1, a.2))
 
-  pub resolve_end : (n : ℕ) (w : List ℕ) → ResolvedTo text w₀ procs nodes n w → n ≤ nodes → nodes ≤ n → Resolved text w₀ procs nodes 0 w
+  pub resolve_end : (n : ℕ) (w : List ℕ) → ResolvedTo text w₀ procs nodes n w → n ≤ nodes → nodes ≤ n → Resolved text w₀ procs nodes 0 0 w
   unfolding ResolvedTo Resolved
   resolve_end n w f a b s c k h ep en = (
     λ y. subst (λ (m : ℕ). Partly w₀ w s m) (let z : n ≡ node_count s.program = omega arith in z) (f s c k h ep en),
@@ -165,7 +165,7 @@ pub ruleset resolve_turns = (resolve_start, resolve_on, resolve_not, resolve_end
 
 -- ---- `finish`
 
-told_refused : (x : Reading Listing) (k p : ℕ) (r : Count) (w : List ℕ) → x ≡ refused k p → 0 < k → Refusal k p r → Told x r w
+told_refused : (x : Reading Listing) (k p : ℕ) (r : Count) (w : List ℕ) → x ≡ refused k p → 0 < k → Refused k p r → Told x r w
 told_refused x k p r w e h q = subst (λ (y : Reading Listing). Told y r w) (sym e) (q.number_is, q.place_is, h)
 
 -- A procedure's row, with its entry and exit.
@@ -203,7 +203,7 @@ module _ (text w w' : List ℕ) (c : Count) (s : Listing) (k : Known text s) (h 
       }
 
 module _ (text w : List ℕ) (c : Count) (sm : Small c) where
-  pub finish_empty : (r : Count) → c.procs ≡ 0 → Refusal 2 1 r → Finished text c w r w
+  pub finish_empty : (r : Count) → c.procs ≡ 0 → Refused 2 1 r → Finished text c w r w
   unfolding finish_program
   finish_empty r z a =
       record {
@@ -218,52 +218,55 @@ module _ (text w : List ℕ) (c : Count) (sm : Small c) where
     begun_of : (s : Listing) → Holds w c s → isnt (begun s.program) ≡ false
     begun_of s h = false_isnt (lt-ltb 0 (proc_count s.program) (some_of s h))
 
-    pub finish_open : (r : Count) (p : ℕ) → u ≡ false → p ≡ of_current w c.procs 2 → Refusal 8 p r → Finished text c w r w
+    pub finish_open : (r : Count) (p : ℕ) → u ≡ false → p ≡ of_current w c.procs 2 → Refused 8 p r → Finished text c w r w
     unfolding finish_program Completes
     finish_open r p t e a =
         record {
           told = λ s n k h.
               told_refused _ 8 (get_or s.places.proc_lines (current s.program) 0) r w
               (unless_passes _ _ _ _ (begun_of s h) ∙ unless_refuses _ _ _ _ (true_isnt (sym (q s k.sound h (some_of s h)) ∙ t))) (omega arith)
-              (subst (λ (m : ℕ). Refusal 8 m r) (e ∙ current_row w c s h (some_of s h) 2 (omega arith)) a);
+              (subst (λ (m : ℕ). Refused 8 m r) (e ∙ current_row w c s h (some_of s h) 2 (omega arith)) a);
           small = a.small;
         }
 
-    module _ (t : u ≡ true) (line : ℕ) (w' : List ℕ) (rs : Resolved text w c.procs c.nodes line w') where
+    module _ (t : u ≡ true) (number place : ℕ) (w' : List ℕ) (rs : Resolved text w c.procs c.nodes number place w') where
       finish_is : (s : Listing) (n : ℕ) → Known text s → Holds w c s → finish_program n s ≡ after (first (node_count s.program) (lost s.program)) (accepted s) (λ m. refused 9 (get_or s.places.node_lines m 0))
       unfolding finish_program Completes
       finish_is s n k h = unless_passes _ _ _ _ (begun_of s h) ∙ unless_passes _ _ _ _ (false_isnt (sym (q s k.sound h (some_of s h)) ∙ t))
 
-      pub finish_lost : (r : Count) → (line ≡ 0 → ⊥) → Refusal 9 (line - 1) r → Finished text c w r w'
+      pub finish_lost : 0 < number → Finished text c w (record { number = number; place = place; procs = 0; nodes = 0; edges = 0 }) w'
       unfolding Resolved
-      finish_lost r z q =
+      finish_lost z =
           record {
             told = λ s n k h.
-                let a = (rs s c k h h.procs_n h.nodes_n).1 z in
-                told_refused _ 9 (get_or s.places.node_lines a.0 0) r w'
-                (finish_is s n k h ∙ ap (λ (o : Option ℕ). after o (accepted s) (λ m. refused 9 (get_or s.places.node_lines m 0))) a.1) (omega arith)
-                (subst (λ (m : ℕ). Refusal 9 m r) (one_less line _ a.2) q);
-            small = q.small;
+                let a = (rs s c k h h.procs_n h.nodes_n).1 (λ (y : number ≡ 0). let x : ⊥ = omega arith in x) in
+                told_refused _ 9 (get_or s.places.node_lines a.0 0) (record { number = number; place = place; procs = 0; nodes = 0; edges = 0 }) w'
+                (finish_is s n k h ∙ ap (λ (o : Maybe.Option ℕ). after o (accepted s) (λ m. refused 9 (get_or s.places.node_lines m 0))) a.1) (omega arith)
+                (record { number_is = a.2; place_is = a.3; small = small_none });
+            small = small_none;
           }
+        where
+          small_none : Small (record { number = number; place = place; procs = 0; nodes = 0; edges = 0 })
+          small_none = record { few_procs = omega arith; few_nodes = omega arith; few_edges = omega arith }
 
-      pub finish_done : (r : Count) → line ≡ 0 → r ≡ counts c.procs c.nodes c.edges → Finished text c w r w'
+      pub finish_done : number ≡ 0 → Finished text c w (counts c.procs c.nodes c.edges) w'
       unfolding Resolved Completes
-      finish_done r z er =
-          rw er (record {
+      finish_done z =
+          record {
             told = λ s n k h.
                 let a : Partly w w' s (node_count s.program) = (rs s c k h h.procs_n h.nodes_n).0 z in
                 let held : InTable w' (counts c.procs c.nodes c.edges) s
                 = table_held text w w' c s k h (some_of s h) (sym (q s k.sound h (some_of s h)) ∙ t) a (counts c.procs c.nodes c.edges) refl refl refl in
                 subst (λ (x : Reading Listing). Told x (counts c.procs c.nodes c.edges) w')
-                (sym (finish_is s n k h ∙ ap (λ (o : Option ℕ). after o (accepted s) (λ m. refused 9 (get_or s.places.node_lines m 0))) a.none_lost)) (refl, refl, held);
+                (sym (finish_is s n k h ∙ ap (λ (o : Maybe.Option ℕ). after o (accepted s) (λ m. refused 9 (get_or s.places.node_lines m 0))) a.none_lost)) (refl, refl, held);
             small = record { few_procs = sm.few_procs; few_nodes = sm.few_nodes; few_edges = sm.few_edges };
-          })
+          }
 
 pub ruleset finishes = (finish_empty, finish_open, finish_lost, finish_done)
 
 -- ---- `read_into`
 
-pub into_long : (text w : List ℕ) (r : Count) → 65536 < length text → Refusal 1 0 r → ReadInto text r w
+pub into_long : (text w : List ℕ) (r : Count) → 65536 < length text → Refused 1 0 r → ReadInto text r w
 unfolding read_listing read_text
 into_long text w r h a = record { told = told_refused _ 1 0 r w (unless_refuses _ _ _ _ (lt-ltb max_bytes (length text) h)) (omega arith) a; small = a.small }
 

@@ -2,18 +2,19 @@
 use mathlib.Core.Path.{◌≡◌, refl, sym, ap, ◌∙◌, subst}
 use mathlib.Core.Bool.{Bool, true}
 use mathlib.Core.List.{List, [], ◌∷◌}
-use Prim.Native.Nat.{ℕ, ◌+◌, ◌≤◌, ◌<◌, min}
+use Prim.Native.Nat.{ℕ, ◌+◌, ◌≤◌, ◌<◌}
 use native.Mathlib.Omega.{arith}
 use lib.ListN.{length, take, drop, length-drop}
-use Rattle.laws.specs.Tests.{choose}
-use Rattle.rules.specs.Text.{Bytes, is_name, is_number, is_word, same, split, value_from}
-use Rattle.rules.specs.ProgramFile.{Line, proc_line, malformed, form_of, take_line}
-use Rattle.text.specs.NumberLaws.{number_kept}
+use Rattle.std.specs.Prelude.{Some}
+use Rattle.rules.specs.Text.{Bytes, is_name, is_word, same, split}
+use Rattle.rules.specs.ProgramFile.{Line, proc_line, node_line, malformed, form_of, take_line}
+use Rattle.text.specs.NumberLaws.{number_read, number_kept}
 use Rattle.text.specs.Scans.{span}
-use Rattle.lines.specs.Kinds.{node_kind}
+use Rattle.lines.specs.declared.Kind.{Kind}
+use Rattle.lines.specs.Kinds.{kind_meant, node_kind}
 use Rattle.lines.specs.Forms.{edge_is, node_is, proc_is, says_edge, says_node, says_proc, unsaid}
-use Rattle.reader.specs.declared.Count.{Count}
-use Rattle.reader.specs.Reading.{Stepped, Took, Added, AddedNode, AddedEdge, Refusal}
+use Rattle.reader.specs.Result.{Count}
+use Rattle.reader.specs.Reading.{Stepped, Took, Added, AddedEdge, Refused}
 
 -- What stands behind the first bytes is no longer than all of them.
 pub rest_room : (s r : Bytes) (n : ℕ) → r ≡ drop n s → length s ≤ 65536 → length r ≤ 65536
@@ -21,7 +22,7 @@ rest_room s r n e h = omega (arith, ap length e, length-drop n s)
 
 -- ---- a line that says nothing
 
-module _ (n at : ℕ) (x : Line) (c : Count) (w : List ℕ) (r : Count) (w' : List ℕ) (e : x ≡ malformed) (q : Refusal 2 n r) where
+module _ (n at : ℕ) (x : Line) (c : Count) (w : List ℕ) (r : Count) (w' : List ℕ) (e : x ≡ malformed) (q : Refused 2 n r) where
   refusal : (text : Bytes) → Stepped text n at x c w r w'
   unfolding Stepped take_line
   refusal text s k h = rw e (q.number_is, q.place_is, omega arith)
@@ -45,17 +46,15 @@ module _ (n at : ℕ) (c : Count) (w : List ℕ) (r : Count) (w' : List ℕ) whe
   proc_took text s t e y q = as_took text _ _ (proc_is s t e y) q
 
   module _ (s a : Bytes) (ea : a ≡ take (span 44 s) s) (rest b : Bytes) (h : length a < length s) (er : rest ≡ drop (length a + 1) s) (eb : b ≡ take (span 44 rest) rest)
-      (d : Bytes) (k : length b < length rest) (ed : d ≡ drop (length b + 1) rest) (i : ℕ) where
-    pub node_added : i ≡ node_kind a b d → i ≤ 3 → AddedNode n at i b d c w r w' → Added n at (form_of ((78 ∷ []) ∷ split 44 s)) c w r w'
-    node_added ei l q =
-        let x = node_is s a ea rest b h er eb d k ed i ei l in
-        as_added _ _ x.2 (record { stepped = λ text. q.stepped text x.0 x.1; small = q.small })
+      (d : Bytes) (k : length b < length rest) (ed : d ≡ drop (length b + 1) rest) where
+    pub node_added : (i : Kind) → Some i ≡ node_kind a b d → Added n at (node_line (kind_meant i) b d) c w r w' → Added n at (form_of ((78 ∷ []) ∷ split 44 s)) c w r w'
+    node_added i e q = as_added _ _ (node_is s a ea rest b h er eb d k ed i e) q
 
-    pub edge_added : i ≡ choose (is_number a) (min (value_from 0 a) 65536) 65537 → i ≤ 65536 → (j : ℕ) → j ≡ choose (is_number d) (min (value_from 0 d) 65536) 65537 → j ≤ 65536 → (t : Bool) → t ≡ is_word b → t ≡ true
+    pub edge_added : (i : ℕ) → Some i ≡ number_read a → (j : ℕ) → Some j ≡ number_read d → (t : Bool) → t ≡ is_word b → t ≡ true
         → AddedEdge n i (at + length a + 3) b j c w r w' → Added n at (form_of ((66 ∷ []) ∷ split 44 s)) c w r w'
-    edge_added ei l j ej m t et y q =
-        as_added _ _ (edge_is s a ea rest b h er eb d k ed i ei l j ej m t et y) (record {
-          stepped = λ text. q.stepped text at a d (number_kept a i ei l) (number_kept d j ej m) refl (sym et ∙ y);
+    edge_added i ei j ej t et y q =
+        as_added _ _ (edge_is s a ea rest b h er eb d k ed i ei j ej t et y) (record {
+          stepped = λ text. q.stepped text at a d (number_kept a i ei) (number_kept d j ej) refl (sym et ∙ y);
           small = q.small;
         })
 

@@ -1,34 +1,16 @@
 -- The stores and the small look-ups: what each return shows.
-use mathlib.Core.Path.{◌≡◌, refl, sym, ap, ◌∙◌}
+use mathlib.Core.Path.{◌≡◌, sym, ap, ◌∙◌}
+use mathlib.Core.Bool.{true, false, false≢true}
 use mathlib.Core.List.{List, [], ◌∷◌}
-use Prim.Native.Nat.{ℕ, zero, suc, ◌+◌, ◌-◌, ◌*◌, ◌≤◌}
+use Rattle.std.specs.Prelude.{Option, Some, None, is_some}
+use Rattle.laws.specs.Places.{place}
+use Prim.Native.Nat.{ℕ, ◌+◌, ◌-◌, ◌*◌, ◌≤◌, ◌<◌}
 use native.Mathlib.Omega.{arith}
 use lib.ListN.{get_or, set}
 use lib.Seq.{sets}
 use borrow.Author.Tests.{eq-eqb, ne_eqb}
 use Rattle.laws.specs.Lists.{choose_yes, choose_no}
-use Rattle.laws.specs.Slices.{sets_snoc}
-use Rattle.reader.specs.declared.Degrees.{Degrees}
-use Rattle.reader.specs.Result.{DegreesOf}
 use Rattle.reader.specs.Reading.{of_current, marked, stored_node, stored_edge}
-
--- `degrees_of`: the constant table is the definition's, at each kind.
-abbrev table : List Degrees
-table = record { fewest = 1; most = 1 } ∷ record { fewest = 1; most = 8 } ∷ record { fewest = 1; most = 1 } ∷ record { fewest = 0; most = 0 } ∷ []
-
-pub degrees_in : (kind : ℕ) → DegreesOf kind (get_or table kind (record { fewest = 0; most = 0 }))
-degrees_in zero = record { fewest_is = refl; most_is = refl }
-degrees_in (suc zero) = record { fewest_is = refl; most_is = refl }
-degrees_in (suc (suc zero)) = record { fewest_is = refl; most_is = refl }
-degrees_in (suc (suc (suc zero))) = record { fewest_is = refl; most_is = refl }
-degrees_in (suc (suc (suc (suc k)))) = record { fewest_is = refl; most_is = refl }
-
-pub degrees_other : (kind : ℕ) → 4 ≤ kind → DegreesOf kind (record { fewest = 0; most = 0 })
-degrees_other zero h = absurd (let z : ⊥ = omega arith in z)
-degrees_other (suc zero) h = absurd (let z : ⊥ = omega arith in z)
-degrees_other (suc (suc zero)) h = absurd (let z : ⊥ = omega arith in z)
-degrees_other (suc (suc (suc zero))) h = absurd (let z : ⊥ = omega arith in z)
-degrees_other (suc (suc (suc (suc k)))) h = record { fewest_is = refl; most_is = refl }
 
 -- `of_current`
 pub of_none : (w : List ℕ) (procs k : ℕ) → procs ≡ 0 → 0 ≡ of_current w procs k
@@ -38,10 +20,6 @@ of_none w procs k e = sym (choose_yes _ _ (eq-eqb procs 0 e))
 pub of_some : (w : List ℕ) (procs k r : ℕ) → (procs ≡ 0 → ⊥) → r ≡ get_or w (2048 + 7 * (procs - 1) + k) 0 → r ≡ of_current w procs k
 unfolding of_current
 of_some w procs k r e q = q ∙ sym (choose_no _ _ (ne_eqb procs 0 e))
-
--- `put5`
-pub sets_five : (s s₁ s₂ : List ℕ) (i a b c d e : ℕ) → s₁ ≡ sets s i (a ∷ b ∷ c ∷ d ∷ []) → s₂ ≡ set s₁ (i + 4) e → s₂ ≡ sets s i (a ∷ b ∷ c ∷ d ∷ e ∷ [])
-sets_five s s₁ s₂ i a b c d e p q = q ∙ ap (λ (l : List ℕ). set l (i + 4) e) p ∙ sets_snoc s i (a ∷ b ∷ c ∷ d ∷ []) e
 
 -- `mark`
 module _ (w w' : List ℕ) (kind q n : ℕ) where
@@ -69,4 +47,13 @@ unfolding stored_edge
 stored_edge_lem w w₁ w₂ c from start key to head e a b =
     b ∙ ap (λ (l : List ℕ). set l (7616 + from) (c + 1)) (a ∙ ap (λ (h : ℕ). sets w (2496 + 5 * c) (from ∷ start ∷ key ∷ to ∷ h ∷ [])) e)
 
-pub ruleset leaves = (degrees_other, of_none, of_some, sets_five, mark_entry, mark_exit, mark_none, stored_node_lem, stored_edge_lem)
+-- What was found is a place that is not 0.
+pub place_some : (o : Option ℕ) → is_some o ≡ true → 0 < place o
+place_some None e = absurd (false≢true e)
+place_some (Some q) e = omega arith
+
+pub place_none : (o : Option ℕ) → is_some o ≡ false → place o ≤ 0
+place_none None e = omega arith
+place_none (Some q) e = absurd (false≢true (sym e))
+
+pub ruleset leaves = (of_none, of_some, mark_entry, mark_exit, mark_none, stored_node_lem, stored_edge_lem)

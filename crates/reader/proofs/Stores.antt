@@ -23,8 +23,7 @@ use Rattle.graph.specs.Table.{At, proc_head, edge_row, head_of, first_node, firs
 use Rattle.graph.specs.Keys.{word_key}
 use Rattle.graph.specs.Lookups.{in_table}
 use Rattle.lines.specs.Known.{Known}
-use Rattle.reader.specs.declared.Count.{Count}
-use Rattle.reader.specs.Result.{links_of}
+use Rattle.reader.specs.Result.{Count, links_of}
 use Rattle.reader.specs.Reading.{reading_row, InProgress, Holds, stored_proc, marked, stored_node, stored_edge, counts}
 use Rattle.reader.proofs.Programs.{new_first_node, new_first_edge, node_first_node, node_first_edge, other_count, other_first, own_first, edge_source_old, edge_source_new, edge_first_edge}
 

@@ -15,9 +15,8 @@ use Rattle.text.specs.Scans.{span}
 use Rattle.text.specs.SplitLaws.{uncut, cut}
 use Rattle.lines.specs.Stands.{Stands, line_stands}
 use Rattle.lines.specs.Known.{Known, known_none, known_line}
-use Rattle.reader.specs.declared.Count.{Count}
-use Rattle.reader.specs.Result.{Small}
-use Rattle.reader.specs.Reading.{Holds, After, Stepped, Refusal, whole_text, LinesRead, counts}
+use Rattle.reader.specs.Result.{Count, Small}
+use Rattle.reader.specs.Reading.{Holds, After, Stepped, Refused, whole_text, LinesRead, counts}
 
 -- ---- a line is no longer than the text
 
@@ -145,7 +144,7 @@ head_on text w₀ w at n c hd rest er len e h line el r w' stp z sm lg =
 
 -- The returns.
 pub lines_open : (text w₀ w : List ℕ) (at n : ℕ) (c : Count) → Head text w₀ at n c w → at < length text → (rest : List ℕ) → rest ≡ drop at text → (len : ℕ) → len ≡ span 10 rest → length rest ≤ len
-    → (r : Count) → Refusal 2 n r → LinesRead text r w
+    → (r : Count) → Refused 2 n r → LinesRead text r w
 lines_open text w₀ w at n c hd a rest er len e k r q =
     record {
       done = λ z. absurd (let y : ⊥ = omega (arith, q.number_is) in y);

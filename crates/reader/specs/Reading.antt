@@ -1,18 +1,17 @@
 -- What the reader of program files keeps while it reads, and what its inner functions claim.
-use Rattle.std.specs.Prelude.{◌≡◌, Bool, true, List, [], ◌∷◌, ℕ, suc, ◌+◌, ◌-◌, ◌*◌, ◌≤◌, ◌<◌, min, eqb, leb, ltb, length, get_or, take, drop, set}
+use Rattle.std.specs.Prelude.{◌≡◌, Bool, true, List, [], ◌∷◌, ℕ, ◌+◌, ◌-◌, ◌*◌, ◌≤◌, ◌<◌, min, eqb, leb, ltb, length, get_or, take, drop, set, Option, Some, None}
 use Rattle.std.proofs.Math.Option.{none, some}
 use Rattle.std.proofs.lemmas.List.Edits.{sets}
 use Rattle.laws.specs.Digits.{number}
 use Rattle.laws.specs.Tests.{◌and◌, ◌⇒◌, every, first, count, choose}
 use Rattle.rules.specs.Text.{Bytes, is_word, name_count, names_in, value, Reading, refused, accepted, unless, read_lines, lines_of as lines_of_text}
-use Rattle.rules.specs.Graph.{Program, Kind, E, X, kind_at, label_at, callee_at, source_at, node_count, edge_count, proc_count, kind_number, is_of, entry, exit, worded, word_at, owner_at}
-use Rattle.rules.specs.ProgramFile.{Line, node_line, edge_line, Listing, current, complete, take_proc, take_line, step_program, finish_program, nothing_read, has_word, with_edge, degree_fine, lost}
+use Rattle.rules.specs.Graph.{Program, E, X, kind_at, label_at, callee_at, source_at, node_count, edge_count, proc_count, kind_number, is_of, entry, exit, worded, word_at, owner_at}
+use Rattle.rules.specs.ProgramFile.{Line, edge_line, Listing, current, complete, take_proc, take_line, step_program, finish_program, nothing_read, has_word, with_edge, degree_fine, lost}
 use Rattle.rules.specs.Kept.{Sound}
 use Rattle.graph.specs.Table.{At, node_base, proc_base, edge_base, head_base, proc_head, edge_row, head_of, node_row, proc_digit}
 use Rattle.graph.specs.Lookups.{in_table, Procs}
 use Rattle.lines.specs.Known.{Known}
-use Rattle.reader.specs.declared.Count.{Count}
-use Rattle.reader.specs.Result.{links_of, Small, Told}
+use Rattle.reader.specs.Result.{Count, links_of, Small, Told}
 
 -- ---- what the work table holds of a listing that is being read
 
@@ -46,7 +45,7 @@ After (refused k p) r w = (r.number ≡ k) × (r.place ≡ p) × (0 < k)
 After (accepted t) r w = (r.number ≡ 0) × Holds w r t
 
 -- `refused`: the number and the place, and counts within their limits.
-pub record Refusal (number place : ℕ) (r : Count) : Type 0 where
+pub record Refused (number place : ℕ) (r : Count) : Type 0 where
   pub number_is : r.number ≡ number
   pub place_is : r.place ≡ place
   pub small : Small r
@@ -71,11 +70,6 @@ pub record Added (n at : ℕ) (x : Line) (c : Count) (w : List ℕ) (r : Count) 
 -- The same of a P line behind a procedure that is complete.
 pub record OpenedProc (text : Bytes) (n at : ℕ) (name : Bytes) (c : Count) (w : List ℕ) (r : Count) (w' : List ℕ) : Type 0 where
   pub opened : (s : Listing) → Known text s → Holds w c s → After (take_proc n at name s) r w'
-  pub small : Small r
-
--- The same of an N line, by its kind's number.
-pub record AddedNode (n at kind : ℕ) (label callee : Bytes) (c : Count) (w : List ℕ) (r : Count) (w' : List ℕ) : Type 0 where
-  pub stepped : (text : Bytes) (k : Kind) → kind ≡ kind_number k → Stepped text n at (node_line k label callee) c w r w'
   pub small : Small r
 
 -- `in_procedure`: n is a node from `first` on.
@@ -172,32 +166,32 @@ pub record Partly (w₀ w : List ℕ) (s : Listing) (i : ℕ) : Type 0 where
   pub todo : (n : ℕ) → n < node_count s.program → i ≤ n → At (in_table w) (node_base n) (reading_row s n)
   pub none_lost : first i (lost s.program) ≡ none
 
--- `callees_in`: of these names the number whose digits are theirs, or 0 where one of their digits is 0.
-pub record NumberOf (digit : Bytes → ℕ) (names : List Bytes) (r : ℕ) : Type 0 where
-  pub unknown : r ≡ 0 → (i : ℕ) × (i < length names) × (digit (get_or names i []) ≡ 0)
-  pub known : (r ≡ 0 → ⊥) → (r ≡ number 256 digit names) × ((i : ℕ) → i < length names → 0 < digit (get_or names i []))
+-- `callees_in`: of these names the number whose digits are theirs, or none where one of their digits is 0.
+abbrev pub NumberOf : (Bytes → ℕ) → List Bytes → Option ℕ → Type 0
+NumberOf digit names None = (i : ℕ) × (i < length names) × (digit (get_or names i []) ≡ 0)
+NumberOf digit names (Some r) = (r ≡ number 256 digit names) × ((i : ℕ) → i < length names → 0 < digit (get_or names i []))
 
-unfoldable pub CalleesIn : Bytes → List ℕ → ℕ → Bytes → ℕ → ℕ → Type 0
+unfoldable pub CalleesIn : Bytes → List ℕ → ℕ → Bytes → ℕ → Option ℕ → Type 0
 CalleesIn text links procs field most r =
     (s : Listing) → Procs text (in_table links) s → procs ≡ proc_count s.program → proc_count s.program ≤ 64 → name_count field ≤ most
     → NumberOf (proc_digit s.program) (names_in field) r
 
--- `resolve_node`: 0 where every callee of the node n is known, else 1 + its line, and then nothing is said of the work table.
-unfoldable pub ResolvedNode : Bytes → List ℕ → ℕ → ℕ → ℕ → List ℕ → Type 0
-ResolvedNode text w procs n r w' =
+-- `resolve_node`: 0 where every callee of the node n is known, else the refusal at its line, and then nothing is said of the work table.
+unfoldable pub ResolvedNode : Bytes → List ℕ → ℕ → ℕ → ℕ → ℕ → List ℕ → Type 0
+ResolvedNode text w procs n k p w' =
     (s : Listing) (c : Count) (w₀ : List ℕ) → Known text s → Holds w₀ c s → procs ≡ proc_count s.program → n < node_count s.program → Partly w₀ w s n
-    → (r ≡ 0 → Partly w₀ w' s (n + 1)) × ((r ≡ 0 → ⊥) → (lost s.program n ≡ true) × (r ≡ suc (get_or s.places.node_lines n 0)))
+    → (k ≡ 0 → Partly w₀ w' s (n + 1)) × ((k ≡ 0 → ⊥) → (lost s.program n ≡ true) × (k ≡ 9) × (p ≡ get_or s.places.node_lines n 0))
 
 -- The same of every node below n.
 unfoldable pub ResolvedTo : Bytes → List ℕ → ℕ → ℕ → ℕ → List ℕ → Type 0
 ResolvedTo text w₀ procs nodes n w = (s : Listing) (c : Count) → Known text s → Holds w₀ c s → procs ≡ proc_count s.program → nodes ≡ node_count s.program → Partly w₀ w s n
 
--- `resolve`: 0 where all callees are known, else 1 + the line of the first node with an unknown one, and then nothing is said of the work table.
-unfoldable pub Resolved : Bytes → List ℕ → ℕ → ℕ → ℕ → List ℕ → Type 0
-Resolved text w₀ procs nodes r w =
+-- `resolve`: 0 where all callees are known, else the refusal at the line of the first node with an unknown one, and then nothing is said of the work table.
+unfoldable pub Resolved : Bytes → List ℕ → ℕ → ℕ → ℕ → ℕ → List ℕ → Type 0
+Resolved text w₀ procs nodes k p w =
     (s : Listing) (c : Count) → Known text s → Holds w₀ c s → procs ≡ proc_count s.program → nodes ≡ node_count s.program
-    → (r ≡ 0 → Partly w₀ w s (node_count s.program))
-    × ((r ≡ 0 → ⊥) → (m : ℕ) × (first (node_count s.program) (lost s.program) ≡ some m) × (r ≡ suc (get_or s.places.node_lines m 0)))
+    → (k ≡ 0 → Partly w₀ w s (node_count s.program))
+    × ((k ≡ 0 → ⊥) → (m : ℕ) × (first (node_count s.program) (lost s.program) ≡ some m) × (k ≡ 9) × (p ≡ get_or s.places.node_lines m 0))
 
 -- `callee_of`: the callee field, behind a label.
 unfoldable pub callee_bytes : Bytes → ℕ → ℕ → ℕ → Bytes

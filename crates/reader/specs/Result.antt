@@ -1,12 +1,31 @@
 -- What the reader of program files promises: `read_into` and `degrees_of`.
-use Rattle.std.specs.Prelude.{◌≡◌, List, ℕ, ◌≤◌, ◌<◌, get_or, drop}
+use Rattle.std.specs.Prelude.{◌≡◌, List, ℕ, ◌≤◌, ◌<◌, get_or, drop, Result, Ok, Err}
 use Rattle.rules.specs.Text.{Bytes, Reading, refused, accepted}
 use Rattle.rules.specs.Graph.{degrees, node_count, edge_count, proc_count}
 use Rattle.rules.specs.ProgramFile.{Listing, read_listing}
 use Rattle.graph.specs.Table.{At, node_base, proc_base, edge_base, head_base, node_row, proc_row, edge_row, head_of}
 use Rattle.graph.specs.Lookups.{in_table}
-use Rattle.reader.specs.declared.Count.{Count}
+use Rattle.answer.specs.declared.Refusal.{Refusal}
+use Rattle.answer.specs.Refusals.{fault_number}
+use Rattle.reader.specs.declared.Counts.{Counts}
 use Rattle.reader.specs.declared.Degrees.{Degrees}
+
+-- What was read so far: a refusal by number and place, where the number is not 0, and the counts of procedures, nodes and edges.
+pub record Count : Type 0 where
+  pub number : ℕ
+  pub place : ℕ
+  pub procs : ℕ
+  pub nodes : ℕ
+  pub edges : ℕ
+
+-- No refusal, and these counts.
+abbrev pub counts_of : Counts → Count
+counts_of c = record { number = 0; place = 0; procs = c.procs; nodes = c.nodes; edges = c.edges }
+
+-- What `read_into` answers, as one record. The counts beside a refusal are 0.
+abbrev pub seen : Result Counts Refusal → Count
+seen (Ok c) = counts_of c
+seen (Err e) = record { number = fault_number e.fault; place = e.place; procs = 0; nodes = 0; edges = 0 }
 
 -- The links of a work table.
 abbrev pub links_of : List ℕ → List ℕ

@@ -1,14 +1,14 @@
 // Reads a program file into a work table: the nodes from 0, the links (procedures, edges, heads of chains) from 2,048.
-#![tactic(auto)]
+#![tactic(auto, using(crate::proofs::All::all))]
 
-ghost use Rattle.std.specs.Prelude.{◌≡◌, ◌∷◌, [], ◌+◌, ◌-◌, ◌*◌, ◌≤◌, ◌<◌, length};
-ghost use Rattle.std.proofs.lemmas.List.Edits.{sets};
+ghost use Rattle.std.specs.Prelude.{◌≡◌, ◌∷◌, ◌+◌, ◌-◌, ◌*◌, ◌≤◌, ◌<◌, length};
+ghost use Rattle.answer.specs.Refusals.{fault_number, number_in, place_in};
 ghost use Rattle.rules.specs.Text.{bytes, fields_of, split};
-ghost use Rattle.rules.specs.ProgramFile.{form_of, proc_line};
+ghost use Rattle.rules.specs.ProgramFile.{form_of, node_line, proc_line};
+ghost use Rattle.lines.specs.Kinds.{kind_code, kind_meant};
 ghost use Rattle.reader.specs.Reading.{
   Added,
   AddedEdge,
-  AddedNode,
   AllFine,
   CalleesIn,
   Completes,
@@ -17,12 +17,11 @@ ghost use Rattle.reader.specs.Reading.{
   LinkedEdge,
   NodeFine,
   OpenedProc,
-  Refusal,
+  Refused,
   Resolved,
   ResolvedNode,
   Took,
   callee_bytes,
-  counts,
   in_procedure,
   kind_count,
   marked,
@@ -30,15 +29,15 @@ ghost use Rattle.reader.specs.Reading.{
   stored_edge,
   stored_node,
 };
-ghost use Rattle.reader.specs.Result.{DegreesOf, ReadInto, Small, links_of};
+ghost use Rattle.reader.specs.Result.{DegreesOf, ReadInto, Small, counts_of, links_of, seen};
 
-use text::{after, find, front, get, put};
+use answer::{Fault, Refusal};
+use lines::Kind;
+use text::{after, copy, find, front, get, put};
 
-// What was read so far: a refusal by number and place, where the number is not 0, and the counts of procedures, nodes and edges.
-#[derive(Clone, Copy)]
-pub struct Count {
-    pub number: usize,
-    pub place: usize,
+// How many procedures, nodes and edges were read.
+#[derive(Clone, Copy, Debug, PartialEq, Eq)]
+pub struct Counts {
     pub procs: usize,
     pub nodes: usize,
     pub edges: usize,
@@ -73,43 +72,20 @@ pub fn degrees_of(kind: usize) -> Degrees
 pub fn links(work: &[usize]) -> &[usize]
     ensures { result.now ≡ links_of work.now }
 {
-    if work.len() < 2048 {
-        return &work[..0];
-    }
-    &work[2048..]
+    after(work, 2048)
 }
 
 // ---- stores
 
-fn put4(s: &mut [usize], i: usize, a: usize, b: usize, c: usize, d: usize)
-    requires { i ≤ 65536 }
-    ensures { s.new ≡ sets s.old i (a ∷ (b ∷ (c ∷ (d ∷ [])))) }
-{
-    put(s, i, a);
-    put(s, i + 1, b);
-    put(s, i + 2, c);
-    put(s, i + 3, d);
-}
-
-fn put5(s: &mut [usize], i: usize, a: usize, b: usize, c: usize, d: usize, e: usize)
-    requires { i ≤ 65536 }
-    ensures { s.new ≡ sets s.old i (a ∷ (b ∷ (c ∷ (d ∷ (e ∷ []))))) }
-{
-    put4(s, i, a, b, c, d);
-    put(s, i + 4, e);
-}
-
 // Notes an E as the entry of the procedure q, and an X as its exit.
-fn mark(work: &mut [usize], kind: usize, q: usize, node: usize)
+fn mark(work: &mut [usize], kind: Kind, q: usize, node: usize)
     requires { q ≤ 64 }
-    ensures { work.new ≡ marked kind q node work.old }
+    ensures { work.new ≡ marked (kind_code kind) q node work.old }
 {
-    if kind == 0 {
-        put(work, 2048 + 7 * q + 5, node);
-        return;
-    }
-    if kind == 3 {
-        put(work, 2048 + 7 * q + 6, node);
+    match kind {
+        Kind::Entry => put(work, 2048 + 7 * q + 5, node),
+        Kind::Exit => put(work, 2048 + 7 * q + 6, node),
+        Kind::Step | Kind::Call => {}
     }
 }
 
@@ -117,15 +93,15 @@ fn store_node(
     work: &mut [usize],
     q: usize,
     node: usize,
-    kind: usize,
+    kind: Kind,
     start: usize,
     len: usize,
     last: usize,
 )
     requires { (q ≤ 64) × (node ≤ 512) }
-    ensures { work.new ≡ stored_node work.old q node kind start len last }
+    ensures { work.new ≡ stored_node work.old q node (kind_code kind) start len last }
 {
-    put4(work, 4 * node, kind, start, len, last);
+    copy(work, 4 * node, &[kind.number(), start, len, last]);
     put(work, 7616 + node, 0);
     mark(work, kind, q, node);
 }
@@ -135,7 +111,7 @@ fn store_edge(work: &mut [usize], edge: usize, from: usize, start: usize, key: u
     ensures { work.new ≡ stored_edge work.old edge from start key to }
 {
     let head = get(work, 7616 + from);
-    put5(work, 2496 + 5 * edge, from, start, key, to, head);
+    copy(work, 2496 + 5 * edge, &[from, start, key, to, head]);
     put(work, 7616 + from, edge + 1);
 }
 
@@ -147,27 +123,21 @@ fn of_current(work: &[usize], procs: usize, k: usize) -> usize
     ensures { result ≡ of_current work.now procs k }
 {
     if procs == 0 {
-        return 0;
+        0
+    } else {
+        get(work, 2048 + 7 * (procs - 1) + k)
     }
-    get(work, 2048 + 7 * (procs - 1) + k)
 }
 
 // How many nodes from the first on have the kind.
-fn count_kind(work: &[usize], first: usize, nodes: usize, kind: usize) -> usize
+fn count_kind(work: &[usize], first: usize, nodes: usize, kind: Kind) -> usize
     requires { nodes ≤ 512 }
-    ensures { result ≡ kind_count work.now first nodes kind }
+    ensures { result ≡ kind_count work.now first nodes (kind_code kind) }
 {
-    if nodes < first {
-        return 0;
-    }
     let mut n = 0;
-    let mut i = first;
-    while i < nodes {
-        if get(work, 4 * i) == kind {
+    for i in first..nodes {
+        if get(work, 4 * i) == kind.number() {
             n += 1;
-            i += 1;
-        } else {
-            i += 1;
         }
     }
     n
@@ -178,24 +148,19 @@ fn node_fine(work: &[usize], n: usize) -> bool
     requires { n ≤ 512 }
     ensures { NodeFine work.now n result }
 {
-    let kind = get(work, 4 * n);
-    let bounds = degrees_of(kind);
-    let fewest = bounds.fewest;
-    let most = bounds.most;
+    let number = get(work, 4 * n);
+    let Ok(kind) = Kind::try_from(number) else {
+        return false;
+    };
+    let bounds = degrees_of(number);
     let d = graph::degree(links(work), n);
-    if d < fewest {
+    if d < bounds.fewest || bounds.most < d {
         return false;
     }
-    if most < d {
-        return false;
+    match kind {
+        Kind::Entry | Kind::Call => graph::dashed(links(work), n),
+        Kind::Step | Kind::Exit => true,
     }
-    if kind == 0 {
-        return graph::dashed(links(work), n);
-    }
-    if kind == 2 {
-        return graph::dashed(links(work), n);
-    }
-    true
 }
 
 // Whether every node from the first on is fine.
@@ -203,14 +168,8 @@ fn all_fine(work: &[usize], first: usize, nodes: usize) -> bool
     requires { nodes ≤ 512 }
     ensures { AllFine work.now first nodes result }
 {
-    if nodes < first {
-        return true;
-    }
-    let mut n = first;
-    while n < nodes {
-        if node_fine(work, n) {
-            n += 1;
-        } else {
+    for n in first..nodes {
+        if !node_fine(work, n) {
             return false;
         }
     }
@@ -218,50 +177,23 @@ fn all_fine(work: &[usize], first: usize, nodes: usize) -> bool
 }
 
 // Whether the procedure that is being read is complete.
-fn complete(work: &[usize], had: Count) -> bool
-    requires { Small had }
-    ensures { Completes work.now had result }
+fn complete(work: &[usize], had: Counts) -> bool
+    requires { Small (counts_of had) }
+    ensures { Completes work.now (counts_of had) result }
 {
-    let procs = had.procs;
-    let nodes = had.nodes;
-    let first = of_current(work, procs, 3);
-    let entries = count_kind(work, first, nodes, 0);
-    if entries != 1 {
-        return false;
-    }
-    let exits = count_kind(work, first, nodes, 3);
-    if exits != 1 {
-        return false;
-    }
-    all_fine(work, first, nodes)
+    let first = of_current(work, had.procs, 3);
+    count_kind(work, first, had.nodes, Kind::Entry) == 1
+        && count_kind(work, first, had.nodes, Kind::Exit) == 1
+        && all_fine(work, first, had.nodes)
 }
 
 // ---- a line
 
-// A refusal. Its counts are 0.
-fn refused(number: usize, place: usize) -> Count
-    ensures { Refusal number place result }
+// A refusal.
+fn refused(fault: Fault, place: usize) -> Result<Counts, Refusal>
+    ensures { Refused (fault_number fault) place (seen result) }
 {
-    Count {
-        number,
-        place,
-        procs: 0,
-        nodes: 0,
-        edges: 0,
-    }
-}
-
-// What was read so far, with no refusal.
-fn counted(procs: usize, nodes: usize, edges: usize) -> Count
-    ensures { result ≡ counts procs nodes edges }
-{
-    Count {
-        number: 0,
-        place: 0,
-        procs,
-        nodes,
-        edges,
-    }
+    Err(Refusal { fault, place })
 }
 
 // A P line, where the procedure before it is complete. After a refusal the work table may hold anything.
@@ -270,33 +202,28 @@ fn new_proc(
     line: usize,
     at: usize,
     name: &[u8],
-    had: Count,
+    had: Counts,
     work: &mut [usize],
-) -> Count
-    requires small { Small had }
+) -> Result<Counts, Refusal>
+    requires small { Small (counts_of had) }
     requires at_bound { (at ≤ 65536) × (8128 ≤ length work.old) }
-    ensures { OpenedProc text.now line at name.now had work.old result work.new }
+    ensures { OpenedProc text.now line at name.now (counts_of had) work.old (seen result) work.new }
 {
-    let procs = had.procs;
-    let nodes = had.nodes;
-    let edges = had.edges;
-    if 64 <= procs {
-        return refused(4, line);
+    if 64 <= had.procs {
+        return refused(Fault::TooManyLines, line);
     }
-    let twice = graph::proc_named(text, links(work), procs, name);
-    if 0 < twice {
-        return refused(5, line);
+    if graph::proc_named(text, links(work), had.procs, name).is_some() {
+        return refused(Fault::NameTwice, line);
     }
-    put5(
+    copy(
         work,
-        2048 + 7 * procs,
-        at + 2,
-        name.len(),
-        line,
-        nodes,
-        edges,
+        2048 + 7 * had.procs,
+        &[at + 2, name.len(), line, had.nodes, had.edges],
     );
-    counted(procs + 1, nodes, edges)
+    Ok(Counts {
+        procs: had.procs + 1,
+        ..had
+    })
 }
 
 // A P line of this name. After a refusal the work table may hold anything.
@@ -305,21 +232,17 @@ fn add_proc(
     line: usize,
     at: usize,
     name: &[u8],
-    had: Count,
+    had: Counts,
     work: &mut [usize],
-) -> Count
-    requires small { Small had }
+) -> Result<Counts, Refusal>
+    requires small { Small (counts_of had) }
     requires at_bound { (at ≤ 65536) × (8128 ≤ length work.old) }
-    ensures { Took text.now line at (proc_line name.now) had work.old result work.new }
+    ensures { Took text.now line at (proc_line name.now) (counts_of had) work.old (seen result) work.new }
 {
-    let procs = had.procs;
-    if procs == 0 {
-        return new_proc(text, line, at, name, had, work);
+    if had.procs != 0 && !complete(work, had) {
+        return refused(Fault::ProcedureBroken, of_current(work, had.procs, 2));
     }
-    if complete(work, had) {
-        return new_proc(text, line, at, name, had, work);
-    }
-    refused(8, of_current(work, procs, 2))
+    new_proc(text, line, at, name, had, work)
 }
 
 // A P line, by what stands behind its first comma: a name has no comma, so it is all of that. After a refusal the work table may hold anything.
@@ -328,90 +251,88 @@ fn proc_line(
     line: usize,
     at: usize,
     name: &[u8],
-    had: Count,
+    had: Counts,
     work: &mut [usize],
-) -> Count
-    requires small { Small had }
+) -> Result<Counts, Refusal>
+    requires small { Small (counts_of had) }
     requires at_bound { (at ≤ 65536) × (8128 ≤ length work.old) }
-    ensures { Took text.now line at (form_of (bytes "P" ∷ split 44 name.now)) had work.old result work.new }
+    ensures { Took text.now line at (form_of (bytes "P" ∷ split 44 name.now)) (counts_of had) work.old (seen result) work.new }
 {
-    if text::is_name(name) {
-        return add_proc(text, line, at, name, had, work);
+    if !text::is_name(name) {
+        return refused(Fault::LineMalformed, line);
     }
-    refused(2, line)
+    add_proc(text, line, at, name, had, work)
 }
 
-// An N line of this kind's number, label and callee field. After a refusal the work table may hold anything.
+// An N line of this kind, label and callee field. After a refusal the work table may hold anything.
 fn add_node(
     line: usize,
     at: usize,
-    kind: usize,
+    kind: Kind,
     label: &[u8],
     callee: &[u8],
-    had: Count,
+    had: Counts,
     work: &mut [usize],
-) -> Count
-    requires small { Small had }
+) -> Result<Counts, Refusal>
+    requires small { Small (counts_of had) }
     requires at_bound { (at ≤ 65536) × (line ≤ 65536) × (length callee.now ≤ 65536) × (8128 ≤ length work.old) }
-    ensures { AddedNode line at kind label.now callee.now had work.old result work.new }
+    ensures { Added line at (node_line (kind_meant kind) label.now callee.now) (counts_of had) work.old (seen result) work.new }
 {
-    let procs = had.procs;
-    let nodes = had.nodes;
-    let edges = had.edges;
-    if procs == 0 {
-        return refused(3, line);
+    if had.procs == 0 || of_current(work, had.procs, 4) < had.edges {
+        return refused(Fault::LineOutOfPlace, line);
     }
-    let first = of_current(work, procs, 4);
-    if first < edges {
-        return refused(3, line);
-    }
-    if 512 <= nodes {
-        return refused(4, line);
+    if 512 <= had.nodes {
+        return refused(Fault::TooManyLines, line);
     }
     store_node(
         work,
-        procs - 1,
-        nodes,
+        had.procs - 1,
+        had.nodes,
         kind,
         at + 4,
         label.len(),
         line * 64 + callee.len(),
     );
-    counted(procs, nodes + 1, edges)
+    Ok(Counts {
+        nodes: had.nodes + 1,
+        ..had
+    })
 }
 
 // An N line, by what stands behind its first comma: kind, label, and the callee field, which has no comma, so that it is all the rest. After a
 // refusal the work table may hold anything.
-fn node_line(line: usize, at: usize, rest: &[u8], had: Count, work: &mut [usize]) -> Count
-    requires small { Small had }
+fn node_line(
+    line: usize,
+    at: usize,
+    rest: &[u8],
+    had: Counts,
+    work: &mut [usize],
+) -> Result<Counts, Refusal>
+    requires small { Small (counts_of had) }
     requires at_bound { (at ≤ 65536) × (line ≤ 65536) × (length rest.now ≤ 65536) × (8128 ≤ length work.old) }
-    ensures { Added line at (form_of (bytes "N" ∷ split 44 rest.now)) had work.old result work.new }
+    ensures { Added line at (form_of (bytes "N" ∷ split 44 rest.now)) (counts_of had) work.old (seen result) work.new }
 {
     let kind = text::first_short(rest, 44);
     if rest.len() <= kind.len() {
-        return refused(2, line);
+        return refused(Fault::LineMalformed, line);
     }
     let more = after(rest, kind.len() + 1);
     let label = text::first(more, 44);
     if more.len() <= label.len() {
-        return refused(2, line);
+        return refused(Fault::LineMalformed, line);
     }
     let callee = after(more, label.len() + 1);
-    let k = lines::kind_of(kind, label, callee);
-    if 3 < k {
-        return refused(2, line);
-    }
-    add_node(line, at, k, label, callee, had, work)
+    let Some(kind) = lines::kind_of(kind, label, callee) else {
+        return refused(Fault::LineMalformed, line);
+    };
+    add_node(line, at, kind, label, callee, had, work)
 }
 
 // Whether n is a node from the first on.
 fn in_procedure(first: usize, nodes: usize, n: usize) -> bool
     ensures { result ≡ in_procedure first nodes n }
 {
-    if n < first {
-        return false;
-    }
-    n < nodes
+    first <= n && n < nodes
 }
 
 // A B line whose ends are nodes of its procedure: its word, which begins at `start`. After a refusal the work table may hold anything.
@@ -421,23 +342,22 @@ fn new_edge(
     start: usize,
     word: &[u8],
     to: usize,
-    had: Count,
+    had: Counts,
     work: &mut [usize],
-) -> Count
-    requires small { Small had }
+) -> Result<Counts, Refusal>
+    requires small { Small (counts_of had) }
     requires from_bound { (from < 512) × (had.edges < 1024) × (8128 ≤ length work.old) }
-    ensures { LinkedEdge line from start word.now to had work.old result work.new }
+    ensures { LinkedEdge line from start word.now to (counts_of had) work.old (seen result) work.new }
 {
-    let procs = had.procs;
-    let nodes = had.nodes;
-    let edges = had.edges;
     let key = graph::key(word);
-    let twice = graph::edge_with(links(work), from, key);
-    if 0 < twice {
-        return refused(7, line);
+    if graph::edge_with(links(work), from, key).is_some() {
+        return refused(Fault::WordTwice, line);
     }
-    store_edge(work, edges, from, start, key, to);
-    counted(procs, nodes, edges + 1)
+    store_edge(work, had.edges, from, start, key, to);
+    Ok(Counts {
+        edges: had.edges + 1,
+        ..had
+    })
 }
 
 // A B line of this word, which begins at `start`: its ends, then the word. After a refusal the work table may hold anything.
@@ -447,68 +367,73 @@ fn add_edge(
     start: usize,
     word: &[u8],
     to: usize,
-    had: Count,
+    had: Counts,
     work: &mut [usize],
-) -> Count
-    requires small { Small had }
+) -> Result<Counts, Refusal>
+    requires small { Small (counts_of had) }
     requires in_bounds { 8128 ≤ length work.old }
-    ensures { AddedEdge line from start word.now to had work.old result work.new }
+    ensures { AddedEdge line from start word.now to (counts_of had) work.old (seen result) work.new }
 {
-    let procs = had.procs;
-    let nodes = had.nodes;
-    let edges = had.edges;
-    if procs == 0 {
-        return refused(3, line);
+    if had.procs == 0 {
+        return refused(Fault::LineOutOfPlace, line);
     }
-    if 1024 <= edges {
-        return refused(4, line);
+    if 1024 <= had.edges {
+        return refused(Fault::TooManyLines, line);
     }
-    let first = of_current(work, procs, 3);
-    if in_procedure(first, nodes, from) {
-        if in_procedure(first, nodes, to) {
-            return new_edge(line, from, start, word, to, had, work);
-        }
-        return refused(6, line);
+    let first = of_current(work, had.procs, 3);
+    if !in_procedure(first, had.nodes, from) || !in_procedure(first, had.nodes, to) {
+        return refused(Fault::NotNamed, line);
     }
-    refused(6, line)
+    new_edge(line, from, start, word, to, had, work)
 }
 
 // A B line, by what stands behind its first comma: from, word, and to, a number, which has no comma, so that it is all the rest. After a
 // refusal the work table may hold anything.
-fn edge_line(line: usize, at: usize, rest: &[u8], had: Count, work: &mut [usize]) -> Count
-    requires small { Small had }
+fn edge_line(
+    line: usize,
+    at: usize,
+    rest: &[u8],
+    had: Counts,
+    work: &mut [usize],
+) -> Result<Counts, Refusal>
+    requires small { Small (counts_of had) }
     requires at_bound { (at ≤ 65536) × (length rest.now ≤ 65536) × (8128 ≤ length work.old) }
-    ensures { Added line at (form_of (bytes "B" ∷ split 44 rest.now)) had work.old result work.new }
+    ensures { Added line at (form_of (bytes "B" ∷ split 44 rest.now)) (counts_of had) work.old (seen result) work.new }
 {
     let from = text::first_short(rest, 44);
     if rest.len() <= from.len() {
-        return refused(2, line);
+        return refused(Fault::LineMalformed, line);
     }
     let more = after(rest, from.len() + 1);
     let word = text::first_short(more, 44);
     if more.len() <= word.len() {
-        return refused(2, line);
+        return refused(Fault::LineMalformed, line);
     }
     let to = after(more, word.len() + 1);
-    let source = text::number(from);
-    if 65536 < source {
-        return refused(2, line);
+    let Some(source) = text::number(from) else {
+        return refused(Fault::LineMalformed, line);
+    };
+    let Some(target) = text::number(to) else {
+        return refused(Fault::LineMalformed, line);
+    };
+    if !text::is_word(word) {
+        return refused(Fault::LineMalformed, line);
     }
-    let target = text::number(to);
-    if 65536 < target {
-        return refused(2, line);
-    }
-    if text::is_word(word) {
-        return add_edge(line, source, at + from.len() + 3, word, target, had, work);
-    }
-    refused(2, line)
+    add_edge(line, source, at + from.len() + 3, word, target, had, work)
 }
 
 // One line: its number, where it begins, and its bytes. It goes by its first two bytes. After a refusal the work table may hold anything.
-fn step(text: &[u8], line: usize, at: usize, l: &[u8], had: Count, work: &mut [usize]) -> Count
-    requires small { Small had }
+fn step(
+    text: &[u8],
+    line: usize,
+    at: usize,
+    l: &[u8],
+    had: Counts,
+    work: &mut [usize],
+) -> Result<Counts, Refusal>
+    requires small { Small (counts_of had) }
     requires at_bound { (at ≤ 65536) × (line ≤ 65536) × (length l.now ≤ 65536) × (8128 ≤ length work.old) }
-    ensures { Took text.now line at (form_of (fields_of l.now)) had work.old result work.new }
+    ensures { Took text.now line at (form_of (fields_of l.now)) (counts_of had) work.old (seen result) work.new }
 {
     let f = front(l, 2);
     let rest = after(l, 2);
@@ -521,34 +446,34 @@ fn step(text: &[u8], line: usize, at: usize, l: &[u8], had: Count, work: &mut [u
     if text::same(f, b"P,") {
         return proc_line(text, line, at, rest, had, work);
     }
-    refused(2, line)
+    refused(Fault::LineMalformed, line)
 }
 
 // ---- all lines
 
-// Reads every line into the work table. After a refusal the work table may hold anything.
-fn read_lines(text: &[u8], work: &mut [usize]) -> Count
+// Reads every line into the work table, by the places where they begin, which the tables keep. After a refusal the work table may hold anything.
+fn read_lines(text: &[u8], work: &mut [usize]) -> Result<Counts, Refusal>
     requires { (length text.now ≤ 65536) × (8128 ≤ length work.old) }
-    ensures { LinesRead text.now result work.new }
+    ensures { LinesRead text.now (seen result) work.new }
 {
     let mut at = 0;
     let mut line = 1;
-    let mut had = counted(0, 0, 0);
+    let mut had = Counts {
+        procs: 0,
+        nodes: 0,
+        edges: 0,
+    };
     while at < text.len() {
         let rest = after(text, at);
         let len = find(rest, 10);
         if rest.len() <= len {
-            return refused(2, line);
+            return refused(Fault::LineMalformed, line);
         }
-        had = step(text, line, at, front(rest, len), had, work);
-        let number = had.number;
-        if number != 0 {
-            return had;
-        }
+        had = step(text, line, at, front(rest, len), had, work)?;
         at = at + len + 1;
         line += 1;
     }
-    had
+    Ok(had)
 }
 
 // ---- callees, and the whole text
@@ -564,113 +489,101 @@ fn callee_of(text: &[u8], start: usize, len: usize, size: usize) -> &[u8]
 }
 
 // The procedures that a callee field names, of which there are at most `most`, as one number: for each a digit to the base 256, 1 + the
-// procedure, the first name's the lowest; 0 where a name is unknown. The remainders cut nothing off a program's numbers; they bound any others.
-fn callees_in(text: &[u8], links: &[usize], procs: usize, field: &[u8], most: usize) -> usize
+// procedure, the first name's the lowest; none where a name is unknown. The remainders cut nothing off a program's numbers; they bound any others.
+fn callees_in(
+    text: &[u8],
+    links: &[usize],
+    procs: usize,
+    field: &[u8],
+    most: usize,
+) -> Option<usize>
     requires { most ≤ 4 }
     ensures { CalleesIn text.now links.now procs field.now most result }
 {
     if most == 0 {
-        return 0;
+        return None;
     }
     let name = text::first_short(field, 43);
+    let q = graph::proc_named(text, links, procs, name)?;
     if field.len() <= name.len() {
-        return graph::proc_named(text, links, procs, field);
+        return Some(q % 255 + 1);
     }
-    let q = graph::proc_named(text, links, procs, name);
-    if q == 0 {
-        return 0;
-    }
-    let behind = callees_in(text, links, procs, after(field, name.len() + 1), most - 1);
-    if behind == 0 {
-        return 0;
-    }
-    behind % 16777216 * 256 + q % 256
+    let behind = callees_in(text, links, procs, after(field, name.len() + 1), most - 1)?;
+    Some(behind % 16777216 * 256 + q % 255 + 1)
 }
 
 // The same of a whole callee field. One name, as most have, is looked up at once; so the compiler keeps the others out of the reader's loop.
-fn all_callees(text: &[u8], links: &[usize], procs: usize, field: &[u8]) -> usize
+fn all_callees(text: &[u8], links: &[usize], procs: usize, field: &[u8]) -> Option<usize>
     ensures { CalleesIn text.now links.now procs field.now 4 result }
 {
     let name = text::first_short(field, 43);
     if field.len() <= name.len() {
-        return graph::proc_named(text, links, procs, field);
+        let q = graph::proc_named(text, links, procs, name)?;
+        return Some(q % 255 + 1);
     }
     callees_in(text, links, procs, field, 4)
 }
 
-// Puts the procedures that the node calls into its row; 1 + the node's line, where it names an unknown one, and then the work table may hold
-// anything.
-fn resolve_node(text: &[u8], work: &mut [usize], procs: usize, n: usize) -> usize
+// Puts the procedures that the node calls into its row. Where it names an unknown one it is refused at its line, and then the work table may
+// hold anything.
+fn resolve_node(text: &[u8], work: &mut [usize], procs: usize, n: usize) -> Result<(), Refusal>
     requires { (n < 512) × (8128 ≤ length work.old) }
-    ensures { ResolvedNode text.now work.old procs n result work.new }
+    ensures { ResolvedNode text.now work.old procs n (number_in result) (place_in result) work.new }
 {
-    let kind = get(work, 4 * n);
-    if kind != 2 {
+    if get(work, 4 * n) != Kind::Call.number() {
         put(work, 4 * n + 3, 0);
-        return 0;
+        return Ok(());
     }
     let start = get(work, 4 * n + 1);
     let len = get(work, 4 * n + 2);
     let last = get(work, 4 * n + 3);
     let field = callee_of(text, start, len, last % 64);
-    let callees = all_callees(text, links(work), procs, field);
-    if callees == 0 {
-        return last / 64 + 1;
-    }
+    let Some(callees) = all_callees(text, links(work), procs, field) else {
+        return Err(Refusal {
+            fault: Fault::UnknownCallee,
+            place: last / 64,
+        });
+    };
     put(work, 4 * n + 3, callees);
-    0
+    Ok(())
 }
 
 // The same of every node, up to the first with an unknown callee.
-fn resolve(text: &[u8], work: &mut [usize], procs: usize, nodes: usize) -> usize
+fn resolve(text: &[u8], work: &mut [usize], procs: usize, nodes: usize) -> Result<(), Refusal>
     requires { (nodes ≤ 512) × (8128 ≤ length work.old) }
-    ensures { Resolved text.now work.old procs nodes result work.new }
+    ensures { Resolved text.now work.old procs nodes (number_in result) (place_in result) work.new }
 {
-    let mut n = 0;
-    while n < nodes {
-        let line = resolve_node(text, work, procs, n);
-        if line != 0 {
-            return line;
-        }
-        n += 1;
+    for n in 0..nodes {
+        resolve_node(text, work, procs, n)?;
     }
-    0
+    Ok(())
 }
 
-// The end of a text whose lines were read: 2, 8 and 9. After a refusal the work table may hold anything.
-fn finish(text: &[u8], had: Count, work: &mut [usize]) -> Count
-    requires small { Small had }
+// The end of a text whose lines were read: no procedure, one that is not complete, or an unknown callee. After a refusal the work table may hold
+// anything.
+fn finish(text: &[u8], had: Counts, work: &mut [usize]) -> Result<Counts, Refusal>
+    requires small { Small (counts_of had) }
     requires in_bounds { 8128 ≤ length work.old }
-    ensures { Finished text.now had work.old result work.new }
+    ensures { Finished text.now (counts_of had) work.old (seen result) work.new }
 {
-    let procs = had.procs;
-    let nodes = had.nodes;
-    let edges = had.edges;
-    if procs == 0 {
-        return refused(2, 1);
+    if had.procs == 0 {
+        return refused(Fault::LineMalformed, 1);
     }
-    if complete(work, had) {
-        let line = resolve(text, work, procs, nodes);
-        if line != 0 {
-            return refused(9, line - 1);
-        }
-        return counted(procs, nodes, edges);
+    if !complete(work, had) {
+        return refused(Fault::ProcedureBroken, of_current(work, had.procs, 2));
     }
-    refused(8, of_current(work, procs, 2))
+    resolve(text, work, had.procs, had.nodes)?;
+    Ok(had)
 }
 
-// Reads a program file into the work table. A refusal has a number that is not 0; the table may then hold anything.
-pub fn read_into(text: &[u8], work: &mut [usize]) -> Count
+// Reads a program file into the work table. After a refusal the table may hold anything.
+pub fn read_into(text: &[u8], work: &mut [usize]) -> Result<Counts, Refusal>
     requires { 8128 ≤ length work.old }
-    ensures { ReadInto text.now result work.new }
+    ensures { ReadInto text.now (seen result) work.new }
 {
     if 65536 < text.len() {
-        return refused(1, 0);
+        return refused(Fault::TextTooLong, 0);
     }
-    let had = read_lines(text, work);
-    let number = had.number;
-    if number != 0 {
-        return had;
-    }
+    let had = read_lines(text, work)?;
     finish(text, had, work)
 }

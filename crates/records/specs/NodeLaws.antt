@@ -22,6 +22,10 @@ unfolding flat
 flat_append [] vs = refl
 flat_append (u ∷ us) vs = ap (λ (l : List ℕ). row u ++ l) (flat_append us vs) ∙ sym (append_assoc (row u) (flat us) (flat vs))
 
+pub flat_none : flat [] ≡ []
+unfolding flat
+flat_none = refl
+
 pub nodes_length : (w : List ℕ) (n : ℕ) → length (nodes_of w n) ≡ n
 unfolding nodes_of
 nodes_length w zero = refl
@@ -90,6 +94,9 @@ module _ (w : List ℕ) (ns : List Node) where
       below_or n (length ns)
       (λ h. let l : n ≤ length ns = omega arith in ap saved (min-eq_left l))
       (λ h. let e : length ns + (n - length ns) ≡ n = omega arith in ap saved (min-eq_right h) ∙ sym (saved_past (n - length ns)) ∙ ap saved e)
+
+  pub saved_end : (i n : ℕ) → i ≡ min n (length ns) → saved i ≡ saved n
+  saved_end i n e = ap saved e ∙ saved_all n
 
 -- ---- the same stores, in records and in numbers
 

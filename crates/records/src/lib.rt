@@ -2,13 +2,13 @@
 // records read and written: `load` and `save` carry them to and from a table of numbers, and all other work is done on numbers and on values.
 #![tactic(auto)]
 
-ghost use Rattle.std.specs.Prelude.{◌≡◌, ◌+◌, ◌*◌, min, length, take, replicate};
+ghost use Rattle.std.specs.Prelude.{◌≡◌, ◌+◌, ◌*◌, length, take, replicate};
 ghost use Rattle.std.proofs.lemmas.List.Edits.{sets};
 ghost use Rattle.records.specs.Nodes.{flat, node_at, nodes_of, row};
 ghost use Rattle.records.specs.Jobs.{fresh, same_job};
 ghost use Rattle.records.specs.Shown.{part_shown};
 
-use text::{clear, get, part, put};
+use text::{clear, copy, get, part};
 
 // A node: its kind, where its label stands in the text and how long it is, and the procedures that it calls, as digits to the base 256: 1 + the
 // first one's number is the lowest, and so on; 0 if it calls none.
@@ -23,7 +23,7 @@ pub struct Node {
 
 // The job: its stage, and how many procedures, nodes and edges each version has, and how many tests there are.
 #[repr(C)]
-#[derive(Clone, Copy)]
+#[derive(Clone, Copy, PartialEq, Eq)]
 pub struct Job {
     pub stage: usize,
     pub old_procs: usize,
@@ -37,34 +37,18 @@ pub struct Job {
 
 // ---- one record
 
-// The lesser of two numbers.
-fn fewer(a: usize, b: usize) -> usize
-    ensures { result ≡ min a b }
-{
-    if a < b {
-        return a;
-    }
-    b
-}
-
 // Puts the four numbers of a record into the table, as the record i of those that begin at the place `at`; past the end, nothing.
+#[tactic(auto, using(crate::proofs::Laws::rows))]
 fn put_row(out: &mut [usize], at: usize, i: usize, v: Node)
     ensures { out.new ≡ sets out.old (at + 4 * i) (row v) }
 {
-    if out.len() < at {
-        return;
+    if at <= out.len() && i <= (out.len() - at) / 4 {
+        copy(out, at + 4 * i, &[v.kind, v.start, v.len, v.callees]);
     }
-    if (out.len() - at) / 4 < i {
-        return;
-    }
-    let k = at + 4 * i;
-    put(out, k, v.kind);
-    put(out, k + 1, v.start);
-    put(out, k + 2, v.len);
-    put(out, k + 3, v.callees);
 }
 
 // The record i of the numbers.
+#[tactic(auto, using(crate::proofs::Laws::rows))]
 fn node_at(table: &[usize], i: usize) -> Node
     ensures { result ≡ node_at table.now i }
 {
@@ -77,29 +61,23 @@ fn node_at(table: &[usize], i: usize) -> Node
         };
     }
     let k = 4 * i;
-    let kind = get(table, k);
-    let start = get(table, k + 1);
-    let len = get(table, k + 2);
-    let callees = get(table, k + 3);
     Node {
-        kind,
-        start,
-        len,
-        callees,
+        kind: get(table, k),
+        start: get(table, k + 1),
+        len: get(table, k + 2),
+        callees: get(table, k + 3),
     }
 }
 
 // ---- lent records
 
 // Puts the numbers of the first n records, or of all where there are fewer, into the table from the place `at` on, as far as it goes.
+#[tactic(auto, using(crate::proofs::Laws::loads))]
 pub fn load(nodes: &[Node], n: usize, out: &mut [usize], at: usize)
     ensures { out.new ≡ sets out.old at (flat (take n nodes.now)) }
 {
-    let m = fewer(n, nodes.len());
-    let mut i = 0;
-    while i < m {
+    for i in 0..n.min(nodes.len()) {
         put_row(out, at, i, nodes[i]);
-        i += 1;
     }
 }
 
@@ -112,14 +90,12 @@ pub fn load_both(old: &[Node], new: &[Node], out: &mut [usize])
 }
 
 // Stores the first n records of the numbers, as far as there are records to store into; the others stay.
+#[tactic(auto, using(crate::proofs::Laws::saves))]
 pub fn save(table: &[usize], n: usize, nodes: &mut [Node])
     ensures { nodes.new ≡ sets nodes.old 0 (nodes_of table.now n) }
 {
-    let m = fewer(n, nodes.len());
-    let mut i = 0;
-    while i < m {
+    for i in 0..n.min(nodes.len()) {
         nodes[i] = node_at(table, i);
-        i += 1;
     }
 }
 
@@ -151,39 +127,17 @@ pub fn fresh_job() -> Job
 }
 
 // Whether two jobs are the same.
+#[tactic(auto, using(crate::proofs::Laws::jobs_same))]
 pub fn same_job(a: Job, b: Job) -> bool
     ensures { result ≡ same_job a b }
 {
-    if a.stage != b.stage {
-        return false;
-    }
-    if a.old_procs != b.old_procs {
-        return false;
-    }
-    if a.old_nodes != b.old_nodes {
-        return false;
-    }
-    if a.old_edges != b.old_edges {
-        return false;
-    }
-    if a.new_procs != b.new_procs {
-        return false;
-    }
-    if a.new_nodes != b.new_nodes {
-        return false;
-    }
-    if a.new_edges != b.new_edges {
-        return false;
-    }
-    if a.tests != b.tests {
-        return false;
-    }
-    true
+    a == b
 }
 
 // ---- labels
 
-// A part of the old text (side 0) or of the new one (side 1), cut at its end; no bytes for any other side.
+// A part of the old text (side 0) or of the new one (side 1), cut at its end; no bytes for any other side. C programs name the side so.
+#[tactic(auto, using(crate::proofs::Laws::shown))]
 pub fn shown_part<'a>(
     old: &'a [u8],
     new: &'a [u8],
@@ -193,11 +147,9 @@ pub fn shown_part<'a>(
 ) -> &'a [u8]
     ensures { result.now ≡ part_shown old.now new.now side start len }
 {
-    if side == 0 {
-        return part(old, start, len);
+    match side {
+        0 => part(old, start, len),
+        1 => part(new, start, len),
+        _ => part(new, 0, 0),
     }
-    if side == 1 {
-        return part(new, start, len);
-    }
-    part(new, 0, 0)
 }

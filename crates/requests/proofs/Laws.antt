@@ -16,7 +16,7 @@ use Rattle.rules.specs.Check.{broken}
 use Rattle.rules.specs.Layout.{write_program}
 use Rattle.rules.proofs.Theorems.{written_unchanged}
 use Rattle.rules.specs.Job.{Given, Outcome, by_side, checking, has_node, judged, labelling, outcome, output_after, refusal, request_by, serving, success, writing_back, written}
-use Rattle.answer.specs.declared.Answer.{Answer}
+use Rattle.answer.specs.Refusals.{Answer}
 use Rattle.answer.specs.Outcomes.{Answered, Told, answered_as, refusal_told, told_as}
 use Rattle.versions.specs.Memory.{Memory}
 use Rattle.versions.specs.MemoryLaws.{program_read}
@@ -102,20 +102,22 @@ module _ (had : Counts) (side n k : ℕ) (e : k ≡ nodes_on had side) where
 
 -- ---- `program`
 
-module _ (old new : Bytes) (side : ℕ) (out out' : Bytes) (r : Answer) where
-  pub program_old : side ≡ 0 → TextWritten old out r out' → ProgramTold old new side out r out'
+module _ (old new : Bytes) (side : ℕ) (out out' text : Bytes) (r : Answer) (t : TextWritten text out r out') where
+  pub program_old : side ≡ 0 → text ≡ old → ProgramTold old new side out r out'
   unfolding text_on by_side
-  program_old e t = record { told = subst (λ (s : ℕ). Told (text_on old new s (length out)) r out out') (sym e) t.told; size = t.size }
+  program_old e q =
+      record { told = subst (λ (s : ℕ). Told (text_on old new s (length out)) r out out') (sym e) (subst (λ (x : Bytes). Told (written (length out) x) r out out') q t.told); size = t.size }
 
-  pub program_new : (side ≡ 0 → ⊥) → side ≡ 1 → TextWritten new out r out' → ProgramTold old new side out r out'
+  pub program_new : side ≡ 1 → text ≡ new → ProgramTold old new side out r out'
   unfolding text_on by_side
-  program_new z e t = record { told = subst (λ (s : ℕ). Told (text_on old new s (length out)) r out out') (sym e) t.told; size = t.size }
+  program_new e q =
+      record { told = subst (λ (s : ℕ). Told (text_on old new s (length out)) r out out') (sym e) (subst (λ (x : Bytes). Told (written (length out) x) r out out') q t.told); size = t.size }
 
-pub program_none : (old new : Bytes) (side : ℕ) (out : Bytes) → (side ≡ 0 → ⊥) → (side ≡ 1 → ⊥) → ProgramTold old new side out (record { number = 6; place = 0 }) out
+pub program_none : (old new : Bytes) (side : ℕ) (out : Bytes) (r : Answer) → (side ≡ 0 → ⊥) → (side ≡ 1 → ⊥) → r ≡ record { number = 6; place = 0 } → ProgramTold old new side out r out
 unfolding text_on by_side
-program_none old new zero out z e = absurd (z refl)
-program_none old new (suc zero) out z e = absurd (e refl)
-program_none old new (suc (suc side)) out z e = record { told = refusal_told 6 0 out; size = refl }
+program_none old new zero out r z e q = absurd (z refl)
+program_none old new (suc zero) out r z e q = absurd (e refl)
+program_none old new (suc (suc side)) out r z e q = record { told = subst (λ (x : Answer). Told (refusal 6 0) x out out) (sym q) (refusal_told 6 0 out); size = refl }
 
 -- The text of a side is its program, written back.
 module _ (v v' : Memory) (tt : Bytes) (tests rows : List ℕ) (had : Counts) (g : Given) (y : Ready v v' tt tests rows had g) (room : ℕ) where

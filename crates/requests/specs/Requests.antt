@@ -3,7 +3,7 @@ use Rattle.std.specs.Prelude.{◌≡◌, List, ℕ, eqb, length}
 use Rattle.laws.specs.Tests.{after, choose}
 use Rattle.rules.specs.Text.{Bytes}
 use Rattle.rules.specs.Job.{Given, Request as Asked, check_sheet, Outcome, by_side, labelling, no_request, refusal, serving, show_label, write_probes, write_back, write_record, write_sheet, written}
-use Rattle.answer.specs.declared.Answer.{Answer}
+use Rattle.answer.specs.Refusals.{Answer}
 use Rattle.answer.specs.Outcomes.{Answered, Told}
 use Rattle.versions.specs.Memory.{Memory}
 use Rattle.intake.specs.declared.Counts.{Counts}
@@ -25,10 +25,6 @@ asked Unknown = no_request
 unfoldable pub Served : Asked → Memory → Memory → Bytes → List ℕ → List ℕ → Counts → Bytes → Bytes → Answer → Bytes → Type 0
 Served q v v' tt tests rows had input out r out' =
     (g : Given) → Ready v v' tt tests rows had g → Told (serving q g input (length out)) r out out'
-
--- `unread`: number and place of a job that was not read.
-abbrev pub refusal_of : Counts → Answer
-refusal_of had = record { number = had.number; place = had.place }
 
 -- `nodes_on`: how many nodes the version of a side has, by the counts of a job that was read.
 unfoldable pub nodes_on : Counts → ℕ → ℕ

@@ -1,25 +1,38 @@
 -- The returns of the calls.
-use mathlib.Core.Path.{◌≡◌, refl, sym, ap, ap₂, ◌∙◌, subst}
+use mathlib.Core.Path.{◌≡◌, refl, sym, ap, ◌∙◌, subst}
 use mathlib.Core.List.{List, []}
 use Prim.Native.Nat.{ℕ}
 use native.Mathlib.Omega.{arith}
-use lib.ListN.{length}
+use lib.ListN.{length, replicate, take}
+use lib.Seq.{sets}
 use Rattle.rules.specs.Text.{Reading, Bytes, accepted, refused}
 use Rattle.rules.specs.ProgramFile.{Listing, read_listing, read_program}
 use Rattle.rules.specs.Graph.{Program}
 use Rattle.rules.specs.Job.{Given, Outcome, Request as Asked, answering, check_sheet, check_answer, outcome, output_after, packed, probes_answer, program_answer, read_job, read_new_answer, read_old_answer, read_tests_answer, record_answer, refusal, serving, sheet_answer, success, write_probes, write_back, write_record, write_sheet}
 use Rattle.rules.proofs.Answers.{plain_answers}
-use Rattle.answer.specs.declared.Answer.{Answer}
+use Rattle.std.specs.Prelude.{Result, Ok, Err}
+use Rattle.answer.specs.Refusals.{Answer, fault_number, fault_some, number_in, place_in, told}
+use Rattle.answer.specs.declared.Refusal.{Refusal}
 use Rattle.answer.specs.Outcomes.{Answered, Told, answered_as, packing, packs, refusal_told, told_as}
-use Rattle.reader.specs.declared.Count.{Count}
-use Rattle.reader.specs.Result.{ReadInto, Told as ReaderTold, links_of}
-use Rattle.versions.specs.Memory.{memory}
+use Rattle.reader.specs.Result.{Count, ReadInto, Told as ReaderTold, links_of, seen}
+use Rattle.reader.specs.declared.Counts.{Counts as ProgramCounts}
+use Rattle.suite.specs.Tables.{Tests, tests as suite_of}
+use Rattle.versions.specs.Memory.{Memory, memory}
 use Rattle.intake.specs.declared.Counts.{Counts}
 use Rattle.intake.specs.Ready.{JobRead, JobTold, Ready}
-use Rattle.intake.proofs.Laws.{program_of, program_refused}
+use Rattle.intake.proofs.Laws.{job_goes, job_stops, program_of, program_refused}
 use Rattle.work.specs.Work.{Done}
 use Rattle.requests.specs.declared.Request.TheVariants.{Check, Probes, Program as ProgramOf, Record, Sheet}
-use Rattle.requests.specs.Requests.{Served, asked, refusal_of}
+use Rattle.requests.specs.Requests.{Served, asked}
+use Rattle.records.specs.declared.Job.{Job}
+use Rattle.records.specs.declared.Node.{Node}
+use Rattle.records.specs.Nodes.{flat, nodes_of}
+use Rattle.lent_job.specs.Held.{lent, numbers}
+use Rattle.lent_job.specs.ReadOld.{ReadOld}
+use Rattle.lent_job.specs.ReadNew.{ReadNew}
+use Rattle.job.specs.Taken.{NewTaken, OldTaken, Reply, old_part}
+use Rattle.job.proofs.Laws.{read_old_is}
+use Rattle.job.proofs.NewLaws.{read_new_is}
 
 -- A number and a place are those of an outcome.
 abbrev Numbered : Outcome → ℕ → ℕ → Type 0
@@ -49,79 +62,95 @@ told_goes : (text : Bytes) (x : Reading Listing) (r : Count) (w : List ℕ) → 
 told_goes text (refused k q) r w e t z = absurd (let y : ⊥ = omega (arith, t.0, t.2) in y)
 told_goes text (accepted s) r w e t z = (s.program, program_of text s e)
 
+-- The answer of a call that reads, by what was read.
+abbrev read_in : {T : Type 0} → Result T Refusal → Answer
+read_in r = record { number = number_in r; place = place_in r }
+
 succeeded : (k q : ℕ) → k ≡ 0 → q ≡ 0 → Numbered success k q
 succeeded k q e d = record { number_is = e; place_is = d }
 
-old_numbered : (old : Bytes) (r : Count) (w : List ℕ) → ReadInto old r w → Numbered (read_old_answer old) r.number r.place
+old_numbered : (old : Bytes) (r : Result ProgramCounts Refusal) (w : List ℕ) → ReadInto old (seen r) w → Answered (read_old_answer old) (read_in r)
 unfolding read_old_answer
-old_numbered old r w h = told_program old (read_listing old) r w refl h.told (λ p. success) (λ p e d q. succeeded r.number r.place e d)
+old_numbered old (Ok c) w h = told_program old (read_listing old) (seen (Ok c)) w refl h.told (λ p. success) (λ p e d q. succeeded 0 0 e d)
+old_numbered old (Err f) w h = told_program old (read_listing old) (seen (Err f)) w refl h.told (λ p. success) (λ p e d q. succeeded (fault_number f.fault) f.place e d)
 
-new_stopped : (old new : Bytes) (r : Count) (w : List ℕ) → ReadInto old r w → (r.number ≡ 0 → ⊥) → Numbered (read_new_answer old new) r.number r.place
-unfolding read_new_answer
-new_stopped old new r w h z = told_program old (read_listing old) r w refl h.told (λ p. outcome (read_program new) (λ q. success)) (λ p e d q. absurd (z e))
+pub old_packs : (old : Bytes) (r : Result ProgramCounts Refusal) (w : List ℕ) (a : Result ℕ Refusal) (x : ℕ) → ReadInto old (seen r) w → told a ≡ read_in r
+    → x ≡ packing (told a).number (told a).place → x ≡ packed (read_old_answer old)
+old_packs old r w a x h t e =
+    e ∙ packs (read_old_answer old) (told a) (plain_answers old [] []).of_old (subst (λ (y : Answer). Answered (read_old_answer old) y) (sym t) (old_numbered old r w h))
 
-new_numbered : (old new : Bytes) (o r : Count) (w w' : List ℕ) → ReadInto old o w → o.number ≡ 0 → ReadInto new r w' → Numbered (read_new_answer old new) r.number r.place
-unfolding read_new_answer
-new_numbered old new o r w w' h z n =
-    let p = told_goes old (read_listing old) o w refl h.told z in
-    answered_as (outcome_goes (read_program old) (λ q. outcome (read_program new) (λ q. success)) p.0 p.1)
-    (told_program new (read_listing new) r w' refl n.told (λ q. success) (λ p e d q. succeeded r.number r.place e d))
+-- ---- two programs
 
-pub old_packs : (old : Bytes) (r : Count) (w : List ℕ) (x : ℕ) → ReadInto old r w → x ≡ packing r.number r.place → x ≡ packed (read_old_answer old)
-old_packs old r w x h e = e ∙ packs (read_old_answer old) _ (plain_answers old [] []).of_old (old_numbered old r w h)
+module _ (old new : Bytes) where
+  stop_old : (f : Refusal) (w : List ℕ) → ReadInto old (seen (Err f)) w → Answered (read_new_answer old new) (told (Err f))
+  unfolding read_new_answer
+  stop_old f w h =
+      told_program old (read_listing old) (seen (Err f)) w refl h.told (λ p. outcome (read_program new) (λ q. success))
+      (λ p e d q. absurd (let z : ⊥ = omega (arith, e, fault_some f.fault) in z))
 
-pub new_stop_packs : (old new : Bytes) (r : Count) (w : List ℕ) (x : ℕ) → ReadInto old r w → (r.number ≡ 0 → ⊥) → x ≡ packing r.number r.place → x ≡ packed (read_new_answer old new)
-new_stop_packs old new r w x h z e = e ∙ packs (read_new_answer old new) _ (plain_answers old new []).of_new (new_stopped old new r w h z)
+  pub new_stop_old : (f : Refusal) (w : List ℕ) (a : Result ℕ Refusal) → ReadInto old (seen (Err f)) w → a ≡ Err f → Answered (read_new_answer old new) (told a)
+  new_stop_old f w a h e = subst (λ (x : Result ℕ Refusal). Answered (read_new_answer old new) (told x)) (sym e) (stop_old f w h)
 
-pub new_packs : (old new : Bytes) (o r : Count) (w w' : List ℕ) (x : ℕ) → ReadInto old o w → o.number ≡ 0 → ReadInto new r w' → x ≡ packing r.number r.place → x ≡ packed (read_new_answer old new)
-new_packs old new o r w w' x h z n e = e ∙ packs (read_new_answer old new) _ (plain_answers old new []).of_new (new_numbered old new o r w w' h z n)
+  module _ (c : ProgramCounts) (w : List ℕ) (h : ReadInto old (seen (Ok c)) w) where
+    past_old : (r : Answer) → Answered (outcome (read_program new) (λ q. success)) r → Answered (read_new_answer old new) r
+    unfolding read_new_answer
+    past_old r a =
+        let p = told_goes old (read_listing old) (seen (Ok c)) w refl h.told refl in
+        answered_as (outcome_goes (read_program old) (λ q. outcome (read_program new) (λ q. success)) p.0 p.1) a
+
+    pub new_stop_new : (f : Refusal) (w' : List ℕ) (a : Result ℕ Refusal) → ReadInto new (seen (Err f)) w' → a ≡ Err f → Answered (read_new_answer old new) (told a)
+    new_stop_new f w' a h' e = subst (λ (x : Result ℕ Refusal). Answered (read_new_answer old new) (told x)) (sym e) (past_old (told (Err f)) (told_program new (read_listing new) (seen (Err f)) w' refl h'.told (λ q. success) (λ p e d q. succeeded (fault_number f.fault) f.place e d)))
+
+    pub new_read : (d : ProgramCounts) (w' : List ℕ) → ReadInto new (seen (Ok d)) w' → Answered (read_new_answer old new) (told (Ok 0))
+    new_read d w' h' = past_old (told (Ok 0)) (told_program new (read_listing new) (seen (Ok d)) w' refl h'.told (λ q. success) (λ p e d q. succeeded 0 0 e d))
+
+  pub new_packs : (a : Result ℕ Refusal) (x : ℕ) → Answered (read_new_answer old new) (told a) → x ≡ packing (told a).number (told a).place → x ≡ packed (read_new_answer old new)
+  new_packs a x h e = e ∙ packs (read_new_answer old new) (told a) (plain_answers old new []).of_new h
 
 -- ---- whole jobs
 
-module _ (old ow new nw tt tests rows : List ℕ) (had : Counts) (j : JobRead old ow new nw tt tests rows had) where
-  stops : (x : Reading Given) → JobTold x old ow new nw tt tests rows had → (had.number ≡ 0 → ⊥) → x ≡ refused had.number had.place
-  stops (refused k q) t z = ap₂ refused (sym t.0) (sym t.1)
-  stops (accepted g) t z = absurd (z t.0)
+-- The counts of a job that was read, with those of the tests in memory.
+abbrev counts_with : Counts → ℕ → Counts
+counts_with c n = record { old_nodes = c.old_nodes; old_edges = c.old_edges; new_nodes = c.new_nodes; new_edges = c.new_edges; tests = n }
 
-  goes : (x : Reading Given) → JobTold x old ow new nw tt tests rows had → had.number ≡ 0
-      → (g : Given) × (x ≡ accepted g) × Ready (memory old ow (links_of ow)) (memory new nw (links_of nw)) tt tests rows had g
-  goes (refused k q) t z = absurd (let y : ⊥ = omega (arith, t.0, t.2) in y)
-  goes (accepted g) t z = (g, refl, t.2)
-
-  tests_at : (x : Reading Given) → JobTold x old ow new nw tt tests rows had → Numbered (outcome x (λ g. success)) had.number had.place
+module _ (old ow new nw tt tests rows : List ℕ) where
+  tests_at : (x : Reading Given) (r : Result Counts Refusal) → JobTold x old ow new nw tt tests rows r → Answered (outcome x (λ g. success)) (read_in r)
   unfolding outcome
-  tests_at (refused k q) t = record { number_is = t.0; place_is = t.1 }
-  tests_at (accepted g) t = succeeded had.number had.place t.0 t.1
+  tests_at (refused k q) r t = record { number_is = t.0; place_is = t.1 }
+  tests_at (accepted g) r t = succeeded (number_in r) (place_in r) (ap (λ (y : Result Counts Refusal). number_in y) t.1) (ap (λ (y : Result Counts Refusal). place_in y) t.1)
 
-  tests_numbered : Numbered (read_tests_answer old new tt) had.number had.place
+  tests_numbered : (r : Result Counts Refusal) → JobRead old ow new nw tt tests rows r → Answered (read_tests_answer old new tt) (read_in r)
   unfolding read_tests_answer
-  tests_numbered = tests_at (read_job old new tt) j.told
+  tests_numbered r j = tests_at (read_job old new tt) r j.told
 
-  pub tests_packs : (x : ℕ) → x ≡ packing had.number had.place → x ≡ packed (read_tests_answer old new tt)
-  tests_packs x e = e ∙ packs (read_tests_answer old new tt) _ (plain_answers old new tt).of_tests tests_numbered
+  pub tests_packs : (r : Result Counts Refusal) (a : Result ℕ Refusal) (x : ℕ) → JobRead old ow new nw tt tests rows r → told a ≡ read_in r
+      → x ≡ packing (told a).number (told a).place → x ≡ packed (read_tests_answer old new tt)
+  tests_packs r a x j t e =
+      e ∙ packs (read_tests_answer old new tt) (told a) (plain_answers old new tt).of_tests (subst (λ (y : Answer). Answered (read_tests_answer old new tt) y) (sym t) (tests_numbered r j))
 
-  -- A job that is refused, and one that goes on with f.
-  job_stop : (f : Given → Outcome) (out : Bytes) → (had.number ≡ 0 → ⊥) → Told (outcome (read_job old new tt) f) (record { number = had.number; place = had.place }) out out
-  job_stop f out z =
-      told_as (outcome_stops (read_job old new tt) f had.number had.place (stops (read_job old new tt) j.told z)) (refusal_told had.number had.place out)
-
-  job_go : (f : Given → Outcome) (r : Answer) (out out' : Bytes) → had.number ≡ 0
-      → ((g : Given) → Ready (memory old ow (links_of ow)) (memory new nw (links_of nw)) tt tests rows had g → Told (f g) r out out') → Told (outcome (read_job old new tt) f) r out out'
-  job_go f r out out' z k =
-      let a = goes (read_job old new tt) j.told z in
-      told_as (outcome_goes (read_job old new tt) f a.0 a.1) (k a.0 a.2)
-
-  pub whole_stop : (q : Asked) (input out : Bytes) (r : Answer) → (had.number ≡ 0 → ⊥) → r ≡ refusal_of had → Told (answering q old new tt input (length out)) r out out
+  -- A job that is refused, and one that goes on.
+  stop : (e : Refusal) → JobRead old ow new nw tt tests rows (Err e) → (q : Asked) (input out : Bytes) → Told (answering q old new tt input (length out)) (told (Err e)) out out
   unfolding answering
-  whole_stop q input out r z e = subst (λ (x : Answer). Told (answering q old new tt input (length out)) x out out) (sym e) (job_stop _ out z)
+  stop e j q input out =
+      told_as (outcome_stops (read_job old new tt) _ (fault_number e.fault) e.place (job_stops old ow new nw tt tests rows e j)) (refusal_told (fault_number e.fault) e.place out)
 
-  pub whole_goes : (q : Asked) (input ol nl w w' out out' : List ℕ) (r : Answer) → had.number ≡ 0 → ol ≡ links_of ow → nl ≡ links_of nw
-      → Done w w' out out' (Served q (memory old ow ol) (memory new nw nl) tt tests rows had input out r out') → Told (answering q old new tt input (length out)) r out out'
+  pub whole_stop : (e : Refusal) (a : Result ℕ Refusal) → JobRead old ow new nw tt tests rows (Err e) → a ≡ Err e → (q : Asked) (input out : Bytes) → Told (answering q old new tt input (length out)) (told a) out out
+  whole_stop e a j is q input out = subst (λ (x : Result ℕ Refusal). Told (answering q old new tt input (length out)) (told x) out out) (sym is) (stop e j q input out)
+
+  pub whole_goes : (c : Counts) → JobRead old ow new nw tt tests rows (Ok c) → (ol nl : List ℕ) → ol ≡ links_of ow → nl ≡ links_of nw
+      → (v v' : Memory) → v ≡ memory old ow ol → v' ≡ memory new nw nl → (t : Tests) → t ≡ suite_of tt tests rows c.tests → (q : Asked) (input w w' out out' : List ℕ) (r : Answer)
+      → Done w w' out out' (Served q v v' t.text t.names t.rows (record { old_nodes = c.old_nodes; old_edges = c.old_edges; new_nodes = c.new_nodes; new_edges = c.new_edges; tests = t.count }) input out r out')
+      → Told (answering q old new tt input (length out)) r out out'
   unfolding answering Served
-  whole_goes q input ol nl w w' out out' r z eo en d =
-      job_go _ r out out' z (λ g y. d.claim g
-      (subst (λ (a : List ℕ). Ready (memory old ow a) (memory new nw nl) tt tests rows had g) (sym eo)
-      (subst (λ (a : List ℕ). Ready (memory old ow (links_of ow)) (memory new nw a) tt tests rows had g) (sym en) y)))
+  whole_goes c j ol nl eo en v v' ev ev' t et q input w w' out out' r d =
+      let a = job_goes old ow new nw tt tests rows c j in
+      let e : v ≡ memory old ow (links_of ow) = ev ∙ ap (memory old ow) eo in
+      let e' : v' ≡ memory new nw (links_of nw) = ev' ∙ ap (memory new nw) en in
+      told_as (outcome_goes (read_job old new tt) _ a.0 a.1)
+      (d.claim a.0
+      (subst (λ (m : Memory). Ready m v' t.text t.names t.rows (counts_with c t.count) a.0) (sym e)
+      (subst (λ (m : Memory). Ready (memory old ow (links_of ow)) m t.text t.names t.rows (counts_with c t.count) a.0) (sym e')
+      (subst (λ (u : Tests). Ready (memory old ow (links_of ow)) (memory new nw (links_of nw)) u.text u.names u.rows (counts_with c u.count) a.0) (sym et) a.2))))
 
 -- ---- packed answers of requests
 
@@ -154,4 +183,15 @@ module _ (old new tt input : Bytes) (a : Answer) (out out' : Bytes) where
   unfolding answering serving asked
   probes_packs r t e = told_packs write_probes r t e
 
-pub ruleset all = (old_packs, new_stop_packs, new_packs, tests_packs, whole_stop, whole_goes, sheet_packs, record_packs, check_packs, program_packs, probes_packs)
+-- ---- the lent job
+
+-- Reading a program over lent memory, with the job that was stored.
+pub old_left : (j : Job) (text : Bytes) (n n' : List Node) (l l' w v w' : List ℕ) (r : Reply) (x : ℕ) → OldTaken j (length n) text r l l' (length w) v → n' ≡ sets n 0 (nodes_of v r.nodes) → w' ≡ replicate (length v) 0
+    → length v ≡ length w → x ≡ packing r.number r.place → (k : Job) → k ≡ r.job → ReadOld j text n l w x k n' l' w'
+old_left j text n n' l l' w v w' r x t en ew e ex k ek = subst (λ (i : Job). ReadOld j text n l w x i n' l' w') (sym ek) (read_old_is j text n n' l l' w v w' r x t en ew e ex)
+
+pub new_left : (j : Job) (old : Bytes) (ns : List Node) (ol : List ℕ) (text : Bytes) (n n' : List Node) (l l' w w₁ v w' : List ℕ) (r : Reply) (x : ℕ) → w₁ ≡ sets w 0 (flat (take 512 ns)) → length w₁ ≡ length w
+    → NewTaken j (numbers (length ns) old (old_part w₁) ol) (length n) text r l l' (length w₁) v → n' ≡ sets n 0 (nodes_of v r.nodes) → w' ≡ replicate (length v) 0 → length v ≡ length w₁
+    → x ≡ packing r.number r.place → (k : Job) → k ≡ r.job → ReadNew j (lent old ns ol) text n l w x k n' l' w'
+new_left j old ns ol text n n' l l' w w₁ v w' r x e₁ q t en ew e ex k ek =
+    subst (λ (i : Job). ReadNew j (lent old ns ol) text n l w x i n' l' w') (sym ek) (read_new_is j old ns ol text n n' l l' w w₁ v w' r x e₁ q t en ew e ex)

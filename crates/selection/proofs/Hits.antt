@@ -2,13 +2,13 @@
 use mathlib.Core.Path.{◌≡◌, sym, ap, ap₂, ◌∙◌}
 use mathlib.Core.Bool.{Bool, true}
 use mathlib.Core.List.{List}
-use Prim.Native.Nat.{ℕ, suc, ◌-◌, ◌≤◌, ◌<◌}
+use Prim.Native.Nat.{ℕ, suc, ◌≤◌, ◌<◌}
 use native.Mathlib.Omega.{arith}
 use lib.Dec.{eqb, ltb}
 use borrow.Author.Tests.{eq-eqb, eqb-true}
 use Rattle.laws.specs.Tests.{◌and◌, any, listed}
 use Rattle.laws.specs.TestLaws.{and_both, and_left, and_right, any_at, any_of_lem, eqb_self, same_test, yes_and}
-use Rattle.laws.specs.Chain.{latest}
+use Rattle.laws.specs.Chain.{Chained, Left, latest}
 use Rattle.laws.specs.Fold.{Adding, Folded, adds_others, fold_adds, fold_end, fold_start, fold_step, passing, passing_at, passing_chain, passing_of}
 use Rattle.rules.specs.Graph.{Program, edge_count, source_at}
 use Rattle.rules.specs.Closing.{pairs}
@@ -16,14 +16,23 @@ use Rattle.rules.specs.ProgramFile.{Listing}
 use Rattle.pairset.specs.Store.{last_pair, new_at, old_at, pair_before, pairs_in}
 use Rattle.pairset.specs.StoreLaws.{walked}
 use Rattle.selection.specs.Compared.{Compared, JoinsBefore, JoinsDown, hit_at, hit_below, hits_any, met_at, pair_there}
-use Rattle.selection.proofs.Dangers.{hit_at_lem}
+use Rattle.selection.proofs.Dangers.{hit_at_lem, less_one}
 
 -- A pair of the table, by what the code holds of it.
 pub pair_at : {on ol nn nl w : List ℕ} {c : ℕ} {o p : Listing} → Compared on ol nn nl w c o p → (n m k : ℕ) → k < c → n ≡ old_at w k → m ≡ new_at w k → listed (pairs_in w c) n m ≡ true
 pair_at {w = w} {c = c} h n m k l a b = ap₂ (listed (pairs_in w c)) a b ∙ pair_there w c k l
 
-pub hit_less : (ol nl w : List ℕ) (e f x next : ℕ) (met : Bool) → 0 < f → x ≡ f - 1 → JoinsBefore ol nl w e x met next → next < f
-hit_less ol nl w e f x next met pos ex j = omega (arith, j.below)
+-- A walk at the place of an item: it has the key; and one step further.
+pub owner_at : {X : Type 0} {key : ℕ → ℕ} {a c : ℕ} {total : X} {rest : ℕ → X} (f : ℕ) → Left key a c total rest (suc f) → key f ≡ a
+owner_at {key = key} f w = ap key (sym (less_one f)) ∙ w.owner (omega arith)
+
+module _ {X : Type 0} {key : ℕ → ℕ} {a n c : ℕ} {tops links : ℕ → ℕ} (g : ℕ → X → X) (others : (k : ℕ) (x : X) → (key k ≡ a → ⊥) → g k x ≡ x) (ch : Chained key n c tops links) (an : a < n) where
+  pub step_at : (start now now' : X) (f next : ℕ) → Folded key a c g start now (suc f) → now' ≡ g f now → next ≡ links f → Folded key a c g start now' next
+  step_at start now now' f next w e q =
+      fold_step g others ch an start now now' (suc f) next w (omega arith) (e ∙ ap (λ (i : ℕ). g i now) (sym (less_one f))) (q ∙ ap links (sym (less_one f)))
+
+pub joins_le : (ol nl w : List ℕ) (e f next : ℕ) (met : Bool) → JoinsBefore ol nl w e f met next → next ≤ f
+joins_le ol nl w e f next met j = j.below
 
 module _ {on ol nn nl w : List ℕ} {c : ℕ} {o p : Listing} (h : Compared on ol nn nl w c o p) (e : ℕ) (met : Bool) where
   abbrev old : Program
@@ -37,10 +46,10 @@ module _ {on ol nn nl w : List ℕ} {c : ℕ} {o p : Listing} (h : Compared on o
   hit m x = hit_at old new (pairs_in w c) met e m x
 
   -- A walk along such edges, at f: the next one.
-  pub hit_next : (m f x next : ℕ) → e < edge_count old → listed (pairs_in w c) (source_at old e) m ≡ true → x ≡ f - 1 → passing (hit m) (f - 1) ≡ 0 → JoinsBefore ol nl w e x met next
-      → next ≡ latest (passing (hit m)) (passing (hit m) (f - 1)) (f - 1)
+  pub hit_next : (m f next : ℕ) → e < edge_count old → listed (pairs_in w c) (source_at old e) m ≡ true → passing (hit m) f ≡ 0 → JoinsBefore ol nl w e f met next
+      → next ≡ latest (passing (hit m)) (passing (hit m) f) f
   unfolding JoinsDown
-  hit_next m f x next i l ex q j = j.joins on nn o p c h i m l (ap (hit m) ex ∙ passing_at (hit m) (f - 1) q) ∙ ap₂ (λ (a : ℕ) (b : ℕ). latest (passing (hit m)) a b) (sym q) ex
+  hit_next m f next i l q j = j.joins on nn o p c h i m l (passing_at (hit m) f q) ∙ ap (λ (a : ℕ). latest (passing (hit m)) a f) (sym q)
 
   module _ {X : Type 0} (add : X → Bool → X) (ad : Adding add) (x : ℕ) where
     -- ---- along the edges of the new node m
@@ -58,12 +67,11 @@ module _ {on ol nn nl w : List ℕ} {c : ℕ} {o p : Listing} (h : Compared on o
       pub edges_start : (start : X) (place : ℕ) → place ≡ hit_below old new (pairs_in w c) met e m (edge_count new) → EdgesLeft start start place
       edges_start start place q = fold_start _ others (passing_chain (hit m) (edge_count new)) (omega arith) start place q
 
-      pub edges_on : (start now now' : X) (place f next : ℕ) → EdgesLeft start now place → e < edge_count old → listed (pairs_in w c) (source_at old e) m ≡ true → 0 < place → f ≡ place - 1
+      pub edges_on : (start now now' : X) (f next : ℕ) → EdgesLeft start now (suc f) → e < edge_count old → listed (pairs_in w c) (source_at old e) m ≡ true
           → now' ≡ add now (eqb f x) → JoinsBefore ol nl w e f met next → EdgesLeft start now' next
-      edges_on start now now' place f next r i l pos d q j =
-          fold_step _ others (passing_chain (hit m) (edge_count new)) (omega arith) start now now' place next r pos
-          (q ∙ ap (add now) (ap (λ (g : ℕ). eqb g x) d ∙ sym (yes_and _ (passing_at (hit m) (place - 1) (r.owner pos)))))
-          (hit_next m place f next i l d (r.owner pos) j)
+      edges_on start now now' f next r i l q j =
+          let own = owner_at f r in
+          step_at _ others (passing_chain (hit m) (edge_count new)) (omega arith) start now now' f next r (q ∙ ap (add now) (sym (yes_and _ (passing_at (hit m) f own)))) (hit_next m f next i l own j)
 
       all_edges : any (edge_count new) is ≡ hit m x
       all_edges =
@@ -71,8 +79,8 @@ module _ {on ol nn nl w : List ℕ} {c : ℕ} {o p : Listing} (h : Compared on o
           (λ t. let r = any_at is (edge_count new) t in ap (hit m) (sym (eqb-true _ _ (and_right _ _ r.2))) ∙ and_left _ _ r.2)
           (λ t. any_of_lem is (edge_count new) x (hit_at_lem old new (pairs_in w c) met e m x t).0 (and_both t (eqb_self x)))
 
-      pub edges_end : (start now : X) (place : ℕ) → EdgesLeft start now place → place ≤ 0 → now ≡ add start (hit m x)
-      edges_end start now place r z = fold_end _ others (edge_count new) start now place r z ∙ fold_adds ad is (edge_count new) start ∙ ap (add start) all_edges
+      pub edges_end : (start now : X) → EdgesLeft start now 0 → now ≡ add start (hit m x)
+      edges_end start now r = fold_end _ others (edge_count new) start now 0 r (omega arith) ∙ fold_adds ad is (edge_count new) start ∙ ap (add start) all_edges
 
     -- ---- along the partners of the node that e leaves
 
@@ -88,12 +96,10 @@ module _ {on ol nn nl w : List ℕ} {c : ℕ} {o p : Listing} (h : Compared on o
     pub pairs_start : (start : X) (n place : ℕ) → n ≡ source_at old e → place ≡ last_pair w n → PairsLeft start start place
     pairs_start start n place s q = fold_start _ others_by (walked h.held.store (suc (source_at old e))) (omega arith) start place (q ∙ ap (last_pair w) s)
 
-    pub pairs_on : (start now now' : X) (place k m next : ℕ) → PairsLeft start now place → 0 < place → k ≡ place - 1 → m ≡ new_at w k → now' ≡ add now (hit m x) → next ≡ pair_before w k
-        → PairsLeft start now' next
-    pairs_on start now now' place k m next r pos d em q en =
-        fold_step _ others_by (walked h.held.store (suc (source_at old e))) (omega arith) start now now' place next r pos
-        (q ∙ ap (add now) (ap (λ (v : ℕ). hit v x) (em ∙ ap (new_at w) d) ∙ sym (yes_and _ (eq-eqb _ _ (r.owner pos)))))
-        (en ∙ ap (pair_before w) d)
+    pub pairs_on : (start now now' : X) (k m next : ℕ) → PairsLeft start now (suc k) → m ≡ new_at w k → now' ≡ add now (hit m x) → next ≡ pair_before w k → PairsLeft start now' next
+    pairs_on start now now' k m next r em q en =
+        step_at _ others_by (walked h.held.store (suc (source_at old e))) (omega arith) start now now' k next r
+        (q ∙ ap (add now) (ap (λ (v : ℕ). hit v x) em ∙ sym (yes_and _ (eq-eqb _ _ (owner_at k r))))) en
 
-    pub pairs_end : (start now : X) (place : ℕ) → PairsLeft start now place → place ≤ 0 → now ≡ add start (ltb x (edge_count new) and met_at old new (pairs old new) met e x)
-    pairs_end start now place r z = fold_end _ others_by c start now place r z ∙ fold_adds ad by c start ∙ ap (add start) (hits_any h e met x)
+    pub pairs_end : (start now : X) → PairsLeft start now 0 → now ≡ add start (ltb x (edge_count new) and met_at old new (pairs old new) met e x)
+    pairs_end start now r = fold_end _ others_by c start now 0 r (omega arith) ∙ fold_adds ad by c start ∙ ap (add start) (hits_any h e met x)

@@ -1,12 +1,14 @@
 -- The turns and the returns of the functions that find marks.
 use mathlib.Core.Path.{◌≡◌, refl, sym, ap, ap₂, ◌∙◌}
 use mathlib.Core.Bool.{Bool, true, false}
+use mathlib.Core.Logic.{◌⊎◌, ⊎_elim}
+use Rattle.std.specs.Prelude.{min, ◌++◌}
 use mathlib.Core.List.{List}
 use Prim.Native.Nat.{ℕ, suc, ◌+◌, ◌-◌, ◌≤◌, ◌<◌}
 use native.Mathlib.Numerals.{add-one}
 use native.Mathlib.Omega.{arith}
 use lib.Dec.{eqb, leb, ltb}
-use lib.ListN.{get_or, length, set, replicate, length-set, length-replicate, get_or-replicate, get_or-eq_default}
+use lib.ListN.{get_or, length, set, take, drop, length-take, replicate, length-set, length-replicate, get_or-replicate, get_or-eq_default}
 use lib.Seq.{sets, set_out, length-sets, get_or-set_same, get_or-set_other}
 use borrow.Author.Tests.{eqb-true, eq-eqb, ne_eqb, le-leb, lt-leb, lt-ltb, le-ltb, ltb-true}
 use Rattle.laws.specs.Tests.{◌and◌, ◌⇒◌, any, choose, every, first, found, has, listed}
@@ -14,7 +16,8 @@ use Rattle.laws.specs.Bits.{bit_in}
 use Rattle.laws.specs.TestLaws.{and_both, and_ends, and_left, and_right, any_at, both_ways, every_at, fails, implied, yes_and}
 use Rattle.laws.specs.Lists.{choose_yes, choose_no}
 use Rattle.laws.specs.Counting.{any_agree}
-use Rattle.laws.specs.Slices.{below_or, same_or, sets_more, sets_out, get_d_sets_after, get_d_sets_in}
+use Rattle.std.proofs.lemmas.List.{replicate-append-replicate}
+use Rattle.laws.specs.Slices.{below_or, same_or, sets_append, sets_front, sets_out, get_d_sets_after, get_d_sets_in}
 use Rattle.laws.specs.Fold.{Adding}
 use Rattle.rules.specs.Graph.{Program, edge_count, source_at}
 use Rattle.rules.specs.Closing.{Coverage, after_dangers, carries as carries_of, carries_only, dangers, endangered, holds, joined, mark, meets, pairs, probes}
@@ -26,28 +29,18 @@ use Rattle.coverage.specs.Rows.{Row, edge_bit}
 use Rattle.versions.specs.Found.{found_at, found_none}
 use Rattle.laws.specs.Those.{any_more}
 use Rattle.selection.specs.Compared.{Compared, Joins, JoinsBefore, met_joined}
-use Rattle.selection.specs.Marks.{AllCarried, AllOpened, AllRaised, Carried, Carries, CarriesTo, Finds, MarksFound, Only, Opened, Opens, OpensTo, RaisedAt, Raises, RaisesAt, SetOpened, carried, carries_only_to, carries_to, lifted, marked_one, opens_to, raised, sole}
+use Rattle.selection.specs.Marks.{AllCarried, AllOpened, AllRaised, Carried, Carries, CarriesTo, Finds, MarksFound, Only, Opened, Opens, OpensTo, RaisedAt, Raises, RaisesAt, SetOpened, carried, carries_only_to, carries_to, lifted, opens_to, raised, sole}
 use Rattle.selection.specs.MarkLaws.{carried_lifted, carried_more, carried_none, carried_only, lifted_more, lifted_none, mark_left, mark_open, marks_by}
 use Rattle.selection.proofs.Dangers.{source_of}
-use Rattle.selection.proofs.Hits.{EdgesLeft, PairsLeft, edges_end, edges_on, edges_start, pair_at, pairs_end, pairs_on, pairs_start}
+use Rattle.selection.proofs.Hits.{EdgesLeft, PairsLeft, edges_end, edges_on, edges_start, owner_at, pair_at, pairs_end, pairs_on, pairs_start}
 
 -- ---- `raise`, `mark_one`
 
-module _ (marks : List ℕ) (f : ℕ) where
-  pub one_none : f ≡ 0 → marks ≡ marked_one marks f
-  unfolding marked_one
-  one_none e = sym (choose_no _ _ (le-ltb 0 f (omega arith)))
-
-  module _ (x : ℕ) (d : f ≡ 0 → ⊥) (ex : x ≡ f - 1) where
-    pub one_this : set marks x 49 ≡ marked_one marks f
-    unfolding marked_one
-    one_this = ap (λ (i : ℕ). set marks i 49) ex ∙ sym (choose_yes _ _ (lt-ltb 0 f (omega arith)))
-
-    pub one_past : length marks ≤ x → marks ≡ marked_one marks f
-    one_past l = sym (set_out marks x 49 l) ∙ one_this
+pub one_past : (marks : List ℕ) (x : ℕ) → length marks ≤ x → marks ≡ set marks x 49
+one_past marks x l = sym (set_out marks x 49 l)
 
 module _ (marks : List ℕ) (x most : ℕ) where
-  pub raise_past : length marks ≤ x → marks ≡ raised marks x most
+  raise_past : length marks ≤ x → marks ≡ raised marks x most
   unfolding raised choose
   raise_past l = go (leb (get_or marks x 0) most)
     where
@@ -55,9 +48,12 @@ module _ (marks : List ℕ) (x most : ℕ) where
       go true = sym (set_out marks x 63 l)
       go false = refl
 
-  pub raise_other : most < get_or marks x 0 → marks ≡ raised marks x most
+  raise_other : most < get_or marks x 0 → marks ≡ raised marks x most
   unfolding raised
   raise_other n = sym (choose_no _ _ (lt-leb _ _ n))
+
+  pub raise_not : (x < length marks) × (most < get_or marks x 0) ⊎ (length marks ≤ x) → marks ≡ raised marks x most
+  raise_not = ⊎_elim (λ u. raise_other u.1) raise_past
 
   pub raise_this : get_or marks x 0 ≤ most → set marks x 63 ≡ raised marks x most
   unfolding raised
@@ -109,20 +105,20 @@ module _ (on ol nn nl w : List ℕ) (e n m most : ℕ) (marks : List ℕ) where
   unfolding RaisesFrom Joins
   at_start place j = record { from = λ o p c h i en l x b. edges_start h e true (lifted most) (lifting most) x m _ place (j o p c h i en l); size = refl }
 
-  module _ (marks₁ : List ℕ) (place : ℕ) (inv : RaisedFrom on ol nn nl w e n m most marks marks₁ place) where
-    pub at_end : place ≤ 0 → RaisedAt on ol nn nl w e n m most marks marks₁
-    unfolding RaisesFrom RaisesAt
-    at_end z = record { raises = λ o p c h i en l x b. edges_end h e true (lifted most) (lifting most) x m _ _ place (inv.from o p c h i en l x b) z; size = inv.size }
+  pub at_end : (marks₁ : List ℕ) → RaisedFrom on ol nn nl w e n m most marks marks₁ 0 → RaisedAt on ol nn nl w e n m most marks marks₁
+  unfolding RaisesFrom RaisesAt
+  at_end marks₁ inv = record { raises = λ o p c h i en l x b. edges_end h e true (lifted most) (lifting most) x m _ _ (inv.from o p c h i en l x b); size = inv.size }
 
-    pub at_on : (f next : ℕ) (marks₂ : List ℕ) → 0 < place → f ≡ place - 1 → marks₂ ≡ raised marks₁ f most → JoinsBefore ol nl w e f true next → RaisedFrom on ol nn nl w e n m most marks marks₂ next
-    unfolding RaisesFrom
-    at_on f next marks₂ pos d er j =
-        record {
-          from = λ o p c h i en l x b.
-              edges_on h e true (lifted most) (lifting most) x m _ _ _ place f next (inv.from o p c h i en l x b) i (rw (← en) l) pos d
-              (ap (λ (v : List ℕ). get_or v x 0) er ∙ raised_at marks₁ f most x (omega (arith, inv.size))) j;
-          size = ap length er ∙ raised_size marks₁ f most ∙ inv.size;
-        }
+  pub at_on : (marks₁ : List ℕ) (f next : ℕ) (marks₂ : List ℕ) → RaisedFrom on ol nn nl w e n m most marks marks₁ (suc f) → marks₂ ≡ raised marks₁ f most → JoinsBefore ol nl w e f true next
+      → RaisedFrom on ol nn nl w e n m most marks marks₂ next
+  unfolding RaisesFrom
+  at_on marks₁ f next marks₂ inv er j =
+      record {
+        from = λ o p c h i en l x b.
+            edges_on h e true (lifted most) (lifting most) x m _ _ _ f next (inv.from o p c h i en l x b) i (rw (← en) l)
+            (ap (λ (v : List ℕ). get_or v x 0) er ∙ raised_at marks₁ f most x (omega (arith, inv.size))) j;
+        size = ap length er ∙ raised_size marks₁ f most ∙ inv.size;
+      }
 
 -- ---- `raise_all`
 
@@ -144,34 +140,35 @@ all_start on ol nn nl w e most n place marks en ep =
       size = refl;
     }
 
-module _ (on ol nn nl w : List ℕ) (e most n : ℕ) (marks marks₁ : List ℕ) (place : ℕ) (inv : RaisedTo on ol nn nl w e most n marks marks₁ place) where
-  pub all_end : place ≤ 0 → AllRaised on ol nn nl w e most marks marks₁
+module _ (on ol nn nl w : List ℕ) (e most n : ℕ) (marks marks₁ : List ℕ) where
+  pub all_end : RaisedTo on ol nn nl w e most n marks marks₁ 0 → AllRaised on ol nn nl w e most marks marks₁
   unfolding RaisesTo Raises
-  all_end z =
+  all_end inv =
       record {
         raises = λ o p c h i x l.
-            pairs_end h e true (lifted most) (lifting most) x _ _ place ((inv.to o p c h i).1 x l) z
+            pairs_end h e true (lifted most) (lifting most) x _ _ ((inv.to o p c h i).1 x l)
             ∙ ap (λ (t : Bool). lifted most (get_or marks x 0) (ltb x (edge_count p.program) and t)) (met_joined o.program p.program _ e x);
         size = inv.size;
       }
 
-  pub all_on : (k m next : ℕ) (marks₂ : List ℕ) → 0 < place → k ≡ place - 1 → m ≡ new_at w k → RaisedAt on ol nn nl w e n m most marks₁ marks₂ → next ≡ pair_before w k
+  pub all_on : (k m next : ℕ) (marks₂ : List ℕ) → RaisedTo on ol nn nl w e most n marks marks₁ (suc k) → m ≡ new_at w k → RaisedAt on ol nn nl w e n m most marks₁ marks₂ → next ≡ pair_before w k
       → RaisedTo on ol nn nl w e most n marks marks₂ next
   unfolding RaisesTo RaisesAt
-  all_on k m next marks₂ pos d em a en =
+  all_on k m next marks₂ inv em a en =
       record {
         to = λ o p c h i.
             let r = inv.to o p c h i in (
               r.0,
               λ x l.
                   let y = r.1 x l in
-                  let there = pair_at h n m k (omega (arith, y.within)) (r.0 ∙ sym (y.owner pos) ∙ ap (old_at w) (sym d)) em in
-                  pairs_on h e true (lifted most) (lifting most) x _ _ _ place k m next y pos d em (a.raises o p c h i r.0 there x (omega (arith, inv.size))) en,
+                  let own : old_at w k ≡ source_at o.program e = owner_at k y in
+                  let there = pair_at h n m k (omega (arith, y.within)) (r.0 ∙ sym own) em in
+                  pairs_on h e true (lifted most) (lifting most) x _ _ _ k m next y em (a.raises o p c h i r.0 there x (omega (arith, inv.size))) en,
             );
         size = a.size ∙ inv.size;
       }
 
-pub ruleset raises = (raise_past, raise_other, raise_this, one_none, one_this, one_past, at_start, at_end, at_on, all_start, all_end, all_on)
+pub ruleset raises = (raise_not, raise_this, one_past, at_start, at_end, at_on, all_start, all_end, all_on)
 
 -- ---- `carry`
 
@@ -201,34 +198,33 @@ module _ (on ol nn nl w rows : List ℕ) (i e : ℕ) (marks : List ℕ) (t : Boo
         size = refl;
       }
 
-  module _ (y : t ≡ true) (f : ℕ) (only : Only on ol nn nl w e f) where
-    pub carry_several : (marks' : List ℕ) → f ≡ 0 → AllRaised on ol nn nl w e 48 marks marks' → Carried on ol nn nl w rows i e marks marks'
+  module _ (y : t ≡ true) where
+    pub carry_several : (marks' : List ℕ) → Only on ol nn nl w e 0 → AllRaised on ol nn nl w e 48 marks marks' → Carried on ol nn nl w rows i e marks marks'
     unfolding Carries Only Raises
-    carry_several marks' z a =
+    carry_several marks' only a =
         record {
           carries = λ o p c coverage h r l x b.
               let k : holds coverage e ≡ true = sym (r.edges e l) ∙ sym et ∙ y in
               let none : carries_only_to o.program p.program coverage x e ≡ false
               = crossed_only o.program p.program coverage x e k
-              ∙ fails _ (λ s. found_none _ _ (sym (only o p c h l) ∙ z) x (ltb-true _ _ (and_left _ _ s)) (and_right _ _ s)) in
+              ∙ fails _ (λ s. found_none _ _ (sym (only o p c h l)) x (ltb-true _ _ (and_left _ _ s)) (and_right _ _ s)) in
               a.raises o p c h l x b ∙ sym (ap₂ (carried (get_or marks x 0)) (crossed_to o.program p.program coverage x e k) none ∙ carried_lifted (get_or marks x 0) _);
           size = a.size;
         }
 
-    pub carry_one : (marks' : List ℕ) → (f ≡ 0 → ⊥) → marks' ≡ marked_one marks f → Carried on ol nn nl w rows i e marks marks'
-    unfolding Carries Only marked_one sole
-    carry_one marks' d em =
-        let is : marks' ≡ set marks (f - 1) 49 = em ∙ choose_yes _ _ (lt-ltb 0 f (omega arith)) in
+    pub carry_one : (f : ℕ) (marks' : List ℕ) → Only on ol nn nl w e (suc f) → marks' ≡ set marks f 49 → Carried on ol nn nl w rows i e marks marks'
+    unfolding Carries Only sole
+    carry_one f marks' only is =
         record {
           carries = λ o p c coverage h r l x b.
               let k : holds coverage e ≡ true = sym (r.edges e l) ∙ sym et ∙ y in
               let J : ℕ → Bool = joined o.program p.program (pairs o.program p.program) e in
-              let q : f ≡ found (first (edge_count p.program) (sole (edge_count p.program) J)) = only o p c h l in
+              let q : suc f ≡ found (first (edge_count p.program) (sole (edge_count p.program) J)) = only o p c h l in
               let g = found_at (sole (edge_count p.program) J) (edge_count p.program) (omega arith) in
-              let s : f - 1 ≡ found (first (edge_count p.program) (sole (edge_count p.program) J)) - 1 = ap (λ (u : ℕ). u - 1) q in
-              let inside : f - 1 < edge_count p.program = rw s g.0 in
-              let this : sole (edge_count p.program) J (f - 1) ≡ true = rw s g.1 in
-              same_or x (f - 1)
+              let s : f ≡ found (first (edge_count p.program) (sole (edge_count p.program) J)) - 1 = omega arith in
+              let inside : f < edge_count p.program = rw s g.0 in
+              let this : sole (edge_count p.program) J f ≡ true = rw s g.1 in
+              same_or x f
               (λ a.
               ap (λ (m : List ℕ). get_or m x 0) is ∙ ap (λ (u : ℕ). get_or (set marks u 49) x 0) (sym a) ∙ get_or-set_same marks x 49 0 b
               ∙ sym (ap (carried (get_or marks x 0) (carries_to o.program p.program coverage x e))
@@ -241,9 +237,9 @@ module _ (on ol nn nl w rows : List ℕ) (i e : ℕ) (marks : List ℕ) (t : Boo
               let none_only : carries_only_to o.program p.program coverage x e ≡ false
               = crossed_only o.program p.program coverage x e k
               ∙ fails _ (λ u. a (eqb-true _ _ (implied _ _ (every_at _ (edge_count p.program) (and_right _ _ this) x (ltb-true _ _ (and_left _ _ u))) (and_left _ _ (and_right _ _ u))))) in
-              ap (λ (m : List ℕ). get_or m x 0) is ∙ get_or-set_other marks (f - 1) x 49 0 a
+              ap (λ (m : List ℕ). get_or m x 0) is ∙ get_or-set_other marks f x 49 0 a
               ∙ sym (ap₂ (carried (get_or marks x 0)) none none_only ∙ carried_none (get_or marks x 0)));
-          size = ap length is ∙ length-set marks (f - 1) 49;
+          size = ap length is ∙ length-set marks f 49;
         }
 
 -- ---- `carry_all`
@@ -368,38 +364,46 @@ module _ (bits : List ℕ) (marks : List ℕ) where
       unfolding choose
       set_other y = next marks₁ refl (λ x d. refl) (λ l. sym (ap (λ (b : Bool). choose b 63 (get_or marks₁ k 0)) (sym et ∙ y)))
 
-    -- At the end of the marks, and at that of the edges.
-    pub set_full : (n : ℕ) → k < n → length marks₁ ≤ k → SetOpened bits n marks marks₁
-    set_full n l m =
+    -- At the end of the marks or at that of the edges.
+    pub set_end : (n : ℕ) → k ≤ min n (length marks) → min n (length marks) ≤ k → SetOpened bits n marks marks₁
+    set_end n a b =
         record {
-          opens = λ x b.
-              inv.opens x b
-              ∙ ap (λ (t : Bool). choose (t and bit_in bits x) 63 (get_or marks x 0)) (lt-ltb x k (omega (arith, inv.size)) ∙ sym (lt-ltb x n (omega (arith, inv.size))));
+          opens = λ x l.
+              inv.opens x l
+              ∙ ap (λ (t : Bool). choose (t and bit_in bits x) 63 (get_or marks x 0))
+              (below_or x k (λ d. lt-ltb x k d ∙ sym (lt-ltb x n (omega arith))) (λ d. le-ltb x k d ∙ sym (le-ltb x n (omega arith))));
           size = inv.size;
         }
 
-    pub set_end : (n : ℕ) → k ≤ n → n ≤ k → SetOpened bits n marks marks₁
-    set_end n a b = let q : k ≡ n = omega arith in rw q at inv
-
-pub ruleset opens = (open_not, open_far, open_near, opens_start, opens_on, opens_end, set_start, set_this, set_other, set_full, set_end)
+pub ruleset opens = (open_not, open_far, open_near, opens_start, opens_on, opens_end, set_start, set_this, set_other, set_end)
 
 -- ---- `fill`
 
-module _ (n b : ℕ) where
-  pub fill_start : (m : List ℕ) → sets m 0 (replicate n b) ≡ sets m 0 (replicate (n - 0) b)
-  fill_start m = let q : n ≡ n - 0 = omega arith in ap (λ (k : ℕ). sets m 0 (replicate k b)) q
+-- What is put over the first numbers, as far as there are any, is put over those.
+pub fill_told : (m x : List ℕ) (n b end : ℕ) → end ≡ min n (length m) → x ≡ replicate (length (take end m)) b → x ++ drop end m ≡ sets m 0 (replicate n b)
+fill_told m x n b end e is =
+    ap (λ (r : List ℕ). r ++ drop end m) (is ∙ ap (λ (k : ℕ). replicate k b) (let z : length (take end m) ≡ end = omega (arith, length-take end m) in z)) ∙ below_or (length m) n many few
+  where
+    long : (k : ℕ) → length (replicate {A = ℕ} k b) ≡ k
+    long k = length-replicate k b
 
-  module _ (m₀ m : List ℕ) (i : ℕ) (inv : sets m₀ 0 (replicate n b) ≡ sets m i (replicate (n - i) b)) where
-    pub fill_on : i < n → sets m₀ 0 (replicate n b) ≡ sets (set m i b) (i + 1) (replicate (n - (i + 1)) b)
-    fill_on l =
-        let q : n - i ≡ suc (n - (i + 1)) = omega arith in
-        inv ∙ ap (λ (k : ℕ). sets m i (replicate k b)) q ∙ sets_more m i b (replicate (n - (i + 1)) b)
+    few : n ≤ length m → replicate end b ++ drop end m ≡ sets m 0 (replicate n b)
+    few l =
+        let q : end ≡ n = omega arith in
+        rw q (sym (sets_front m (replicate n b) (omega (arith, long n)) ∙ ap (λ (k : ℕ). replicate n b ++ drop k m) (long n)))
 
-    pub fill_full : length m ≤ i → m ≡ sets m₀ 0 (replicate n b)
-    fill_full l = sym (inv ∙ sets_out (replicate (n - i) b) m i l)
-
-    pub fill_end : n ≤ i → m ≡ sets m₀ 0 (replicate n b)
-    fill_end l = let q : n - i ≡ 0 = omega arith in sym (inv ∙ ap (λ (k : ℕ). sets m i (replicate k b)) q)
+    many : length m < n → replicate end b ++ drop end m ≡ sets m 0 (replicate n b)
+    many l =
+        let q : end ≡ length m = omega arith in
+        let r : n ≡ length m + (n - length m) = omega arith in
+        let size : length (sets m 0 (replicate (length m) b)) ≡ length m = length-sets m 0 (replicate (length m) b) in
+        let front : sets m 0 (replicate (length m) b) ≡ replicate (length m) b ++ drop (length m) m
+        = sets_front m (replicate (length m) b) (omega (arith, long (length m))) ∙ ap (λ (k : ℕ). replicate (length m) b ++ drop k m) (long (length m)) in
+        rw q
+        (sym front
+        ∙ sym (sets_out (replicate (n - length m) b) (sets m 0 (replicate (length m) b)) (0 + length (replicate (length m) b)) (omega (arith, long (length m), size)))
+        ∙ sets_append m 0 (replicate (length m) b) (replicate (n - length m) b)
+        ∙ ap (sets m 0) (replicate-append-replicate (length m) (n - length m) b ∙ sym (ap (λ (k : ℕ). replicate k b) r)))
 
 -- ---- `find_marks`
 
@@ -501,4 +505,4 @@ module _ (on ol nn nl w rows : List ℕ) (i olds news : ℕ) (marks marks₁ mar
           size = size;
         }
 
-pub ruleset marks = (fill_start, fill_on, fill_full, fill_end, marks_left, marks_open)
+pub ruleset marks = (fill_told, marks_left, marks_open)

@@ -21,6 +21,8 @@ use Rattle.versions.specs.Memory.{InMemory, memory}
 use Rattle.versions.specs.MemoryLaws.{well_formed}
 use Rattle.versions.specs.Opposite.{LastOpposite, opposite_below, side_of}
 use Rattle.versions.specs.PairsHeld.{PairsHeld, goes_on_agree}
+use Rattle.selection.specs.declared.Ends.{Ends}
+use Rattle.selection.specs.declared.Ends.TheVariants.{Met, Parted}
 
 pub record Compared (on ol nn nl w : List ℕ) (c : ℕ) (o p : Listing) : Type 0 where
   pub old_text : Bytes
@@ -38,7 +40,12 @@ partner_below {o = o} {p = p} h n m l = (pairs_inside o.program p.program n m (s
 
 -- ---- an old edge at a pair that may go on
 
--- `same_bool`: both are true, or both are not.
+-- The ends are to be alike, or they are not to be.
+abbrev pub is_met : Ends → Bool
+is_met Met = true
+is_met Parted = false
+
+-- Both are true, or both are not.
 unfoldable pub same_bool : Bool → Bool → Bool
 same_bool true b = b
 same_bool false b = isnt b

@@ -1,7 +1,7 @@
 -- What the functions that find a test's marks leave and answer. While they are found, the mark of a new edge is `0` (48) until an old counterpart is seen to be crossed, then `?` (63),
 -- and `1` (49) once a crossed one has it as its only counterpart. Each claim is for tables that hold two programs, their pairs and the test's row; the marks for others are left
 -- open, their number excepted.
-use Rattle.std.specs.Prelude.{◌≡◌, Bool, true, List, ℕ, suc, ◌-◌, ◌≤◌, ◌<◌, eqb, leb, ltb, get_or, length, set}
+use Rattle.std.specs.Prelude.{◌≡◌, Bool, true, List, ℕ, ◌≤◌, ◌<◌, eqb, leb, ltb, get_or, length, set}
 use Rattle.std.proofs.lemmas.List.Edits.{sets}
 use Rattle.laws.specs.Tests.{◌and◌, ◌⇒◌, any, choose, every, first, found, has, listed}
 use Rattle.laws.specs.Fold.{fold}
@@ -12,22 +12,22 @@ use Rattle.rules.specs.Sheet.{marks_of}
 use Rattle.rules.specs.ProgramFile.{Listing}
 use Rattle.pairset.specs.Store.{pairs_in}
 use Rattle.coverage.specs.Rows.{Row}
+use Rattle.selection.specs.declared.Seen.{Seen}
+use Rattle.selection.specs.declared.Seen.TheVariants.{Nothing, One, Several}
 use Rattle.selection.specs.Compared.{Compared, hit_at}
 use Rattle.selection.specs.Dangers.{SetOf}
 
--- What is seen of the counterparts of an old edge: 0 for none, 1 + the only one, or 2048, above all of the at most 1,024 edges, for several.
-abbrev pub several : ℕ
-several = 2048
-
--- `unite`: what is seen when the edge f - 1 is seen too.
-unfoldable pub united : ℕ → ℕ → ℕ
-united seen f = choose (eqb seen 0) f (choose (eqb seen f) seen several)
+-- `unite`: what is seen of the counterparts of an old edge, nothing, one of them or several, when the edge f is seen too.
+unfoldable pub united : Seen → ℕ → Seen
+united Nothing f = One f
+united (One g) f = choose (eqb g f) (One g) Several
+united Several f = Several
 
 -- `see`: what is seen when the counterparts of the old edge e at its pair with the new node m are seen too, the last of them first.
-unfoldable pub seen_at : Program → Program → List (ℕ × ℕ) → ℕ → ℕ → ℕ → ℕ → ℕ
-seen_at old new M e m f seen = choose (hit_at old new M true e m f) (united seen (suc f)) seen
+unfoldable pub seen_at : Program → Program → List (ℕ × ℕ) → ℕ → ℕ → ℕ → Seen → Seen
+seen_at old new M e m f seen = choose (hit_at old new M true e m f) (united seen f) seen
 
-unfoldable pub Sees : List ℕ → List ℕ → List ℕ → List ℕ → List ℕ → ℕ → ℕ → ℕ → ℕ → ℕ → Type 0
+unfoldable pub Sees : List ℕ → List ℕ → List ℕ → List ℕ → List ℕ → ℕ → ℕ → ℕ → Seen → Seen → Type 0
 Sees on ol nn nl w e n m before r =
     (o p : Listing) (c : ℕ) → Compared on ol nn nl w c o p → e < edge_count o.program → n ≡ source_at o.program e → listed (pairs_in w c) n m ≡ true
     → r ≡ fold (seen_at o.program p.program (pairs_in w c) e m) (edge_count p.program) before
@@ -53,10 +53,6 @@ carried m is only = choose only 49 (lifted 48 m is)
 -- `raise`: the mark of the edge x is raised.
 unfoldable pub raised : List ℕ → ℕ → ℕ → List ℕ
 raised marks x most = choose (leb (get_or marks x 0) most) (set marks x 63) marks
-
--- `mark_one`: the mark of the edge f - 1 becomes `1`.
-unfoldable pub marked_one : List ℕ → ℕ → List ℕ
-marked_one marks f = choose (ltb 0 f) (set marks (f - 1) 49) marks
 
 -- `raise_at`: each mark of a counterpart of the old edge e at its pair with the new node m is raised.
 unfoldable pub RaisesAt : List ℕ → List ℕ → List ℕ → List ℕ → List ℕ → ℕ → ℕ → ℕ → ℕ → List ℕ → List ℕ → Type 0

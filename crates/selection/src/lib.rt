@@ -1,99 +1,117 @@
 // What the pairs of two versions say: the set of the dangerous old edges, and the marks of a test.
-#![tactic(auto)]
+#![tactic(auto, using(crate::proofs::All::all))]
 
-ghost use Rattle.std.specs.Prelude.{◌≡◌, ◌≤◌, replicate};
+ghost use Rattle.std.specs.Prelude.{◌≡◌, ◌≤◌, replicate, set};
 ghost use Rattle.std.proofs.lemmas.List.Edits.{sets};
-ghost use Rattle.selection.specs.Compared.{EndsMeet, Fitting, Joins, JoinsBefore, LastFitting, same_bool};
+ghost use Rattle.laws.specs.Places.{place};
+ghost use Rattle.selection.specs.Compared.{EndsMeet, Fitting, Joins, JoinsBefore, LastFitting, is_met};
 ghost use Rattle.selection.specs.Dangers.{DangersCopied};
-ghost use Rattle.selection.specs.Marks.{AllCarried, AllOpened, AllRaised, Carried, MarksFound, Only, Opened, RaisedAt, Sees, SetOpened, marked_one, raised, united};
+ghost use Rattle.selection.specs.Marks.{AllCarried, AllOpened, AllRaised, Carried, MarksFound, Only, Opened, RaisedAt, Sees, SetOpened, raised, united};
+
+use versions::Program;
 
 // ---- an old edge at a pair
 
-// Whether both are true or both are not.
-fn same_bool(a: bool, b: bool) -> bool
-    ensures { result ≡ same_bool a b }
-{
-    if a {
-        return b;
-    }
-    if b {
-        return false;
-    }
-    true
+// How the ends of two opposite edges stand: they are alike, so that the edges are joined, or they are not, so that the edges part.
+#[derive(Clone, Copy, Debug, PartialEq, Eq)]
+pub enum Ends {
+    Met,
+    Parted,
 }
 
-// Whether the ends of the old edge e and the new edge f are a pair, or, if `met` is false, are not.
-fn ends_meet(ol: &[usize], nl: &[usize], w: &[usize], e: usize, f: usize, met: bool) -> bool
-    ensures { EndsMeet ol.now nl.now w.now e f met result }
+// Whether the ends of the old edge e and the new edge f stand so: they are a pair just where they are alike.
+fn ends_meet(old: &Program, new: &Program, w: &[usize], e: usize, f: usize, ends: Ends) -> bool
+    ensures { EndsMeet old.now.links new.now.links w.now e f (is_met ends) result }
 {
-    let a = versions::target(ol, e);
-    let b = versions::target(nl, f);
-    let paired = pairset::has(w, a, b);
-    same_bool(paired, met)
+    let paired = pairset::has(w, old.target(e), new.target(f));
+    match ends {
+        Ends::Met => paired,
+        Ends::Parted => !paired,
+    }
 }
 
-// 1 + the first edge from the place down, among the edges opposite to the old edge e, with ends that are alike, or, if `met` is false, are not; or 0;
-// where the nodes that they leave are a pair that may go on: then the ends are alike just where they are a pair.
-fn fitting(ol: &[usize], nl: &[usize], w: &[usize], e: usize, from: usize, met: bool) -> usize
-    ensures { Fitting ol.now nl.now w.now e from met result }
+// The first edge from the place down, among the edges opposite to the old edge e, with such ends; where the nodes that they leave are a pair that may go
+// on: then the ends are alike just where they are a pair.
+fn fitting(
+    old: &Program,
+    new: &Program,
+    w: &[usize],
+    e: usize,
+    from: Option<usize>,
+    ends: Ends,
+) -> Option<usize>
+    ensures { Fitting old.now.links new.now.links w.now e (place from) (is_met ends) (place result) }
 {
     let mut place = from;
-    while 0 < place {
-        let f = place - 1;
-        if ends_meet(ol, nl, w, e, f, met) {
+    while let Some(f) = place {
+        if ends_meet(old, new, w, e, f, ends) {
             return place;
         }
-        place = versions::opposite_before(ol, nl, e, f);
+        place = versions::opposite_before(old, new, e, f);
     }
-    0
+    None
 }
 
-// 1 + the last such edge of the new node m, or 0; by the short way where there is one.
-fn last_fitting(ol: &[usize], nl: &[usize], w: &[usize], e: usize, m: usize, met: bool) -> usize
-    ensures { LastFitting ol.now nl.now w.now e m met result }
+// The last such edge of the new node m; by the short way where there is one.
+fn last_fitting(
+    old: &Program,
+    new: &Program,
+    w: &[usize],
+    e: usize,
+    m: usize,
+    ends: Ends,
+) -> Option<usize>
+    ensures { LastFitting old.now.links new.now.links w.now e m (is_met ends) (place result) }
 {
-    let own = versions::sole_opposite(ol, nl, e, m);
-    if own == 0 {
-        let last = versions::last_opposite(ol, nl, e, m);
-        return fitting(ol, nl, w, e, last, met);
+    let own = versions::sole_opposite(old, new, e, m);
+    let Some(f) = own else {
+        let last = versions::last_opposite(old, new, e, m);
+        return fitting(old, new, w, e, last, ends);
+    };
+    if ends_meet(old, new, w, e, f, ends) {
+        own
+    } else {
+        None
     }
-    let f = own - 1;
-    if ends_meet(ol, nl, w, e, f, met) {
-        return own;
-    }
-    0
 }
 
-// For the pair of n, which the old edge e leaves, and m: 1 + the last edge of m that is joined with e, or, if `met` is false, that parts from it: it is
-// opposite to e, and the ends are not alike; or 0. For tables that do not hold two programs and their pairs it is left open.
+// For the pair of n, which the old edge e leaves, and m: the last edge of m that is joined with e, or that parts from it, as `ends` says. For tables that
+// do not hold two programs and their pairs it is left open.
 pub fn joins(
-    on: &[usize],
-    ol: &[usize],
-    nn: &[usize],
-    nl: &[usize],
+    old: &Program,
+    new: &Program,
     w: &[usize],
     e: usize,
     n: usize,
     m: usize,
-    met: bool,
-) -> usize
-    ensures { Joins on.now ol.now nn.now nl.now w.now e n m met result }
+    ends: Ends,
+) -> Option<usize>
+    ensures { Joins old.now.nodes old.now.links new.now.nodes new.now.links w.now e n m (is_met ends) (place result) }
 {
-    if versions::goes_on(on, ol, nn, nl, w, n, m) {
-        return last_fitting(ol, nl, w, e, m, met);
+    if versions::goes_on(old, new, w, n, m) {
+        last_fitting(old, new, w, e, m, ends)
+    } else {
+        None
     }
-    0
 }
 
-// 1 + the one before f, which is such an edge, or 0.
-pub fn joins_before(ol: &[usize], nl: &[usize], w: &[usize], e: usize, f: usize, met: bool) -> usize
-    ensures { JoinsBefore ol.now nl.now w.now e f met result }
+// The one before f, which is such an edge.
+pub fn joins_before(
+    old: &Program,
+    new: &Program,
+    w: &[usize],
+    e: usize,
+    f: usize,
+    ends: Ends,
+) -> Option<usize>
+    ensures { JoinsBefore old.now.links new.now.links w.now e f (is_met ends) (place result) }
 {
-    if versions::is_star(ol, e) {
-        let before = versions::opposite_before(ol, nl, e, f);
-        return fitting(ol, nl, w, e, before, met);
+    if versions::is_star(old, e) {
+        let before = versions::opposite_before(old, new, e, f);
+        fitting(old, new, w, e, before, ends)
+    } else {
+        None
     }
-    0
 }
 
 // ---- dangerous edges
@@ -102,101 +120,87 @@ pub fn joins_before(ol: &[usize], nl: &[usize], w: &[usize], e: usize, f: usize,
 pub fn copy_dangers(w: &[usize], set: &mut [u64])
     ensures { DangersCopied w.now set.old set.new }
 {
-    let mut k = 0;
-    while k < 16 {
-        if set.len() <= k {
-            return;
-        }
+    for k in 0..set.len().min(16) {
         set[k] = pairset::danger_word(w, k) as u64;
-        k += 1;
     }
 }
 
 // ---- counterparts
 
-// What is seen with the edge f - 1: this one alone, or 2048 for several.
-fn unite(seen: usize, f: usize) -> usize
-    ensures { result ≡ united seen f }
-{
-    if seen == 0 {
-        return f;
-    }
-    if seen == f {
-        return seen;
-    }
-    2048
+// What is seen of the counterparts of an old edge.
+#[derive(Clone, Copy)]
+enum Seen {
+    Nothing,
+    One(usize),
+    Several,
 }
 
-// What is seen with the counterparts of the old edge e at the pair of n and m.
+// What is seen with the edge f.
+fn unite(seen: Seen, f: usize) -> Seen
+    ensures { result ≡ united seen f }
+{
+    match seen {
+        Seen::Nothing => Seen::One(f),
+        Seen::One(g) => if g == f { seen } else { Seen::Several },
+        Seen::Several => seen,
+    }
+}
+
+// What is seen with the counterparts of the old edge e at the pair of n and m. The walk along edges and pairs stands in each function that goes it: what
+// it changes, a value, marks or a set, is of another type in each, and its steps are proved once (proofs/Hits).
 fn see(
-    on: &[usize],
-    ol: &[usize],
-    nn: &[usize],
-    nl: &[usize],
+    old: &Program,
+    new: &Program,
     w: &[usize],
     e: usize,
     n: usize,
     m: usize,
-    before: usize,
-) -> usize
-    ensures { Sees on.now ol.now nn.now nl.now w.now e n m before result }
+    before: Seen,
+) -> Seen
+    ensures { Sees old.now.nodes old.now.links new.now.nodes new.now.links w.now e n m before result }
 {
     let mut seen = before;
-    let mut f = joins(on, ol, nn, nl, w, e, n, m, true);
-    while 0 < f {
-        let x = f - 1;
+    let mut place = joins(old, new, w, e, n, m, Ends::Met);
+    while let Some(f) = place {
         seen = unite(seen, f);
-        f = joins_before(ol, nl, w, e, x, true);
+        place = joins_before(old, new, w, e, f, Ends::Met);
     }
     seen
 }
 
-// 1 + the only counterpart of the old edge e, or 0 where it has none or several.
-fn only_counterpart(
-    on: &[usize],
-    ol: &[usize],
-    nn: &[usize],
-    nl: &[usize],
-    w: &[usize],
-    e: usize,
-) -> usize
-    ensures { Only on.now ol.now nn.now nl.now w.now e result }
+// The only counterpart of the old edge e, where it has just one.
+fn only_counterpart(old: &Program, new: &Program, w: &[usize], e: usize) -> Option<usize>
+    ensures { Only old.now.nodes old.now.links new.now.nodes new.now.links w.now e (place result) }
 {
-    let n = versions::source(ol, e);
-    let mut seen = 0;
+    let n = old.source(e);
+    let mut seen = Seen::Nothing;
     let mut place = pairset::last_pair(w, n);
-    while 0 < place {
-        let k = place - 1;
-        let m = pairset::new_of(w, k);
-        seen = see(on, ol, nn, nl, w, e, n, m, seen);
+    while let Some(k) = place {
+        seen = see(old, new, w, e, n, pairset::new_of(w, k), seen);
         place = pairset::pair_before(w, k);
     }
-    if 1024 < seen {
-        return 0;
+    match seen {
+        Seen::One(f) => Some(f),
+        _ => None,
     }
-    seen
 }
 
 // ---- marks
 
-// Makes the mark of the edge x a `?` where it is not above `most`: 48 for `0` alone, 49 for `0` and `1`; past the end, nothing.
+// Makes the mark of the edge x a `?` where it is not above `most`: `0` for `0` alone, `1` for both; past the end, nothing. Marks are bytes, as a record
+// line shows them.
 fn raise(marks: &mut [u8], x: usize, most: u8)
     ensures { marks.new ≡ raised marks.old x most }
 {
-    if marks.len() <= x {
-        return;
-    }
-    if marks[x] <= most {
-        marks[x] = 63;
+    if x < marks.len() && marks[x] <= most {
+        marks[x] = b'?';
     }
 }
 
 // Makes each mark, not above `most`, of a counterpart of the old edge e at the pair of n and m a `?`.
 fn raise_at(
-    on: &[usize],
-    ol: &[usize],
-    nn: &[usize],
-    nl: &[usize],
+    old: &Program,
+    new: &Program,
     w: &[usize],
     e: usize,
     n: usize,
@@ -204,58 +208,40 @@ fn raise_at(
     most: u8,
     marks: &mut [u8],
 )
-    ensures { RaisedAt on.now ol.now nn.now nl.now w.now e n m most marks.old marks.new }
+    ensures { RaisedAt old.now.nodes old.now.links new.now.nodes new.now.links w.now e n m most marks.old marks.new }
 {
-    let mut f = joins(on, ol, nn, nl, w, e, n, m, true);
-    while 0 < f {
-        let x = f - 1;
-        raise(marks, x, most);
-        f = joins_before(ol, nl, w, e, x, true);
+    let mut place = joins(old, new, w, e, n, m, Ends::Met);
+    while let Some(f) = place {
+        raise(marks, f, most);
+        place = joins_before(old, new, w, e, f, Ends::Met);
     }
 }
 
 // The same at every pair.
-fn raise_all(
-    on: &[usize],
-    ol: &[usize],
-    nn: &[usize],
-    nl: &[usize],
-    w: &[usize],
-    e: usize,
-    most: u8,
-    marks: &mut [u8],
-)
-    ensures { AllRaised on.now ol.now nn.now nl.now w.now e most marks.old marks.new }
+fn raise_all(old: &Program, new: &Program, w: &[usize], e: usize, most: u8, marks: &mut [u8])
+    ensures { AllRaised old.now.nodes old.now.links new.now.nodes new.now.links w.now e most marks.old marks.new }
 {
-    let n = versions::source(ol, e);
+    let n = old.source(e);
     let mut place = pairset::last_pair(w, n);
-    while 0 < place {
-        let k = place - 1;
-        let m = pairset::new_of(w, k);
-        raise_at(on, ol, nn, nl, w, e, n, m, most, marks);
+    while let Some(k) = place {
+        raise_at(old, new, w, e, n, pairset::new_of(w, k), most, marks);
         place = pairset::pair_before(w, k);
     }
 }
 
-// Makes the mark of the edge f - 1 a `1`; past the end, nothing.
-fn mark_one(marks: &mut [u8], f: usize)
-    ensures { marks.new ≡ marked_one marks.old f }
+// Makes the mark of the edge x a `1`; past the end, nothing.
+fn mark_one(marks: &mut [u8], x: usize)
+    ensures { marks.new ≡ set marks.old x 49 }
 {
-    if f == 0 {
-        return;
-    }
-    let x = f - 1;
     if x < marks.len() {
-        marks[x] = 49;
+        marks[x] = b'1';
     }
 }
 
 // Marks the counterparts of the old edge e, if the test covers it: its only one with `1`, several with `?` where they have `0`.
 fn carry(
-    on: &[usize],
-    ol: &[usize],
-    nn: &[usize],
-    nl: &[usize],
+    old: &Program,
+    new: &Program,
     w: &[usize],
     rows: &[u64],
     test: usize,
@@ -263,25 +249,20 @@ fn carry(
     marks: &mut [u8],
 )
     requires { test ≤ 200 }
-    ensures { Carried on.now ol.now nn.now nl.now w.now rows.now test e marks.old marks.new }
+    ensures { Carried old.now.nodes old.now.links new.now.nodes new.now.links w.now rows.now test e marks.old marks.new }
 {
     if coverage::covers(rows, test, e) {
-        let f = only_counterpart(on, ol, nn, nl, w, e);
-        if f == 0 {
-            raise_all(on, ol, nn, nl, w, e, 48, marks);
-            return;
+        match only_counterpart(old, new, w, e) {
+            Some(f) => mark_one(marks, f),
+            None => raise_all(old, new, w, e, b'0', marks),
         }
-        mark_one(marks, f);
-        return;
     }
 }
 
 // Carries the test over every old edge.
 fn carry_all(
-    on: &[usize],
-    ol: &[usize],
-    nn: &[usize],
-    nl: &[usize],
+    old: &Program,
+    new: &Program,
     w: &[usize],
     rows: &[u64],
     test: usize,
@@ -289,21 +270,17 @@ fn carry_all(
     marks: &mut [u8],
 )
     requires { test ≤ 200 }
-    ensures { AllCarried on.now ol.now nn.now nl.now w.now rows.now test edges edges marks.old marks.new }
+    ensures { AllCarried old.now.nodes old.now.links new.now.nodes new.now.links w.now rows.now test edges edges marks.old marks.new }
 {
-    let mut e = 0;
-    while e < edges {
-        carry(on, ol, nn, nl, w, rows, test, e, marks);
-        e += 1;
+    for e in 0..edges {
+        carry(old, new, w, rows, test, e, marks);
     }
 }
 
 // Marks the counterparts of the old edge e with `?`, if the test covers it and it lies after a danger.
 fn open_edge(
-    on: &[usize],
-    ol: &[usize],
-    nn: &[usize],
-    nl: &[usize],
+    old: &Program,
+    new: &Program,
     w: &[usize],
     rows: &[u64],
     test: usize,
@@ -312,22 +289,17 @@ fn open_edge(
     marks: &mut [u8],
 )
     requires { test ≤ 200 }
-    ensures { Opened on.now ol.now nn.now nl.now w.now rows.now test after.now e marks.old marks.new }
+    ensures { Opened old.now.nodes old.now.links new.now.nodes new.now.links w.now rows.now test after.now e marks.old marks.new }
 {
-    if coverage::covers(rows, test, e) {
-        if coverage::in_set(after, e) {
-            raise_all(on, ol, nn, nl, w, e, 49, marks);
-            return;
-        }
+    if coverage::covers(rows, test, e) && coverage::in_set(after, e) {
+        raise_all(old, new, w, e, b'1', marks);
     }
 }
 
 // The same for every old edge.
 fn open_all(
-    on: &[usize],
-    ol: &[usize],
-    nn: &[usize],
-    nl: &[usize],
+    old: &Program,
+    new: &Program,
     w: &[usize],
     rows: &[u64],
     test: usize,
@@ -336,12 +308,10 @@ fn open_all(
     marks: &mut [u8],
 )
     requires { test ≤ 200 }
-    ensures { AllOpened on.now ol.now nn.now nl.now w.now rows.now test after.now edges edges marks.old marks.new }
+    ensures { AllOpened old.now.nodes old.now.links new.now.nodes new.now.links w.now rows.now test after.now edges edges marks.old marks.new }
 {
-    let mut e = 0;
-    while e < edges {
-        open_edge(on, ol, nn, nl, w, rows, test, after, e, marks);
-        e += 1;
+    for e in 0..edges {
+        open_edge(old, new, w, rows, test, after, e, marks);
     }
 }
 
@@ -349,16 +319,9 @@ fn open_all(
 fn open_set(marks: &mut [u8], n: usize, set: &[u64])
     ensures { SetOpened set.now n marks.old marks.new }
 {
-    let mut f = 0;
-    while f < n {
-        if marks.len() <= f {
-            return;
-        }
+    for f in 0..n.min(marks.len()) {
         if coverage::in_set(set, f) {
-            marks[f] = 63;
-            f += 1;
-        } else {
-            f += 1;
+            marks[f] = b'?';
         }
     }
 }
@@ -367,24 +330,16 @@ fn open_set(marks: &mut [u8], n: usize, set: &[u64])
 fn fill(marks: &mut [u8], n: usize, b: u8)
     ensures { marks.new ≡ sets marks.old 0 (replicate n b) }
 {
-    let mut i = 0;
-    while i < n {
-        if marks.len() <= i {
-            return;
-        }
-        marks[i] = b;
-        i += 1;
-    }
+    let end = n.min(marks.len());
+    marks[..end].fill(b);
 }
 
 // Finds the marks of a test, where the versions have so many edges. If it is repeated, the new edges that have a probe, and the counterparts of covered
 // edges after a danger, get an open mark, `?`. For tables that do not hold two programs, their pairs, the test's row and, if it
 // is repeated, these two sets the marks are left open.
 pub fn find_marks(
-    on: &[usize],
-    ol: &[usize],
-    nn: &[usize],
-    nl: &[usize],
+    old: &Program,
+    new: &Program,
     w: &[usize],
     rows: &[u64],
     test: usize,
@@ -396,12 +351,12 @@ pub fn find_marks(
     marks: &mut [u8],
 )
     requires { test ≤ 200 }
-    ensures { MarksFound on.now ol.now nn.now nl.now w.now rows.now test old_edges new_edges again probes.now after.now marks.old marks.new }
+    ensures { MarksFound old.now.nodes old.now.links new.now.nodes new.now.links w.now rows.now test old_edges new_edges again probes.now after.now marks.old marks.new }
 {
-    fill(marks, new_edges, 48);
-    carry_all(on, ol, nn, nl, w, rows, test, old_edges, marks);
+    fill(marks, new_edges, b'0');
+    carry_all(old, new, w, rows, test, old_edges, marks);
     if again {
-        open_all(on, ol, nn, nl, w, rows, test, after, old_edges, marks);
+        open_all(old, new, w, rows, test, after, old_edges, marks);
         open_set(marks, new_edges, probes);
     }
 }

@@ -1,26 +1,26 @@
 -- The turns and the returns of the functions on words, names and states.
-use mathlib.Core.Path.{◌≡◌, sym, ap, ◌∙◌}
+use mathlib.Core.Path.{◌≡◌, refl, sym, ap, ◌∙◌}
 use mathlib.Core.Bool.{Bool, true, false}
 use mathlib.Core.Option.{none}
 use mathlib.Core.List.{List}
-use Prim.Native.Nat.{ℕ, ◌+◌, ◌*◌, ◌≤◌, ◌<◌}
-use native.Mathlib.Numerals.{add-one}
+use Prim.Native.Nat.{ℕ, suc, ◌+◌, ◌≤◌, ◌<◌}
 use native.Mathlib.Omega.{arith}
-use lib.Dec.{eqb, leb}
-use borrow.Author.Tests.{eq-eqb, le-leb, le-ltb, lt-leb, lt-ltb, ne_eqb}
+use lib.Dec.{leb}
+use borrow.Author.Tests.{le-leb, lt-leb}
 use Rattle.laws.specs.Tests.{◌and◌, first, found, isnt}
 use Rattle.laws.specs.TestLaws.{and_both, and_not, first_least}
 use Rattle.laws.specs.Counting.{count_zero, first_of_none}
 use Rattle.laws.specs.Slices.{below_or}
 use Rattle.rules.specs.Text.{Bytes, same}
 use Rattle.suite.specs.Reading.{name_at}
-use Rattle.text.proofs.Laws.{clear_done, clear_on}
+use Rattle.std.specs.Prelude.{Option, Some, None, Result}
+use Rattle.std.specs.Option.{ok_or}
+use Rattle.text.specs.NumberLaws.{a_number, no_number, number_kept, number_read}
+use Rattle.answer.specs.declared.Refusal.{Refusal}
+use Rattle.sheet_reader.specs.declared.Stage.{Stage}
+use Rattle.sheet_reader.specs.declared.Stage.TheVariants.{Before, Listing, Ended}
 use Rattle.sheet_reader.specs.declared.State.{State}
-use Rattle.sheet_reader.specs.Reading.{edge_fits, end_fits, pair_fits, test_from, underway}
-
--- ---- `clear_words`
-
-pub ruleset words = (clear_on, clear_done)
+use Rattle.sheet_reader.specs.Reading.{Field, malformed, opened, shut, test_from, underway}
 
 -- ---- `test_from`
 
@@ -55,9 +55,9 @@ module _ (tt : Bytes) (table : List ℕ) (k : ℕ) (name : Bytes) where
       here : same (name_at tt table i) name ≡ t
       here = ap (λ (y : Bytes). same y name) (sym ex) ∙ sym et
 
-      pub test_hit : (n : ℕ) → k ≤ i → i < n → t ≡ true → i + 1 ≡ test_from tt table k n name
+      pub test_hit : (n : ℕ) → k ≤ i → i < n → t ≡ true → suc i ≡ test_from tt table k n name
       unfolding test_from
-      test_hit n l h y = add-one i ∙ sym (ap found (first_least sought n i h (and_both (le-leb k i l) (here ∙ y)) (none_sought i inv)))
+      test_hit n l h y = sym (ap found (first_least sought n i h (and_both (le-leb k i l) (here ∙ y)) (none_sought i inv)))
 
       pub test_on : t ≡ false → NoTest tt table k (i + 1) name
       unfolding NoTest
@@ -71,90 +71,28 @@ pub ruleset names = (test_start, test_none, test_hit, test_on)
 
 -- ---- `underway`
 
+not_listing : (g : Stage) → (g ≡ Listing → ⊥) → (opened g and isnt (shut g)) ≡ false
+unfolding ◌and◌ isnt
+not_listing Before h = refl
+not_listing Listing h = absurd (h refl)
+not_listing Ended h = refl
+
 module _ (c : State) where
-  pub under_not : c.opened ≡ false → false ≡ underway c
-  unfolding underway ◌and◌
-  under_not e = sym (simp e)
-
-  pub under_shut : c.opened ≡ true → c.shut ≡ true → false ≡ underway c
+  pub under_way : c.stage ≡ Listing → true ≡ underway c
   unfolding underway ◌and◌ isnt
-  under_shut e f = sym (simp (e, f))
+  under_way e = sym (simp e)
 
-  pub under_way : c.opened ≡ true → c.shut ≡ false → true ≡ underway c
-  unfolding underway ◌and◌ isnt
-  under_way e f = sym (simp (e, f))
+  pub under_not : (c.stage ≡ Listing → ⊥) → false ≡ underway c
+  unfolding underway
+  under_not h = sym (not_listing c.stage h)
 
-pub ruleset ways = (under_not, under_shut, under_way)
+pub ruleset ways = (under_way, under_not)
 
--- ---- `pair_fits`, `edge_fits`, `end_fits`
+-- ---- `field`
 
-module _ (c : State) (t : Bool) (e : t ≡ underway c) where
-  module _ (olds news a b : ℕ) where
-    pub pair_off : t ≡ false → false ≡ pair_fits olds news a b c
-    unfolding pair_fits ◌and◌
-    pair_off n = sym (simp (← e, n))
+module _ (n : ℕ) (a : Bytes) where
+  pub field_is : (o : Option ℕ) (e : Refusal) (r : Result ℕ Refusal) → o ≡ number_read a → e ≡ malformed n → r ≡ ok_or o e → Field n a r
+  field_is None e r eo ee er = rw er (no_number a eo, ee)
+  field_is (Some i) e r eo ee er = rw er (a_number a i eo, number_kept a i eo)
 
-    module _ (y : t ≡ true) where
-      pub pair_late : 0 < c.edges → false ≡ pair_fits olds news a b c
-      unfolding pair_fits ◌and◌
-      pair_late h = sym (simp (← e, y, ne_eqb c.edges 0 (λ q. let z : ⊥ = omega arith in z)))
-
-      module _ (h : c.edges ≤ 0) where
-        pub pair_later : 0 < c.tests → false ≡ pair_fits olds news a b c
-        unfolding pair_fits ◌and◌
-        pair_later k = sym (simp (← e, y, eq-eqb c.edges 0 (omega arith), ne_eqb c.tests 0 (λ q. let z : ⊥ = omega arith in z)))
-
-        module _ (k : c.tests ≤ 0) where
-          pub pair_no_old : olds ≤ a → false ≡ pair_fits olds news a b c
-          unfolding pair_fits ◌and◌
-          pair_no_old l = sym (simp (← e, y, eq-eqb c.edges 0 (omega arith), eq-eqb c.tests 0 (omega arith), le-ltb a olds l))
-
-          module _ (l : a < olds) where
-            pub pair_no_new : news ≤ b → false ≡ pair_fits olds news a b c
-            unfolding pair_fits ◌and◌
-            pair_no_new m = sym (simp (← e, y, eq-eqb c.edges 0 (omega arith), eq-eqb c.tests 0 (omega arith), lt-ltb a olds l, le-ltb b news m))
-
-            pub pair_order : b < news → leb c.pair (512 * a + b) ≡ pair_fits olds news a b c
-            unfolding pair_fits ◌and◌
-            pair_order m = sym (simp (← e, y, eq-eqb c.edges 0 (omega arith), eq-eqb c.tests 0 (omega arith), lt-ltb a olds l, lt-ltb b news m))
-
-  module _ (edges i : ℕ) where
-    pub edge_off : t ≡ false → false ≡ edge_fits edges i c
-    unfolding edge_fits ◌and◌
-    edge_off n = sym (simp (← e, n))
-
-    module _ (y : t ≡ true) where
-      pub edge_late : 0 < c.tests → false ≡ edge_fits edges i c
-      unfolding edge_fits ◌and◌
-      edge_late h = sym (simp (← e, y, ne_eqb c.tests 0 (λ q. let z : ⊥ = omega arith in z)))
-
-      module _ (h : c.tests ≤ 0) where
-        pub edge_none : edges ≤ i → false ≡ edge_fits edges i c
-        unfolding edge_fits ◌and◌
-        edge_none k = sym (simp (← e, y, eq-eqb c.tests 0 (omega arith), le-ltb i edges k))
-
-        pub edge_order : i < edges → leb c.edge i ≡ edge_fits edges i c
-        unfolding edge_fits ◌and◌
-        edge_order k = sym (simp (← e, y, eq-eqb c.tests 0 (omega arith), lt-ltb i edges k))
-
-  module _ (a b d : ℕ) where
-    pub end_off : t ≡ false → false ≡ end_fits a b d c
-    unfolding end_fits ◌and◌
-    end_off n = sym (simp (← e, n))
-
-    module _ (y : t ≡ true) where
-      pub end_pairs : (a ≡ c.pairs → ⊥) → false ≡ end_fits a b d c
-      unfolding end_fits ◌and◌
-      end_pairs h = sym (simp (← e, y, ne_eqb a c.pairs h))
-
-      module _ (h : a ≡ c.pairs) where
-        pub end_edges : (b ≡ c.edges → ⊥) → false ≡ end_fits a b d c
-        unfolding end_fits ◌and◌
-        end_edges k = sym (simp (← e, y, eq-eqb a c.pairs h, ne_eqb b c.edges k))
-
-        pub end_tests : b ≡ c.edges → eqb d c.tests ≡ end_fits a b d c
-        unfolding end_fits ◌and◌
-        end_tests k = sym (simp (← e, y, eq-eqb a c.pairs h, eq-eqb b c.edges k))
-
-pub ruleset fits =
-    (pair_off, pair_late, pair_later, pair_no_old, pair_no_new, pair_order, edge_off, edge_late, edge_none, edge_order, end_off, end_pairs, end_edges, end_tests)
+pub ruleset fields = (field_is)

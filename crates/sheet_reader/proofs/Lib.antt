@@ -1,3 +1,4 @@
+pub mod Halts
 pub mod Forms
 pub mod Orders
 pub mod Leaves

@@ -11,7 +11,6 @@ use borrow.Author.Tests.{eq-eqb, eqb-true, le-leb, le-ltb, lt-leb, lt-ltb, ltb-t
 use Rattle.laws.specs.Tests.{◌and◌, ◌or◌, all_pairs, has, none?}
 use Rattle.laws.specs.TestLaws.{and_assoc, and_both, and_ends, and_left, and_not, and_right, or_cases, or_left, or_right, same_test}
 use Rattle.laws.specs.Slices.{below_or, same_or}
-use Rattle.rules.specs.Text.{Bytes, value}
 use Rattle.rules.specs.Sheet.{all_below, before}
 use Rattle.pairset.specs.StoreLaws.{all_pairs_snoc}
 use Rattle.sheet_reader.specs.Reading.{PairsUpTo, UpTo}
@@ -92,9 +91,6 @@ none_is [] = refl
 none_is (x ∷ l) = ne_eqb (length (x ∷ l)) 0 (λ e. let z : ⊥ = omega arith in z)
 
 -- ---- a number as it is kept: one above 65,536 counts as 65,536
-
-abbrev pub kept : Bytes → ℕ
-kept ds = min (value ds) 65536
 
 -- Below its bound it is itself.
 module _ (v m : ℕ) (few : m ≤ 65536) where

@@ -3,49 +3,39 @@ use mathlib.Core.Path.{◌≡◌, refl, sym, ap, ap₂, ◌∙◌, subst}
 use mathlib.Core.Bool.{Bool, true, false}
 use mathlib.Core.Option.{Option, none, some}
 use mathlib.Core.List.{List, [], ◌∷◌, ◌++◌}
-use Prim.Native.Nat.{ℕ, ◌+◌, ◌-◌, ◌*◌, ◌≤◌, ◌<◌, min}
+use Prim.Native.Nat.{ℕ, suc, ◌+◌, ◌*◌, ◌≤◌, ◌<◌}
 use native.Mathlib.Omega.{arith}
 use lib.Dec.{eqb, leb, ltb}
 use lib.ListN.{length, take, drop}
 use borrow.Author.Tests.{eq-eqb, le-leb, leb-true, lt-leb, ltb-true, ne_eqb}
-use Rattle.laws.specs.Tests.{◌and◌, ◌or◌, choose, first, found, has, isnt, none?}
+use Rattle.laws.specs.Tests.{◌and◌, ◌or◌, first, found, has, isnt, none?}
 use Rattle.laws.specs.TestLaws.{and_both, and_ends, and_left, and_not, and_right, fails, false_isnt, first_at, first_none, first_only, true_isnt}
 use Rattle.laws.specs.Lists.{snoc_length}
 use Rattle.laws.specs.Slices.{same_or}
 use Rattle.laws.specs.Bits.{bit_in}
 use Rattle.laws.specs.BitSets.{bit_with, with_bit}
-use Rattle.rules.specs.Text.{Reading, Bytes, accepted, bytes, is_name, is_number, same, split, unless, value}
+use Rattle.rules.specs.Text.{Bytes, accepted, bytes, is_name, is_number, same, split, value}
 use Rattle.rules.specs.Graph.{Program, edge_count, node_count}
 use Rattle.rules.specs.SuiteFile.{Suite, test_count, test_name}
-use Rattle.rules.specs.Sheet.{SheetRead, add_d, add_m, add_r, all_below, d_line, end_line, going, m_line, open_sheet, pairs_before, r_line, sheet_form, take_sheet_line, test_of}
+use Rattle.rules.specs.Sheet.{SheetRead, add_d, add_m, add_r, all_below, going, open_sheet, pairs_before, r_line, sheet_form, take_sheet_line, test_of}
 use Rattle.rules.proofs.TextLaws.{same_true}
 use Rattle.pairset.specs.Store.{Appended, Appends, pair_base}
 use Rattle.suite.specs.Reading.{name_at}
-use Rattle.text.specs.NumberLaws.{a_number, no_number, number_kept}
 use Rattle.text.specs.Scans.{span}
 use Rattle.text.specs.SplitLaws.{first_last, first_more}
 use Rattle.sheet_reader.specs.declared.Bounds.{Bounds}
+use Rattle.std.specs.Prelude.{Result, Ok, Err}
+use Rattle.answer.specs.declared.Fault.TheVariants.{LineMalformed, SheetWrong, TooManyLines}
+use Rattle.answer.specs.declared.Refusal.{Refusal}
+use Rattle.sheet_reader.specs.declared.Stage.{Stage}
+use Rattle.sheet_reader.specs.declared.Stage.TheVariants.{Before, Listing, Ended}
 use Rattle.sheet_reader.specs.declared.State.{State}
 use Rattle.sheet_reader.specs.Claims.{For}
-use Rattle.sheet_reader.specs.Reading.{AddedPair, AddsEdge, AddsPair, AddsTest, After, Bounded, Ends, Holds, Opens, PairsUpTo, Refusal, Small, UpTo, edge_fits, end_fits, pair_fits, test_from, underway, with_pair}
+use Rattle.sheet_reader.specs.Reading.{AddedPair, AddsEdge, AddsPair, AddsTest, After, Bounded, Ends, Holds, Opens, PairsUpTo, Small, UpTo, edge_fits, end_fits, kept, malformed, opened, pair_fits, shut, test_from, too_many, underway, wrong}
 use Rattle.sheet_reader.proofs.Forms.{d_is, d_none, end_is, end_none, end_one, end_two, end_whole, m_is, m_none, m_one, m_whole, r_is, r_none}
+use Rattle.sheet_reader.proofs.Halts.{go_on, halt, stop}
 use Rattle.sheet_reader.proofs.Leaves.{sought}
-use Rattle.sheet_reader.proofs.Orders.{and_when, has_snoc, kept, kept_below, kept_is, kept_same, none_is, pairs_up_more, up_more}
-
--- ---- a test that refuses, and one that passes
-
-module _ (r : State) (w sets : List ℕ) where
-  stop : {t : Bool} (k n : ℕ) (x : Reading SheetRead) → t ≡ true → Refusal k n r → 0 < k → After (unless t k n x) r w sets
-  unfolding unless
-  stop k n x e q p = rw e (q.number_is, q.place_is, p)
-
-  go_on : {t : Bool} (k n : ℕ) (x : Reading SheetRead) → t ≡ false → After x r w sets → After (unless t k n x) r w sets
-  unfolding unless
-  go_on k n x e a = rw e a
-
--- What `number` answers.
-abbrev number_of : Bytes → ℕ
-number_of a = choose (is_number a) (min (value a) 65536) 65537
+use Rattle.sheet_reader.proofs.Orders.{and_when, has_snoc, kept_below, kept_is, kept_same, none_is, pairs_up_more, up_more}
 
 -- ---- what the state says of what was read
 
@@ -114,33 +104,35 @@ module _ (w sets : List ℕ) (c : State) (s : SheetRead) (hold : Holds w sets c 
 -- ---- `open`
 
 module _ (n : ℕ) (c : State) where
-  pub open_twice : (r : State) → c.opened ≡ true → Refusal 11 n r → Opens n c r
+  opened_but : (g : Stage) → (g ≡ Before → ⊥) → opened g ≡ true
+  opened_but Before h = absurd (h refl)
+  opened_but Listing h = refl
+  opened_but Ended h = refl
+
+  pub open_twice : (e : Refusal) → (c.stage ≡ Before → ⊥) → e ≡ wrong n → Opens n c (Err e)
   unfolding Opens take_sheet_line
-  open_twice r e q limit old new suite s w sets hold = stop r w sets 11 n (accepted (open_sheet s)) (sym hold.opened_is ∙ e) q (omega arith)
+  open_twice e y q limit old new suite s w sets hold =
+      stop e w sets SheetWrong n (accepted (open_sheet s)) (sym hold.opened_is ∙ opened_but c.stage y) (omega arith) q
 
   -- The state with the first line more.
   abbrev with_head : State
-  with_head =
-      record { number = 0; place = 0; opened = true; shut = c.shut; pairs = c.pairs; edges = c.edges; tests = c.tests; pair = c.pair; edge = c.edge; test = c.test }
+  with_head = record c { stage = Listing }
 
-  pub open_first : c.opened ≡ false → Opens n c with_head
+  pub open_first : c.stage ≡ Before → Opens n c (Ok with_head)
   unfolding Opens take_sheet_line
   open_first e limit old new suite s w sets hold =
-      go_on with_head w sets 11 n (accepted (open_sheet s)) (sym hold.opened_is ∙ e) (
-        refl,
-        refl,
-        record {
-          opened_is = refl;
-          shut_is = hold.shut_is;
-          pairs_n = hold.pairs_n;
-          edges_n = hold.edges_n;
-          tests_n = hold.tests_n;
-          pair_next = hold.pair_next;
-          edge_next = hold.edge_next;
-          test_next = hold.test_next;
-          held = hold.held;
-        },
-      )
+      go_on (Ok with_head) w sets 11 n (accepted (open_sheet s)) (sym hold.opened_is ∙ ap opened e)
+      (record {
+        opened_is = refl;
+        shut_is = sym (ap shut e) ∙ hold.shut_is;
+        pairs_n = hold.pairs_n;
+        edges_n = hold.edges_n;
+        tests_n = hold.tests_n;
+        pair_next = hold.pair_next;
+        edge_next = hold.edge_next;
+        test_next = hold.test_next;
+        held = hold.held;
+      })
 
   pub open_small : Small c → Small with_head
   open_small h =
@@ -151,17 +143,21 @@ pub ruleset opens = (open_twice, open_first, open_small)
 -- ---- `pair_line`
 
 module _ (limit olds news n : ℕ) (s a : Bytes) (c : State) (w : List ℕ) (ea : a ≡ take (span 44 s) s) where
-  pub pair_short : (r : State) (w' : List ℕ) → length s ≤ length a → Refusal 2 n r → AddsPair limit olds news n (split 44 s) c w r w'
+  pub pair_short : (e : Refusal) (w' : List ℕ) → length s ≤ length a → e ≡ malformed n → AddsPair limit olds news n (split 44 s) c w (Err e) w'
   unfolding AddsPair take_sheet_line
-  pair_short r w' h q old new suite k sets eo en hold =
-      rw (ap (λ (ps : List Bytes). sheet_form (bytes "M" ∷ ps)) (first_last 44 s a ea h) ∙ m_one s) (q.number_is, q.place_is, omega arith)
+  pair_short e w' h q old new suite k sets eo en hold =
+      rw (ap (λ (ps : List Bytes). sheet_form (bytes "M" ∷ ps)) (first_last 44 s a ea h) ∙ m_one s) (halt e w' sets LineMalformed n (omega arith) q)
 
-  pub pair_fields : (b : Bytes) (r : State) (w' : List ℕ) → length a < length s → b ≡ drop (length a + 1) s → AddsPair limit olds news n (a ∷ b ∷ []) c w r w' → AddsPair limit olds news n (split 44 s) c w r w'
+  pub pair_fields : (b : Bytes) (r : Result State Refusal) (w' : List ℕ) → length a < length s → b ≡ drop (length a + 1) s → AddsPair limit olds news n (a ∷ b ∷ []) c w r w' → AddsPair limit olds news n (split 44 s) c w r w'
   unfolding AddsPair
   pair_fields b r w' h eb q old new suite k sets eo en hold =
       rw (ap (λ (ps : List Bytes). sheet_form (bytes "M" ∷ ps)) (first_more 44 s a ea b h eb) ∙ m_whole a b) (q old new suite k sets eo en hold)
 
 -- ---- `add_pair`
+
+-- The state with the pair (a, b) more.
+abbrev with_pair : ℕ → ℕ → State → State
+with_pair a b c = record c { pairs = c.pairs + 1; pair = 512 * a + b + 1 }
 
 -- What the test says of the pair (i, j).
 module _ (olds news i j : ℕ) (c : State) (t : Bool) (et : t ≡ pair_fits olds news i j c) (y : t ≡ true) where
@@ -200,43 +196,39 @@ module _ (olds news i j : ℕ) (c : State) (t : Bool) (et : t ≡ pair_fits olds
             };
           }
 
-      pair_small : (r : State) → limit ≤ 4096 → Small c → r ≡ with_pair i j c → Small r
-      pair_small r most h e =
-          subst Small (sym e)
-          (record {
+      pair_small : limit ≤ 4096 → Small c → Small (with_pair i j c)
+      pair_small most h =
+          record {
             few_pairs = omega arith;
             low_pair = omega (arith, pair_old, pair_new);
             few_edges = h.few_edges;
             low_edge = h.low_edge;
             few_tests = h.few_tests;
             low_test = h.low_test;
-          })
+          }
 
 module _ (limit olds news n : ℕ) (a b : Bytes) (c : State) (w : List ℕ) where
   -- A field is no number.
-  pair_none : (r : State) (w' : List ℕ) → (is_number a and is_number b) ≡ false → Refusal 2 n r → AddsPair limit olds news n (a ∷ b ∷ []) c w r w'
+  pair_none : (e : Refusal) (w' : List ℕ) → (is_number a and is_number b) ≡ false → e ≡ malformed n → AddsPair limit olds news n (a ∷ b ∷ []) c w (Err e) w'
   unfolding AddsPair take_sheet_line
-  pair_none r w' e q old new suite s sets eo en hold = rw (m_none a b e) (q.number_is, q.place_is, omega arith)
+  pair_none e w' y q old new suite s sets eo en hold = rw (m_none a b y) (halt e w' sets LineMalformed n (omega arith) q)
 
-  module _ (i : ℕ) (ei : i ≡ number_of a) where
-    pub pair_first : (r : State) (w' : List ℕ) → 65536 < i → Refusal 2 n r → AddsPair limit olds news n (a ∷ b ∷ []) c w r w'
+  pub pair_first : (e : Refusal) (w' : List ℕ) → is_number a ≡ false → e ≡ malformed n → AddsPair limit olds news n (a ∷ b ∷ []) c w (Err e) w'
+  unfolding ◌and◌
+  pair_first e w' y q = pair_none e w' (simp y) q
+
+  module _ (na : is_number a ≡ true) where
+    pub pair_second : (e : Refusal) (w' : List ℕ) → is_number b ≡ false → e ≡ malformed n → AddsPair limit olds news n (a ∷ b ∷ []) c w (Err e) w'
     unfolding ◌and◌
-    pair_first r w' h q = pair_none r w' (simp (no_number a i ei h)) q
+    pair_second e w' y q = pair_none e w' (simp (na, y)) q
 
-    module _ (hi : i ≤ 65536) (j : ℕ) (ej : j ≡ number_of b) where
-      pub pair_second : (r : State) (w' : List ℕ) → 65536 < j → Refusal 2 n r → AddsPair limit olds news n (a ∷ b ∷ []) c w r w'
-      unfolding ◌and◌
-      pair_second r w' h q = pair_none r w' (simp (a_number a i ei hi, no_number b j ej h)) q
+    module _ (nb : is_number b ≡ true) where
+      pub pair_full : (e : Refusal) (w' : List ℕ) → limit ≤ c.pairs → e ≡ too_many n → AddsPair limit olds news n (a ∷ b ∷ []) c w (Err e) w'
+      unfolding AddsPair take_sheet_line
+      pair_full e w' h q old new suite s sets eo en hold =
+          rw (m_is a b na nb) (stop e w' sets TooManyLines n _ (le-leb limit (length s.claims.M) (omega (arith, hold.pairs_n))) (omega arith) q)
 
-      module _ (hj : j ≤ 65536) where
-        pair_form : sheet_form (bytes "M" ∷ a ∷ b ∷ []) ≡ m_line a b
-        pair_form = m_is a b (a_number a i ei hi) (a_number b j ej hj)
-
-        pub pair_full : (r : State) (w' : List ℕ) → limit ≤ c.pairs → Refusal 4 n r → AddsPair limit olds news n (a ∷ b ∷ []) c w r w'
-        unfolding AddsPair take_sheet_line
-        pair_full r w' h q old new suite s sets eo en hold =
-            rw pair_form (stop r w' sets 4 n _ (le-leb limit (length s.claims.M) (omega (arith, hold.pairs_n))) q (omega arith))
-
+      module _ (i : ℕ) (ei : i ≡ kept a) (j : ℕ) (ej : j ≡ kept b) where
         module _ (t : Bool) (ho : olds ≤ 512) (hn : news ≤ 512) (room : c.pairs < limit) (et : t ≡ pair_fits olds news i j c) where
           -- The definition's test, by the code's.
           fits_are : (old new : Program) (s : SheetRead) (sets : List ℕ) → olds ≡ node_count old → news ≡ node_count new → Holds w sets c s
@@ -244,37 +236,36 @@ module _ (limit olds news n : ℕ) (a b : Bytes) (c : State) (w : List ℕ) wher
           fits_are old new s sets eo en hold =
               ap₂ (λ (k l : ℕ). going s and none? s.claims.D and none? s.claims.R and ltb (value a) k and ltb (value b) l and pairs_before s.claims.M (value a) (value b)) (sym eo) (sym en)
               ∙ sym (pair_fits_is w sets c s hold olds news a b ho hn)
-              ∙ ap₂ (λ (k l : ℕ). pair_fits olds news k l c) (sym (number_kept a i ei hi)) (sym (number_kept b j ej hj))
+              ∙ ap₂ (λ (k l : ℕ). pair_fits olds news k l c) (sym ei) (sym ej)
               ∙ sym et
 
           few_are : (s : SheetRead) (sets : List ℕ) → Holds w sets c s → leb limit (length s.claims.M) ≡ false
           few_are s sets hold = lt-leb limit (length s.claims.M) (omega (arith, hold.pairs_n))
 
-          pub pair_unfit : (r : State) (w' : List ℕ) → t ≡ false → Refusal 11 n r → AddsPair limit olds news n (a ∷ b ∷ []) c w r w'
+          pub pair_unfit : (e : Refusal) (w' : List ℕ) → t ≡ false → e ≡ wrong n → AddsPair limit olds news n (a ∷ b ∷ []) c w (Err e) w'
           unfolding AddsPair take_sheet_line
-          pair_unfit r w' y q old new suite s sets eo en hold =
-              rw pair_form
-              (go_on r w' sets 4 n _ (few_are s sets hold)
-              (stop r w' sets 11 n _ (true_isnt (fits_are old new s sets eo en hold ∙ y)) q (omega arith)))
+          pair_unfit e w' y q old new suite s sets eo en hold =
+              rw (m_is a b na nb)
+              (go_on (Err e) w' sets 4 n _ (few_are s sets hold)
+              (stop e w' sets SheetWrong n _ (true_isnt (fits_are old new s sets eo en hold ∙ y)) (omega arith) q))
 
-          pair_more : (r : State) (w' : List ℕ) (y : t ≡ true) → pair_base + 3 * limit ≤ length w → Appended w c.pairs i j w' → r ≡ with_pair i j c → AddsPair limit olds news n (a ∷ b ∷ []) c w r w'
+          pair_more : (w' : List ℕ) (y : t ≡ true) → pair_base + 3 * limit ≤ length w → Appended w c.pairs i j w' → AddsPair limit olds news n (a ∷ b ∷ []) c w (Ok (with_pair i j c)) w'
           unfolding AddsPair take_sheet_line
-          pair_more r w' y long ap er old new suite s sets eo en hold =
-              let is : i ≡ value a = omega (arith, number_kept a i ei hi, pair_old olds news i j c t et y) in
-              let js : j ≡ value b = omega (arith, number_kept b j ej hj, pair_new olds news i j c t et y) in
-              rw pair_form
-              (go_on r w' sets 4 n _ (few_are s sets hold)
-              (go_on r w' sets 11 n _ (false_isnt (fits_are old new s sets eo en hold ∙ y))
-              (subst (λ (r : State). After (accepted (add_m (value a) (value b) s)) r w' sets) (sym er)
-              (refl, refl, subst (λ (k : SheetRead). Holds w' sets (with_pair i j c) k) (ap₂ (λ (k l : ℕ). add_m k l s) is js) (held_pair olds news i j c t et y ho hn limit room s w sets w' long ap hold)))))
+          pair_more w' y long ap old new suite s sets eo en hold =
+              let is : i ≡ value a = omega (arith, ei, pair_old olds news i j c t et y) in
+              let js : j ≡ value b = omega (arith, ej, pair_new olds news i j c t et y) in
+              rw (m_is a b na nb)
+              (go_on (Ok (with_pair i j c)) w' sets 4 n _ (few_are s sets hold)
+              (go_on (Ok (with_pair i j c)) w' sets 11 n _ (false_isnt (fits_are old new s sets eo en hold ∙ y))
+              (subst (λ (k : SheetRead). Holds w' sets (with_pair i j c) k) (ap₂ (λ (k l : ℕ). add_m k l s) is js) (held_pair olds news i j c t et y ho hn limit room s w sets w' long ap hold))))
 
-pub pair_added : (bounds : Bounds) (n : ℕ) (a b : Bytes) (c : State) (w : List ℕ) (i : ℕ) → i ≡ number_of a → i ≤ 65536 → (j : ℕ) → j ≡ number_of b → j ≤ 65536 → (t : Bool)
-    → t ≡ pair_fits bounds.olds bounds.news i j c → t ≡ true → (r : State) (w' : List ℕ) → r ≡ with_pair i j c → Appended w c.pairs i j w' → Small c → Bounded bounds → c.pairs < bounds.limit
-    → pair_base + 3 * bounds.limit ≤ length w → AddedPair bounds n (a ∷ b ∷ []) c w r w'
-pair_added bounds n a b c w i ei hi j ej hj t et y r w' er ap h k room long =
+pub pair_added : (bounds : Bounds) (n : ℕ) (a b : Bytes) (c : State) (w : List ℕ) → is_number a ≡ true → is_number b ≡ true → (i : ℕ) → i ≡ kept a → (j : ℕ) → j ≡ kept b → (t : Bool)
+    → t ≡ pair_fits bounds.olds bounds.news i j c → t ≡ true → (w' : List ℕ) → Appended w c.pairs i j w' → Small c → Bounded bounds → c.pairs < bounds.limit
+    → pair_base + 3 * bounds.limit ≤ length w → AddedPair bounds n (a ∷ b ∷ []) c w (Ok (with_pair i j c)) w'
+pair_added bounds n a b c w na nb i ei j ej t et y w' ap h k room long =
     record {
-      adds = pair_more bounds.limit bounds.olds bounds.news n a b c w i ei hi j ej hj t k.few_olds k.few_news room et r w' y long ap er;
-      small = pair_small bounds.olds bounds.news i j c t et y k.few_olds k.few_news bounds.limit room r k.few_pairs h er;
+      adds = pair_more bounds.limit bounds.olds bounds.news n a b c w na nb i ei j ej t k.few_olds k.few_news room et w' y long ap;
+      small = pair_small bounds.olds bounds.news i j c t et y k.few_olds k.few_news bounds.limit room k.few_pairs h;
     }
 
 pub ruleset pairs = (pair_short, pair_fields, pair_first, pair_second, pair_full, pair_unfit, pair_added)
@@ -306,27 +297,24 @@ module _ (sets : List ℕ) (long : 20 ≤ length sets) (l : List ℕ) where
 
 -- ---- `add_edge`
 
-module _ (edges n : ℕ) (e : Bytes) (c : State) (sets : List ℕ) (i : ℕ) (ei : i ≡ number_of e) where
-  pub edge_no : (r : State) (sets' : List ℕ) → 65536 < i → Refusal 2 n r → AddsEdge edges n (e ∷ []) c sets r sets'
+module _ (edges n : ℕ) (e : Bytes) (c : State) (sets : List ℕ) where
+  pub edge_no : (x : Refusal) (sets' : List ℕ) → is_number e ≡ false → x ≡ malformed n → AddsEdge edges n (e ∷ []) c sets (Err x) sets'
   unfolding AddsEdge take_sheet_line
-  edge_no r sets' h q limit old new suite s w eo hold = rw (d_none e (no_number e i ei h)) (q.number_is, q.place_is, omega arith)
+  edge_no x sets' h q limit old new suite s w eo hold = rw (d_none e h) (halt x w sets' LineMalformed n (omega arith) q)
 
-  module _ (hi : i ≤ 65536) (t : Bool) (few : edges ≤ 1024) (et : t ≡ edge_fits edges i c) where
-    edge_form : sheet_form (bytes "D" ∷ e ∷ []) ≡ d_line e
-    edge_form = d_is e (a_number e i ei hi)
-
+  module _ (ne : is_number e ≡ true) (i : ℕ) (ei : i ≡ kept e) (t : Bool) (few : edges ≤ 1024) (et : t ≡ edge_fits edges i c) where
     -- The definition's test, by the code's.
     edge_are : (old : Program) (s : SheetRead) (w : List ℕ) → edges ≡ edge_count old → Holds w sets c s
         → (going s and none? s.claims.R and ltb (value e) (edge_count old) and all_below s.claims.D (value e)) ≡ t
     edge_are old s w eo hold =
         ap (λ (k : ℕ). going s and none? s.claims.R and ltb (value e) k and all_below s.claims.D (value e)) (sym eo)
         ∙ sym (edge_fits_is w sets c s hold edges e few)
-        ∙ ap (λ (k : ℕ). edge_fits edges k c) (sym (number_kept e i ei hi))
+        ∙ ap (λ (k : ℕ). edge_fits edges k c) (sym ei)
         ∙ sym et
 
-    pub edge_unfit : (r : State) (sets' : List ℕ) → t ≡ false → Refusal 11 n r → AddsEdge edges n (e ∷ []) c sets r sets'
+    pub edge_unfit : (x : Refusal) (sets' : List ℕ) → t ≡ false → x ≡ wrong n → AddsEdge edges n (e ∷ []) c sets (Err x) sets'
     unfolding AddsEdge take_sheet_line
-    edge_unfit r sets' y q limit old new suite s w eo hold = rw edge_form (stop r w sets' 11 n _ (true_isnt (edge_are old s w eo hold ∙ y)) q (omega arith))
+    edge_unfit x sets' y q limit old new suite s w eo hold = rw (d_is e ne) (stop x w sets' SheetWrong n _ (true_isnt (edge_are old s w eo hold ∙ y)) (omega arith) q)
 
     module _ (y : t ≡ true) where
       edge_in : i < edges
@@ -345,19 +333,7 @@ module _ (edges n : ℕ) (e : Bytes) (c : State) (sets : List ℕ) (i : ℕ) (ei
 
       -- The state with the edge more.
       abbrev with_edge : State
-      with_edge =
-          record {
-            number = 0;
-            place = 0;
-            opened = c.opened;
-            shut = c.shut;
-            pairs = c.pairs;
-            edges = c.edges + 1;
-            tests = c.tests;
-            pair = c.pair;
-            edge = i + 1;
-            test = c.test;
-          }
+      with_edge = record c { edges = c.edges + 1; edge = i + 1 }
 
       held_edge : (s : SheetRead) (w : List ℕ) → 20 ≤ length sets → Holds w sets c s → Holds w (with_bit sets i) with_edge (add_d i s)
       held_edge s w long hold =
@@ -378,17 +354,14 @@ module _ (edges n : ℕ) (e : Bytes) (c : State) (sets : List ℕ) (i : ℕ) (ei
             };
           }
 
-      pub edge_more : (sets' : List ℕ) → 20 ≤ length sets → sets' ≡ with_bit sets i → AddsEdge edges n (e ∷ []) c sets with_edge sets'
+      pub edge_more : (sets' : List ℕ) → 20 ≤ length sets → sets' ≡ with_bit sets i → AddsEdge edges n (e ∷ []) c sets (Ok with_edge) sets'
       unfolding AddsEdge take_sheet_line
       edge_more sets' long es limit old new suite s w eo hold =
-          let is : i ≡ value e = omega (arith, number_kept e i ei hi, edge_in) in
-          rw edge_form
-          (go_on with_edge w sets' 11 n _ (false_isnt (edge_are old s w eo hold ∙ y)) (
-            refl,
-            refl,
-            subst (λ (k : List ℕ). Holds w k with_edge (add_d (value e) s)) (sym es)
-                (subst (λ (k : ℕ). Holds w (with_bit sets i) with_edge (add_d k s)) is (held_edge s w long hold)),
-          ))
+          let is : i ≡ value e = omega (arith, ei, edge_in) in
+          rw (d_is e ne)
+          (go_on (Ok with_edge) w sets' 11 n _ (false_isnt (edge_are old s w eo hold ∙ y))
+          (subst (λ (k : List ℕ). Holds w k with_edge (add_d (value e) s)) (sym es)
+          (subst (λ (k : ℕ). Holds w (with_bit sets i) with_edge (add_d k s)) is (held_edge s w long hold))))
 
       pub edge_small : Small c → Small with_edge
       edge_small h =
@@ -405,130 +378,119 @@ pub ruleset edges = (edge_no, edge_unfit, edge_count_lem, edge_next, edge_more, 
 
 -- ---- `add_test`
 
-found_none : (o : Option ℕ) (t : ℕ) → t ≡ found o → t < 1 → o ≡ none
-found_none none t e h = refl
-found_none (some i) t e h = absurd (let z : ⊥ = omega arith in z)
+found_none : (o : Option ℕ) → 0 ≡ found o → o ≡ none
+found_none none e = refl
+found_none (some i) e = absurd (let z : ⊥ = omega arith in z)
 
-found_some : (o : Option ℕ) (t : ℕ) → t ≡ found o → 1 ≤ t → o ≡ some (t - 1)
-found_some none t e h = absurd (let z : ⊥ = omega arith in z)
-found_some (some i) t e h = let q : i ≡ t - 1 = omega arith in ap {B = Option ℕ} some q
+found_some : (o : Option ℕ) (t : ℕ) → suc t ≡ found o → o ≡ some t
+found_some none t e = absurd (let z : ⊥ = omega arith in z)
+found_some (some i) t e = let q : i ≡ t = omega arith in ap {B = Option ℕ} some q
 
-module _ (tt : Bytes) (table : List ℕ) (count : ℕ) (name : Bytes) (k t : ℕ) (et : t ≡ test_from tt table k count name) where
+module _ (tt : Bytes) (table : List ℕ) (count : ℕ) (name : Bytes) (k : ℕ) where
   -- Where none is found, no test from k on has the name.
-  none_from : t < 1 → (i : ℕ) → i < count → k ≤ i → same (name_at tt table i) name ≡ true → ⊥
+  none_from : 0 ≡ test_from tt table k count name → (i : ℕ) → i < count → k ≤ i → same (name_at tt table i) name ≡ true → ⊥
   unfolding test_from
-  none_from h i l a e =
-      first_none (sought tt table k name) count (found_none (first count (sought tt table k name)) t et h) i l (and_both (le-leb k i a) e)
+  none_from e i l a y =
+      first_none (sought tt table k name) count (found_none (first count (sought tt table k name)) e) i l (and_both (le-leb k i a) y)
 
-  module _ (some_test : 1 ≤ t) where
-    found_at : (t - 1 < count) × (sought tt table k name (t - 1) ≡ true)
+  module _ (t : ℕ) (et : suc t ≡ test_from tt table k count name) where
+    found_at : (t < count) × (sought tt table k name t ≡ true)
     unfolding test_from
-    found_at = first_at (sought tt table k name) count (t - 1) (found_some (first count (sought tt table k name)) t et some_test)
+    found_at = first_at (sought tt table k name) count t (found_some (first count (sought tt table k name)) t et)
 
-    found_from : k ≤ t - 1
-    found_from = leb-true k (t - 1) (and_left _ _ found_at.1)
+    found_from : k ≤ t
+    found_from = leb-true k t (and_left _ _ found_at.1)
 
     -- The test that is found is the only one of the name.
-    found_only : (olds news edges : ℕ) (old new : Program) (suite : Suite) → For olds news edges tt table count old new suite → test_of suite name ≡ some (t - 1)
+    found_only : (olds news edges : ℕ) (old new : Program) (suite : Suite) → For olds news edges tt table count old new suite → test_of suite name ≡ some t
     unfolding test_of
     found_only olds news edges old new suite for =
-        let low : t - 1 < test_count suite = omega (arith, found_at.0, for.counted) in
-        let here : same (test_name suite (t - 1)) name ≡ true = ap (λ (x : Bytes). same x name) (sym (for.names (t - 1) low)) ∙ and_right _ _ found_at.1 in
-        first_only (λ i. same (test_name suite i) name) (test_count suite) (t - 1) low here
-        (λ j l e. for.differ (t - 1) j low l (same_true (test_name suite j) name e ∙ sym (same_true (test_name suite (t - 1)) name here)))
+        let low : t < test_count suite = omega (arith, found_at.0, for.counted) in
+        let here : same (test_name suite t) name ≡ true = ap (λ (x : Bytes). same x name) (sym (for.names t low)) ∙ and_right _ _ found_at.1 in
+        first_only (λ i. same (test_name suite i) name) (test_count suite) t low here
+        (λ j l e. for.differ t j low l (same_true (test_name suite j) name e ∙ sym (same_true (test_name suite t) name here)))
 
-    pub test_bit : count ≤ 200 → 1023 + t < 18446744073709551616
+    pub test_bit : count ≤ 200 → 1024 + t < 18446744073709551616
     test_bit few = omega (arith, found_at.0)
 
-pub test_no : (tt : Bytes) (table : List ℕ) (count n : ℕ) (name : Bytes) (c : State) (sets : List ℕ) (u : Bool) (r : State) (sets' : List ℕ) → u ≡ is_name name → u ≡ false → Refusal 2 n r
-    → AddsTest tt table count n (name ∷ []) c sets r sets'
-unfolding AddsTest take_sheet_line
-test_no tt table count n name c sets u r sets' e y q limit olds news edges old new suite s w for hold = rw (r_none name (sym e ∙ y)) (q.number_is, q.place_is, omega arith)
+    pub test_next : count ≤ 200 → t + 1 < 18446744073709551616
+    test_next few = omega (arith, found_at.0)
 
-module _ (tt : Bytes) (table : List ℕ) (count n : ℕ) (name : Bytes) (c : State) (sets : List ℕ) (u : Bool) (eu : u ≡ is_name name) (yu : u ≡ true) (t : ℕ) (et : t ≡ test_from tt table c.test count name) where
+pub test_no : (tt : Bytes) (table : List ℕ) (count n : ℕ) (name : Bytes) (c : State) (sets : List ℕ) (u : Bool) (e : Refusal) (sets' : List ℕ) → u ≡ is_name name → u ≡ false → e ≡ malformed n
+    → AddsTest tt table count n (name ∷ []) c sets (Err e) sets'
+unfolding AddsTest take_sheet_line
+test_no tt table count n name c sets u e sets' eu y q limit olds news edges old new suite s w for hold = rw (r_none name (sym eu ∙ y)) (halt e w sets' LineMalformed n (omega arith) q)
+
+module _ (tt : Bytes) (table : List ℕ) (count n : ℕ) (name : Bytes) (c : State) (sets : List ℕ) (u : Bool) (eu : u ≡ is_name name) (yu : u ≡ true) where
   test_form : sheet_form (bytes "R" ∷ name ∷ []) ≡ r_line name
   test_form = r_is name (sym eu ∙ yu)
 
-  pub test_unknown : (r : State) (sets' : List ℕ) → t < 1 → Refusal 11 n r → AddsTest tt table count n (name ∷ []) c sets r sets'
+  pub test_unknown : (e : Refusal) (sets' : List ℕ) → 0 ≡ test_from tt table c.test count name → e ≡ wrong n → AddsTest tt table count n (name ∷ []) c sets (Err e) sets'
   unfolding AddsTest take_sheet_line test_of UpTo
-  test_unknown r sets' h q limit olds news edges old new suite s w for hold = rw test_form (go (test_of suite name) refl)
+  test_unknown e sets' h q limit olds news edges old new suite s w for hold = rw test_form (go (test_of suite name) refl)
     where
-      go : (o : Option ℕ) → test_of suite name ≡ o → After (take_sheet_line limit old new suite n s (r_line name)) r w sets'
-      go none e = rw e (q.number_is, q.place_is, omega arith)
-      go (some i) e =
-          let f = first_at (λ i. same (test_name suite i) name) (test_count suite) i e in
+      go : (o : Option ℕ) → test_of suite name ≡ o → After (take_sheet_line limit old new suite n s (r_line name)) (Err e) w sets'
+      go none z = rw z (halt e w sets' SheetWrong n (omega arith) q)
+      go (some i) z =
+          let f = first_at (λ i. same (test_name suite i) name) (test_count suite) i z in
           let early : leb c.test i ≡ false =
           fails _
-          (λ y. none_from tt table count name c.test t et h i (omega (arith, f.0, for.counted)) (leb-true c.test i y)
+          (λ y. none_from tt table count name c.test h i (omega (arith, f.0, for.counted)) (leb-true c.test i y)
           (ap (λ (x : Bytes). same x name) (for.names i f.0) ∙ f.1)) in
-          rw e
-          (stop r w sets' 11 n _ (true_isnt (ap (λ (b : Bool). going s and b) (hold.test_next i ∙ early) ∙ and_not (going s))) q (omega arith))
+          rw z
+          (stop e w sets' SheetWrong n _ (true_isnt (ap (λ (b : Bool). going s and b) (hold.test_next i ∙ early) ∙ and_not (going s))) (omega arith) q)
 
-  module _ (f : Bool) (some_test : 1 ≤ t) (ef : f ≡ underway c) where
-    test_behind : c.test ≤ t - 1
-    test_behind = found_from tt table count name c.test t et some_test
+  module _ (t : ℕ) (et : suc t ≡ test_from tt table c.test count name) (f : Bool) (ef : f ≡ underway c) where
+    test_behind : c.test ≤ t
+    test_behind = found_from tt table count name c.test t et
 
     -- The definition's test, by the code's.
-    test_are : (s : SheetRead) (w : List ℕ) → Holds w sets c s → (going s and all_below s.claims.R (t - 1)) ≡ f
+    test_are : (s : SheetRead) (w : List ℕ) → Holds w sets c s → (going s and all_below s.claims.R t) ≡ f
     test_are s w hold =
-        sym (test_fits_is w sets c s hold (t - 1))
-        ∙ ap (λ (b : Bool). underway c and b) (le-leb c.test (t - 1) test_behind)
+        sym (test_fits_is w sets c s hold t)
+        ∙ ap (λ (b : Bool). underway c and b) (le-leb c.test t test_behind)
         ∙ and_ends (underway c)
         ∙ sym ef
 
-    pub test_unfit : (r : State) (sets' : List ℕ) → f ≡ false → Refusal 11 n r → AddsTest tt table count n (name ∷ []) c sets r sets'
+    pub test_unfit : (e : Refusal) (sets' : List ℕ) → f ≡ false → e ≡ wrong n → AddsTest tt table count n (name ∷ []) c sets (Err e) sets'
     unfolding AddsTest take_sheet_line
-    test_unfit r sets' y q limit olds news edges old new suite s w for hold =
-        rw (test_form, found_only tt table count name c.test t et some_test olds news edges old new suite for)
-        (stop r w sets' 11 n _ (true_isnt (test_are s w hold ∙ y)) q (omega arith))
+    test_unfit e sets' y q limit olds news edges old new suite s w for hold =
+        rw (test_form, found_only tt table count name c.test t et olds news edges old new suite for)
+        (stop e w sets' SheetWrong n _ (true_isnt (test_are s w hold ∙ y)) (omega arith) q)
 
     module _ (few : count ≤ 200) where
-      test_in : t - 1 < 200
-      test_in = omega (arith, (found_at tt table count name c.test t et some_test).0)
+      test_in : t < 200
+      test_in = omega (arith, (found_at tt table count name c.test t et).0)
 
       -- The state with the test more.
       abbrev with_test : State
-      with_test =
-          record {
-            number = 0;
-            place = 0;
-            opened = c.opened;
-            shut = c.shut;
-            pairs = c.pairs;
-            edges = c.edges;
-            tests = c.tests + 1;
-            pair = c.pair;
-            edge = c.edge;
-            test = t;
-          }
+      with_test = record c { tests = c.tests + 1; test = t + 1 }
 
-      held_test : (s : SheetRead) (w : List ℕ) → 20 ≤ length sets → Holds w sets c s → Holds w (with_bit sets (1024 + (t - 1))) with_test (add_r (t - 1) s)
+      held_test : (s : SheetRead) (w : List ℕ) → 20 ≤ length sets → Holds w sets c s → Holds w (with_bit sets (1024 + t)) with_test (add_r t s)
       held_test s w long hold =
-          let q : t - 1 + 1 ≡ t = omega arith in
           record {
             opened_is = hold.opened_is;
             shut_is = hold.shut_is;
             pairs_n = hold.pairs_n;
             edges_n = hold.edges_n;
-            tests_n = omega (arith, hold.tests_n, snoc_length 0 s.claims.R (t - 1));
+            tests_n = omega (arith, hold.tests_n, snoc_length 0 s.claims.R t);
             pair_next = hold.pair_next;
             edge_next = hold.edge_next;
-            test_next = subst (λ (k : ℕ). UpTo (s.claims.R ++ ((t - 1) ∷ [])) k) q (up_more s.claims.R c.test (t - 1) hold.test_next test_behind);
+            test_next = up_more s.claims.R c.test t hold.test_next test_behind;
             held = record {
               store = hold.held.store;
               pairs_are = hold.held.pairs_are;
-              edges_are = bit_edge_kept sets long s.claims.D (t - 1) test_in hold.held.edges_are;
-              tests_are = bit_test sets long s.claims.R (t - 1) test_in hold.held.tests_are;
+              edges_are = bit_edge_kept sets long s.claims.D t test_in hold.held.edges_are;
+              tests_are = bit_test sets long s.claims.R t test_in hold.held.tests_are;
             };
           }
 
-      pub test_more : (sets' : List ℕ) → f ≡ true → 20 ≤ length sets → sets' ≡ with_bit sets (1023 + t) → AddsTest tt table count n (name ∷ []) c sets with_test sets'
+      pub test_more : (sets' : List ℕ) → f ≡ true → 20 ≤ length sets → sets' ≡ with_bit sets (1024 + t) → AddsTest tt table count n (name ∷ []) c sets (Ok with_test) sets'
       unfolding AddsTest take_sheet_line
       test_more sets' y long es limit olds news edges old new suite s w for hold =
-          let q : 1024 + (t - 1) ≡ 1023 + t = omega arith in
-          rw (test_form, found_only tt table count name c.test t et some_test olds news edges old new suite for)
-          (go_on with_test w sets' 11 n _ (false_isnt (test_are s w hold ∙ y))
-          (refl, refl, subst (λ (k : List ℕ). Holds w k with_test (add_r (t - 1) s)) (ap (with_bit sets) q ∙ sym es) (held_test s w long hold)))
+          rw (test_form, found_only tt table count name c.test t et olds news edges old new suite for)
+          (go_on (Ok with_test) w sets' 11 n _ (false_isnt (test_are s w hold ∙ y))
+          (subst (λ (k : List ℕ). Holds w k with_test (add_r t s)) (sym es) (held_test s w long hold)))
 
       pub test_small : Small c → Small with_test
       test_small h =
@@ -544,24 +506,24 @@ module _ (tt : Bytes) (table : List ℕ) (count n : ℕ) (name : Bytes) (c : Sta
 pub test_count_lem : (c : State) → Small c → c.tests + 1 < 18446744073709551616
 test_count_lem c h = omega (arith, h.few_tests, h.low_test)
 
-pub ruleset tests = (test_no, test_bit, test_unknown, test_unfit, test_more, test_small, test_count_lem)
+pub ruleset tests = (test_no, test_bit, test_next, test_unknown, test_unfit, test_more, test_small, test_count_lem)
 
 -- ---- `end_line`
 
 module _ (n : ℕ) (s a : Bytes) (c : State) (ea : a ≡ take (span 44 s) s) where
-  pub end_first : (r : State) → length s ≤ length a → Refusal 2 n r → Ends n (split 44 s) c r
+  pub end_first : (e : Refusal) → length s ≤ length a → e ≡ malformed n → Ends n (split 44 s) c (Err e)
   unfolding Ends take_sheet_line
-  end_first r h q limit old new suite k w sets hold =
-      rw (ap (λ (ps : List Bytes). sheet_form (bytes "end" ∷ ps)) (first_last 44 s a ea h) ∙ end_one s) (q.number_is, q.place_is, omega arith)
+  end_first e h q limit old new suite k w sets hold =
+      rw (ap (λ (ps : List Bytes). sheet_form (bytes "end" ∷ ps)) (first_last 44 s a ea h) ∙ end_one s) (halt e w sets LineMalformed n (omega arith) q)
 
   module _ (m b : Bytes) (h : length a < length s) (em : m ≡ drop (length a + 1) s) (eb : b ≡ take (span 44 m) m) where
-    pub end_second : (r : State) → length m ≤ length b → Refusal 2 n r → Ends n (split 44 s) c r
+    pub end_second : (e : Refusal) → length m ≤ length b → e ≡ malformed n → Ends n (split 44 s) c (Err e)
     unfolding Ends take_sheet_line
-    end_second r l q limit old new suite k w sets hold =
+    end_second e l q limit old new suite k w sets hold =
         rw (ap (λ (ps : List Bytes). sheet_form (bytes "end" ∷ ps)) (first_more 44 s a ea m h em ∙ ap (λ (ps : List Bytes). a ∷ ps) (first_last 44 m b eb l)) ∙ end_two a m)
-        (q.number_is, q.place_is, omega arith)
+        (halt e w sets LineMalformed n (omega arith) q)
 
-    pub end_fields : (d : Bytes) (r : State) → length b < length m → d ≡ drop (length b + 1) m → Ends n (a ∷ b ∷ d ∷ []) c r → Ends n (split 44 s) c r
+    pub end_fields : (d : Bytes) (r : Result State Refusal) → length b < length m → d ≡ drop (length b + 1) m → Ends n (a ∷ b ∷ d ∷ []) c r → Ends n (split 44 s) c r
     unfolding Ends
     end_fields d r l ed q limit old new suite k w sets hold =
         rw (ap (λ (ps : List Bytes). sheet_form (bytes "end" ∷ ps)) (first_more 44 s a ea m h em ∙ ap (λ (ps : List Bytes). a ∷ ps) (first_more 44 m b eb d l ed)) ∙ end_whole a b d)
@@ -571,76 +533,73 @@ module _ (n : ℕ) (s a : Bytes) (c : State) (ea : a ≡ take (span 44 s) s) whe
 
 module _ (n : ℕ) (a b d : Bytes) (c : State) where
   -- A field is no number.
-  end_no : (r : State) → (is_number a and is_number b and is_number d) ≡ false → Refusal 2 n r → Ends n (a ∷ b ∷ d ∷ []) c r
+  end_no : (e : Refusal) → (is_number a and is_number b and is_number d) ≡ false → e ≡ malformed n → Ends n (a ∷ b ∷ d ∷ []) c (Err e)
   unfolding Ends take_sheet_line
-  end_no r e q limit old new suite s w sets hold = rw (end_none a b d e) (q.number_is, q.place_is, omega arith)
+  end_no e y q limit old new suite s w sets hold = rw (end_none a b d y) (halt e w sets LineMalformed n (omega arith) q)
 
-  module _ (i : ℕ) (ei : i ≡ number_of a) where
-    pub end_pairs : (r : State) → 65536 < i → Refusal 2 n r → Ends n (a ∷ b ∷ d ∷ []) c r
+  pub end_pairs : (e : Refusal) → is_number a ≡ false → e ≡ malformed n → Ends n (a ∷ b ∷ d ∷ []) c (Err e)
+  unfolding ◌and◌
+  end_pairs e y q = end_no e (simp y) q
+
+  module _ (na : is_number a ≡ true) where
+    pub end_edges : (e : Refusal) → is_number b ≡ false → e ≡ malformed n → Ends n (a ∷ b ∷ d ∷ []) c (Err e)
     unfolding ◌and◌
-    end_pairs r h q = end_no r (simp (no_number a i ei h)) q
+    end_edges e y q = end_no e (simp (na, y)) q
 
-    module _ (hi : i ≤ 65536) (j : ℕ) (ej : j ≡ number_of b) where
-      pub end_edges : (r : State) → 65536 < j → Refusal 2 n r → Ends n (a ∷ b ∷ d ∷ []) c r
+    module _ (nb : is_number b ≡ true) where
+      pub end_tests : (e : Refusal) → is_number d ≡ false → e ≡ malformed n → Ends n (a ∷ b ∷ d ∷ []) c (Err e)
       unfolding ◌and◌
-      end_edges r h q = end_no r (simp (a_number a i ei hi, no_number b j ej h)) q
+      end_tests e y q = end_no e (simp (na, nb, y)) q
 
-      module _ (hj : j ≤ 65536) (k : ℕ) (ek : k ≡ number_of d) where
-        pub end_tests : (r : State) → 65536 < k → Refusal 2 n r → Ends n (a ∷ b ∷ d ∷ []) c r
-        unfolding ◌and◌
-        end_tests r h q = end_no r (simp (a_number a i ei hi, a_number b j ej hj, no_number d k ek h)) q
+      module _ (nd : is_number d ≡ true) (i : ℕ) (ei : i ≡ kept a) (j : ℕ) (ej : j ≡ kept b) (k : ℕ) (ek : k ≡ kept d) (t : Bool) (small : Small c) (et : t ≡ end_fits i j k c) where
+        -- The definition's test, by the code's.
+        end_are : (s : SheetRead) (w sets : List ℕ) → Holds w sets c s
+            → (going s and eqb (value a) (length s.claims.M) and eqb (value b) (length s.claims.D) and eqb (value d) (length s.claims.R)) ≡ t
+        end_are s w sets hold =
+            sym (end_fits_is w sets c s hold a b d small)
+            ∙ ap₂ (λ (x y : ℕ). end_fits x y (kept d) c) (sym ei) (sym ej)
+            ∙ ap (λ (x : ℕ). end_fits i j x c) (sym ek)
+            ∙ sym et
 
-        module _ (hk : k ≤ 65536) (t : Bool) (small : Small c) (et : t ≡ end_fits i j k c) where
-          end_form : sheet_form (bytes "end" ∷ a ∷ b ∷ d ∷ []) ≡ end_line a b d
-          end_form = end_is a b d (a_number a i ei hi) (a_number b j ej hj) (a_number d k ek hk)
+        pub end_unfit : (e : Refusal) → t ≡ false → e ≡ wrong n → Ends n (a ∷ b ∷ d ∷ []) c (Err e)
+        unfolding Ends take_sheet_line
+        end_unfit e y q limit old new suite s w sets hold = rw (end_is a b d na nb nd) (stop e w sets SheetWrong n _ (true_isnt (end_are s w sets hold ∙ y)) (omega arith) q)
 
-          -- The definition's test, by the code's.
-          end_are : (s : SheetRead) (w sets : List ℕ) → Holds w sets c s
-              → (going s and eqb (value a) (length s.claims.M) and eqb (value b) (length s.claims.D) and eqb (value d) (length s.claims.R)) ≡ t
-          end_are s w sets hold =
-              sym (end_fits_is w sets c s hold a b d small)
-              ∙ ap₂ (λ (x y : ℕ). end_fits x y (kept d) c) (sym (number_kept a i ei hi)) (sym (number_kept b j ej hj))
-              ∙ ap (λ (x : ℕ). end_fits i j x c) (sym (number_kept d k ek hk))
-              ∙ sym et
+        -- The state with the last line more.
+        abbrev with_end : State
+        with_end = record c { stage = Ended }
 
-          pub end_unfit : (r : State) → t ≡ false → Refusal 11 n r → Ends n (a ∷ b ∷ d ∷ []) c r
-          unfolding Ends take_sheet_line
-          end_unfit r y q limit old new suite s w sets hold = rw end_form (stop r w sets 11 n _ (true_isnt (end_are s w sets hold ∙ y)) q (omega arith))
+        -- The first line was read.
+        begun : t ≡ true → opened c.stage ≡ true
+        unfolding end_fits underway
+        begun y = and_left _ _ (and_left _ _ (sym et ∙ y))
 
-          -- The state with the last line more.
-          abbrev with_end : State
-          with_end =
-              record { number = 0; place = 0; opened = c.opened; shut = true; pairs = c.pairs; edges = c.edges; tests = c.tests; pair = c.pair; edge = c.edge; test = c.test }
+        pub end_last : t ≡ true → Ends n (a ∷ b ∷ d ∷ []) c (Ok with_end)
+        unfolding Ends take_sheet_line
+        end_last y limit old new suite s w sets hold =
+            rw (end_is a b d na nb nd)
+            (go_on (Ok with_end) w sets 11 n _ (false_isnt (end_are s w sets hold ∙ y))
+            (record {
+              opened_is = sym (begun y) ∙ hold.opened_is;
+              shut_is = refl;
+              pairs_n = hold.pairs_n;
+              edges_n = hold.edges_n;
+              tests_n = hold.tests_n;
+              pair_next = hold.pair_next;
+              edge_next = hold.edge_next;
+              test_next = hold.test_next;
+              held = hold.held;
+            }))
 
-          pub end_last : t ≡ true → Ends n (a ∷ b ∷ d ∷ []) c with_end
-          unfolding Ends take_sheet_line
-          end_last y limit old new suite s w sets hold =
-              rw end_form
-              (go_on with_end w sets 11 n _ (false_isnt (end_are s w sets hold ∙ y)) (
-                refl,
-                refl,
-                record {
-                  opened_is = hold.opened_is;
-                  shut_is = refl;
-                  pairs_n = hold.pairs_n;
-                  edges_n = hold.edges_n;
-                  tests_n = hold.tests_n;
-                  pair_next = hold.pair_next;
-                  edge_next = hold.edge_next;
-                  test_next = hold.test_next;
-                  held = hold.held;
-                },
-              ))
-
-          pub end_small : Small with_end
-          end_small =
-              record {
-                few_pairs = small.few_pairs;
-                low_pair = small.low_pair;
-                few_edges = small.few_edges;
-                low_edge = small.low_edge;
-                few_tests = small.few_tests;
-                low_test = small.low_test;
-              }
+        pub end_small : Small with_end
+        end_small =
+            record {
+              few_pairs = small.few_pairs;
+              low_pair = small.low_pair;
+              few_edges = small.few_edges;
+              low_edge = small.low_edge;
+              few_tests = small.few_tests;
+              low_test = small.low_test;
+            }
 
 pub ruleset ends = (end_first, end_second, end_fields, end_pairs, end_edges, end_tests, end_unfit, end_last, end_small)

@@ -1,5 +1,5 @@
 -- What the reader of sheets promises: its answer is the definition's, and the tables hold the claims of an accepted sheet.
-use Rattle.std.specs.Prelude.{◌≡◌, List, ℕ, ◌+◌, ◌<◌}
+use Rattle.std.specs.Prelude.{◌≡◌, List, ℕ, ◌+◌, ◌<◌, Result, Ok, Err}
 use Rattle.laws.specs.Tests.{has}
 use Rattle.laws.specs.Bits.{bit_in}
 use Rattle.rules.specs.Text.{Reading, Bytes, accepted, refused}
@@ -8,7 +8,8 @@ use Rattle.rules.specs.SuiteFile.{Suite, test_count, test_name}
 use Rattle.rules.specs.Sheet.{Sheet, read_sheet}
 use Rattle.pairset.specs.Store.{Store, pairs_in}
 use Rattle.suite.specs.Reading.{name_at}
-use Rattle.sheet_reader.specs.declared.SheetRead.{SheetRead}
+use Rattle.answer.specs.declared.Refusal.{Refusal}
+use Rattle.answer.specs.Refusals.{number_in, place_in}
 
 -- The programs and the suite that a sheet is read for: so many old and new nodes, old edges and tests, and the names that the table gives in the text of the tests, no name
 -- twice.
@@ -27,12 +28,13 @@ pub record ClaimsHeld (w sets : List ℕ) (m : ℕ) (s : Sheet) : Type 0 where
   pub edges_are : (e : ℕ) → e < 1024 → bit_in sets e ≡ has s.D e
   pub tests_are : (i : ℕ) → i < 200 → bit_in sets (1024 + i) ≡ has s.R i
 
--- An answer against the definition's. What the tables hold after a refusal is left open.
-abbrev pub Told : Reading Sheet → SheetRead → List ℕ → List ℕ → Type 0
-Told (refused k p) r w sets = (r.number ≡ k) × (r.place ≡ p) × (0 < k)
-Told (accepted s) r w sets = (r.number ≡ 0) × (r.place ≡ 0) × ClaimsHeld w sets r.pairs s
+-- An answer, how many pairs there are or a refusal, against the definition's. What the tables hold after a refusal is left open.
+abbrev pub Told : Reading Sheet → Result ℕ Refusal → List ℕ → List ℕ → Type 0
+Told (refused k p) r w sets = (number_in r ≡ k) × (place_in r ≡ p) × (0 < k)
+Told (accepted s) (Ok m) w sets = ClaimsHeld w sets m s
+Told (accepted s) (Err e) w sets = ⊥
 
 -- `read_sheet`: whatever programs and suite have these counts and names, the answer is the definition's, of a sheet of at most `limit` pairs.
-unfoldable pub Reads : ℕ → ℕ → ℕ → ℕ → Bytes → List ℕ → ℕ → Bytes → SheetRead → List ℕ → List ℕ → Type 0
+unfoldable pub Reads : ℕ → ℕ → ℕ → ℕ → Bytes → List ℕ → ℕ → Bytes → Result ℕ Refusal → List ℕ → List ℕ → Type 0
 Reads limit olds news edges tt table count sheet r w sets =
     (old new : Program) (suite : Suite) → For olds news edges tt table count old new suite → Told (read_sheet limit old new suite sheet) r w sets

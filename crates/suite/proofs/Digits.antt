@@ -19,6 +19,7 @@ use Rattle.laws.specs.Bits.{odd_plus, word_of}
 use Rattle.rules.specs.Text.{Bytes, all_bytes, between}
 use Rattle.rules.specs.SuiteFile.{bits_of, hex_byte, hex_value}
 use Rattle.laws.specs.Digits.{itself, number}
+use Rattle.std.specs.Int.{w64, from_le_bytes}
 use Rattle.suite.specs.Tables.{turn}
 use Rattle.suite.proofs.Laws.{all_drop, digit_before, digits_part}
 
@@ -196,26 +197,6 @@ four_room x = omega (arith, and_le_r x 1095216660735, and_le_r x 717761190779289
 pub all_room : (x : ℕ) → four x % 65536 + four x / 65536 < 2 ^ 64
 all_room x = omega (arith, four_room x)
 
-module _ (a b c d e f g h : ℕ) where
-  pub join_is : a + b * 256 + c * 65536 + d * 16777216 + (e + f * 256 + g * 65536 + h * 16777216) * 4294967296 ≡ number 256 itself (a ∷ b ∷ c ∷ d ∷ e ∷ f ∷ g ∷ h ∷ [])
-  unfolding number
-  join_is = omega arith
-
-  pub eight_is : (x : ℕ) → all_bytes hex_byte (a ∷ b ∷ c ∷ d ∷ e ∷ f ∷ g ∷ h ∷ []) ≡ true → x ≡ number 256 itself (a ∷ b ∷ c ∷ d ∷ e ∷ f ∷ g ∷ h ∷ [])
-      → four (two (one x)) % 65536 + four (two (one x)) / 65536 ≡ number 16 hex_value (a ∷ b ∷ c ∷ d ∷ e ∷ f ∷ g ∷ h ∷ [])
-  unfolding number all_bytes
-  eight_is x hex q =
-      let r1 = and_right _ _ hex in
-      let r2 = and_right _ _ r1 in
-      let r3 = and_right _ _ r2 in
-      let r4 = and_right _ _ r3 in
-      let r5 = and_right _ _ r4 in
-      let r6 = and_right _ _ r5 in
-      let r7 = and_right _ _ r6 in
-      let bytes : one x ≡ in_bytes (hex_value a) (hex_value b) (hex_value c) (hex_value d) (hex_value e) (hex_value f) (hex_value g) (hex_value h) = omega (arith, ap one q, one_is (a ∷ b ∷ c ∷ d ∷ e ∷ f ∷ g ∷ h ∷ []) (omega arith) hex) in
-      omega
-      (arith, all_is (hex_value a) (hex_value b) (hex_value c) (hex_value d) (hex_value e) (hex_value f) (hex_value g) (hex_value h) (value_small a (and_left _ _ hex)) (value_small b (and_left _ _ r1)) (value_small c (and_left _ _ r2)) (value_small d (and_left _ _ r3)) (value_small e (and_left _ _ r4)) (value_small f (and_left _ _ r5)) (value_small g (and_left _ _ r6)) (value_small h (and_left _ _ r7)) (one x) bytes)
-
 number_most : (n : ℕ) (s : Bytes) → length s ≤ n → all_bytes hex_byte s ≡ true → number 16 hex_value s ≤ rep 16 15 n
 unfolding number rep all_bytes
 number_most n [] l e = omega arith
@@ -257,6 +238,39 @@ drop_eight s i h =
     let four : drop (i + 4) s ≡ get_or s (i + 4) 0 ∷ get_or s (i + 5) 0 ∷ get_or s (i + 6) 0 ∷ get_or s (i + 7) 0 ∷ drop (i + 8) s =
     simp (add_assoc i 4 1, add_assoc i 4 2, add_assoc i 4 3, add_assoc i 4 4) at (drop_four s (i + 4) 0 (omega arith)) in
     drop_four s i 0 (omega arith) ∙ ap (λ (r : Bytes). get_or s i 0 ∷ get_or s (i + 1) 0 ∷ get_or s (i + 2) 0 ∷ get_or s (i + 3) 0 ∷ r) four
+
+module _ (a b c d e f g h : ℕ) where
+  eight_from : (x : ℕ) → all_bytes hex_byte (a ∷ b ∷ c ∷ d ∷ e ∷ f ∷ g ∷ h ∷ []) ≡ true → x ≡ number 256 itself (a ∷ b ∷ c ∷ d ∷ e ∷ f ∷ g ∷ h ∷ [])
+      → four (two (one x)) % 65536 + four (two (one x)) / 65536 ≡ number 16 hex_value (a ∷ b ∷ c ∷ d ∷ e ∷ f ∷ g ∷ h ∷ [])
+  unfolding number all_bytes
+  eight_from x hex q =
+      let r1 = and_right _ _ hex in
+      let r2 = and_right _ _ r1 in
+      let r3 = and_right _ _ r2 in
+      let r4 = and_right _ _ r3 in
+      let r5 = and_right _ _ r4 in
+      let r6 = and_right _ _ r5 in
+      let r7 = and_right _ _ r6 in
+      let bytes : one x ≡ in_bytes (hex_value a) (hex_value b) (hex_value c) (hex_value d) (hex_value e) (hex_value f) (hex_value g) (hex_value h) = omega (arith, ap one q, one_is (a ∷ b ∷ c ∷ d ∷ e ∷ f ∷ g ∷ h ∷ []) (omega arith) hex) in
+      omega
+      (arith, all_is (hex_value a) (hex_value b) (hex_value c) (hex_value d) (hex_value e) (hex_value f) (hex_value g) (hex_value h) (value_small a (and_left _ _ hex)) (value_small b (and_left _ _ r1)) (value_small c (and_left _ _ r2)) (value_small d (and_left _ _ r3)) (value_small e (and_left _ _ r4)) (value_small f (and_left _ _ r5)) (value_small g (and_left _ _ r6)) (value_small h (and_left _ _ r7)) (one x) bytes)
+
+-- A list of eight, one by one.
+eight_of : (s : Bytes) → length s ≡ 8 → s ≡ get_or s 0 0 ∷ get_or s 1 0 ∷ get_or s 2 0 ∷ get_or s 3 0 ∷ get_or s 4 0 ∷ get_or s 5 0 ∷ get_or s 6 0 ∷ get_or s 7 0 ∷ []
+eight_of s h =
+    drop_eight s 0 (omega arith) ∙ ap (λ (r : Bytes). get_or s 0 0 ∷ get_or s 1 0 ∷ get_or s 2 0 ∷ get_or s 3 0 ∷ get_or s 4 0 ∷ get_or s 5 0 ∷ get_or s 6 0 ∷ get_or s 7 0 ∷ r) (drop_end s 8 (omega arith))
+
+eight_digits_are : (s : Bytes) (x : ℕ) → x ≡ from_le_bytes w64 s
+    → x ≡ number 256 itself (get_or s 0 0 ∷ get_or s 1 0 ∷ get_or s 2 0 ∷ get_or s 3 0 ∷ get_or s 4 0 ∷ get_or s 5 0 ∷ get_or s 6 0 ∷ get_or s 7 0 ∷ [])
+unfolding number
+eight_digits_are s x q = omega (arith, q)
+
+pub eight_is : (s : Bytes) (x : ℕ) → length s ≡ 8 → all_bytes hex_byte s ≡ true → x ≡ from_le_bytes w64 s
+    → four (two (one x)) % 65536 + four (two (one x)) / 65536 ≡ number 16 hex_value s
+eight_is s x h hex q =
+    eight_from (get_or s 0 0) (get_or s 1 0) (get_or s 2 0) (get_or s 3 0) (get_or s 4 0) (get_or s 5 0) (get_or s 6 0) (get_or s 7 0) x
+    (sym (ap (all_bytes hex_byte) (eight_of s h)) ∙ hex) (eight_digits_are s x q)
+    ∙ sym (ap (number 16 hex_value) (eight_of s h))
 
 module _ (s : Bytes) (i : ℕ) (h : i ≤ 8) (l : length s ≡ 16) where
   part_eight : take 8 (drop i s) ≡ get_or s i 0 ∷ get_or s (i + 1) 0 ∷ get_or s (i + 2) 0 ∷ get_or s (i + 3) 0 ∷ get_or s (i + 4) 0 ∷ get_or s (i + 5) 0 ∷ get_or s (i + 6) 0 ∷ get_or s (i + 7) 0 ∷ []
@@ -353,7 +367,6 @@ pub ruleset digits = (
   two_room,
   four_room,
   all_room,
-  join_is,
   eight_is,
   eight_digits,
   eight_at_is,

@@ -2,15 +2,17 @@
 use mathlib.Core.Path.{◌≡◌, refl, sym, ap, ap₂, ◌∙◌, subst}
 use mathlib.Core.Bool.{Bool, true, false}
 use mathlib.Core.List.{List, [], ◌∷◌}
-use Prim.Native.Nat.{ℕ, ◌+◌, ◌*◌, ◌/◌, ◌%◌, ◌^◌, ◌≤◌, ◌<◌}
-use native.Mathlib.Numerals.{add-one}
+use Prim.Native.Nat.{ℕ, zero, suc, ◌+◌, ◌*◌, ◌/◌, ◌%◌, ◌^◌, ◌≤◌, ◌<◌}
+use native.Mathlib.Nat.{add-zero, zero-add}
 use native.Mathlib.Omega.{arith}
+use Rattle.std.specs.Prelude.{◌||◌}
+use Rattle.std.specs.List.{list_any, range_with_len}
 use lib.Dec.{eqb, ltb}
 use lib.ListN.{length, get_or, take, drop, length-drop}
 use lib.Seq.{drop-drop}
 use borrow.Author.Tests.{eq-eqb, ne_eqb, eqb-true, lt-ltb, ltb-true}
 use Rattle.laws.specs.Tests.{◌and◌, ◌or◌, isnt, any, choose}
-use Rattle.laws.specs.TestLaws.{and_both, and_left, and_right, any_of_lem, both_ways, fails, true_isnt}
+use Rattle.laws.specs.TestLaws.{and_both, and_left, and_right, both_ways, fails, true_isnt}
 use Rattle.laws.specs.Slices.{below_or, drop_at, drop_end}
 use Rattle.laws.specs.Bits.{bit_in, word_of, word_none, word_drop}
 use Rattle.laws.specs.BitSets.{with_bit}
@@ -18,7 +20,7 @@ use Rattle.rules.specs.Text.{Bytes, same, split, between, is_name, all_bytes}
 use Rattle.rules.specs.Kept.{other}
 use Rattle.rules.proofs.TextLaws.{all_bytes_more, same_true, split_cons, split_free}
 use Rattle.rules.specs.SuiteFile.{bits_of, hex_byte, none_set, no_test, row_fine, test_line, test_form}
-use Rattle.text.specs.Scans.{class_byte, span}
+use Rattle.text.specs.Scans.{span}
 use Rattle.text.specs.SplitLaws.{cut, first_last, first_more}
 use Rattle.text.specs.Hash.{hash_of}
 use Rattle.suite.specs.Reading.{begins_test, comma_in, first_field, name_at, name_in, name_met}
@@ -135,30 +137,34 @@ pub name_is : (text tests r : List ℕ) (i start len : ℕ) → start ≡ get_or
 unfolding name_at
 name_is text tests r i start len es el e = e ∙ ap₂ (λ (a b : ℕ). take a (drop b text)) el es
 
-pub names_start : (text tests name : List ℕ) → name_in text tests 0 name ≡ false
-unfolding name_in any
-names_start text tests name = refl
+-- `any` of the numbers from a on, one more at the end.
+any_more : (f : ℕ → Bool) (a n : ℕ) → list_any f (range_with_len a (suc n)) ≡ (list_any f (range_with_len a n) or f (a + n))
+unfolding ◌or◌
+any_more f a zero = go (f a) (ap f (add-zero a))
+  where
+    go : (b : Bool) → f (a + 0) ≡ b → (b || false) ≡ (false or f (a + 0))
+    go true e = sym e
+    go false e = sym e
+any_more f a (suc n) = go (f a) (any_more f (a + 1) n)
+  where
+    e : a + 1 + n ≡ a + suc n
+    e = omega arith
 
-module _ (text tests name : List ℕ) (i : ℕ) (x : Bytes) (t : Bool) (ex : x ≡ name_at text tests i) (et : t ≡ same x name) where
-  here : same (name_at text tests i) name ≡ t
-  here = ap (λ (y : Bytes). same y name) (sym ex) ∙ sym et
+    go : (b : Bool) → list_any f (range_with_len (a + 1) (suc n)) ≡ (list_any f (range_with_len (a + 1) n) or f (a + 1 + n))
+        → (b || list_any f (range_with_len (a + 1) (suc n))) ≡ ((b || list_any f (range_with_len (a + 1) n)) or f (a + suc n))
+    go true h = refl
+    go false h = h ∙ ap (λ (k : ℕ). list_any f (range_with_len (a + 1) n) or f k) e
 
-  pub names_hit : (n : ℕ) → i < n → t ≡ true → true ≡ name_in text tests n name
-  unfolding name_in
-  names_hit n h y = sym (any_of_lem (λ i. same (name_at text tests i) name) n i h (here ∙ y))
+any_below : (f : ℕ → Bool) (n : ℕ) → list_any f (range_with_len 0 n) ≡ any n f
+unfolding any
+any_below f zero = refl
+any_below f (suc n) = any_more f 0 n ∙ ap₂ (λ (b c : Bool). b or c) (any_below f n) (ap f (zero-add n))
 
-  pub names_on : name_in text tests i name ≡ false → t ≡ false → name_in text tests (i + 1) name ≡ false
-  unfolding name_in any ◌or◌
-  names_on inv y =
-      ap (λ (n : ℕ). any n (λ i. same (name_at text tests i) name)) (add-one i)
-      ∙ ap₂ (λ (a b : Bool). a or b) inv (here ∙ y)
+pub names_any : (text tests : List ℕ) (n : ℕ) (name : List ℕ) (r : Bool) → r ≡ list_any (λ i. same (name_at text tests i) name) (range_with_len 0 n) → r ≡ name_in text tests n name
+unfolding name_in
+names_any text tests n name r e = e ∙ any_below (λ i. same (name_at text tests i) name) n
 
-pub names_done : (text tests name : List ℕ) (i n : ℕ) → name_in text tests i name ≡ false → i ≤ n → n ≤ i → false ≡ name_in text tests n name
-names_done text tests name i n inv h k =
-    let q : i ≡ n = omega arith in
-    sym (ap (λ (m : ℕ). name_in text tests m name) (sym q) ∙ inv)
-
-pub ruleset names = (name_is, names_start, names_hit, names_on, names_done)
+pub ruleset names = (name_is)
 
 -- ---- `name_met`
 
@@ -218,22 +224,18 @@ module _ (m : ℕ) (row : Bytes) where
   pub fine_room : length row ≤ (m + 3) / 4 → length row ≤ m / 4 + 1
   fine_room h = omega arith
 
-  module _ (a : (m + 3) / 4 ≤ length row) (b : length row ≤ (m + 3) / 4) (t : Bool) (e : t ≡ all_bytes (class_byte 3) row) where
-    hex : t ≡ all_bytes hex_byte row
-    unfolding class_byte choose
-    hex = e
-
+  module _ (a : (m + 3) / 4 ≤ length row) (b : length row ≤ (m + 3) / 4) (t : Bool) (e : t ≡ all_bytes hex_byte row) where
     pub fine_not : t ≡ false → false ≡ row_fine m row
     unfolding row_fine ◌and◌
-    fine_not y = let q : length row ≡ (m + 3) / 4 = omega arith in sym (simp (eq-eqb (length row) ((m + 3) / 4) q, ← hex, y))
+    fine_not y = let q : length row ≡ (m + 3) / 4 = omega arith in sym (simp (eq-eqb (length row) ((m + 3) / 4) q, ← e, y))
 
     -- The digits are digits.
     pub fine_digits : t ≡ true → all_bytes hex_byte row ≡ true
-    fine_digits y = sym hex ∙ y
+    fine_digits y = sym e ∙ y
 
     pub fine_spare : (u : Bool) → t ≡ true → u ≡ none_set (drop m (bits_of row)) → u ≡ row_fine m row
     unfolding row_fine ◌and◌
-    fine_spare u y f = let q : length row ≡ (m + 3) / 4 = omega arith in f ∙ sym (simp (eq-eqb (length row) ((m + 3) / 4) q, ← hex, y))
+    fine_spare u y f = let q : length row ≡ (m + 3) / 4 = omega arith in f ∙ sym (simp (eq-eqb (length row) ((m + 3) / 4) q, ← e, y))
 
 -- ---- `comma_in`
 

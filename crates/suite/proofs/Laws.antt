@@ -6,18 +6,21 @@ use Prim.Native.Nat.{ℕ, zero, suc, ◌+◌, ◌-◌, ◌*◌, ◌/◌, ◌≤�
 use native.Mathlib.Nat.{add-zero}
 use native.Mathlib.Omega.{arith}
 use lib.ListN.{length, get_or, take, drop, set}
-use lib.Seq.{sets, drop-drop, take-nil}
+use lib.Seq.{sets, set_out, drop-drop, take-nil}
 use Rattle.laws.specs.TestLaws.{and_both, and_left, and_right}
 use Rattle.laws.specs.Slices.{drop_end, sets_more, part_short}
 use Rattle.laws.specs.Bits.{word_of, words_of}
 use Rattle.rules.specs.Text.{Bytes, all_bytes}
 use Rattle.rules.specs.SuiteFile.{bits_of, hex_byte, hex_value, odd}
-use Rattle.text.proofs.Laws.{put_out}
 use Rattle.suite.specs.Tables.{stored_row}
 
 -- ---- `put_word`
 
-pub ruleset words = (put_out)
+-- A word past the end is not stored.
+pub word_out : (s : List ℕ) (i v : ℕ) → length s ≤ i → s ≡ set s i v
+word_out s i v h = sym (set_out s i v h)
+
+pub ruleset words = (word_out)
 
 -- ---- digits
 

@@ -23,7 +23,7 @@ use Rattle.rules.specs.SuiteFile.{TestListing, bits_of, hex_byte, row_fine, step
 use Rattle.text.specs.Scans.{span}
 use Rattle.text.specs.SplitLaws.{uncut}
 use Rattle.text.specs.Hash.{hash_of, hash_small}
-use Rattle.suite.specs.declared.Read.{Read}
+use Rattle.suite.specs.Reads.{Read}
 use Rattle.coverage.specs.Rows.{Row, edge_bit}
 use Rattle.suite.specs.Tables.{Holds, stored_row, stored_test}
 use Rattle.suite.specs.Reading.{Adds, Known, Marked, Steps, begins_test, comma_in, name_at, name_in, name_met}

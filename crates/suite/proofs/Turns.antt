@@ -16,9 +16,12 @@ use Rattle.rules.specs.Text.{Reading, Bytes, accepted, empty, join_by, read_line
 use Rattle.rules.specs.SuiteFile.{TestLine, TestListing, finish_suite, no_test, no_tests, read_tests, step_suite, take_test, test_line, test_form}
 use Rattle.rules.proofs.TextLaws.{accepted_same, join_split, split_cons, unless_accepted, empty_not}
 use Rattle.rules.proofs.SuiteLaws.{TestFormed, test_formed}
+use Rattle.std.specs.Prelude.{Result, Ok, Err}
+use Rattle.answer.specs.declared.Refusal.{Refusal}
+use Rattle.answer.specs.Refusals.{fault_number, fault_some}
 use Rattle.text.specs.Scans.{span}
 use Rattle.text.specs.SplitLaws.{cut_at, uncut_at}
-use Rattle.suite.specs.declared.Read.{Read}
+use Rattle.suite.specs.Reads.{Read, read_of}
 use Rattle.suite.specs.Tables.{Holds}
 use Rattle.suite.specs.Reading.{After, Known, Lines, Marked, MarkedAfter, Reads, Stepped, Steps, accepted_of, refused_of}
 use Rattle.suite.proofs.Stores.{known_more}
@@ -107,7 +110,7 @@ module _ (m : ℕ) (text : Bytes) (f₀ t₀ w₀ : List ℕ) (at n c : ℕ) (f 
       let q : length rest ≡ length text - at = ap length er ∙ length-drop at text in
       simp (head.so.goes, uncut_at 10 text rest at len er e k, empty_not rest (omega arith)) (en, ep, omega arith)
 
-  module _ (h : len < length rest) (line : Bytes) (el : line ≡ take len rest) (r : Read) (f' t' w' : List ℕ) (step : Stepped text m n at line c f t w r f' t' w') where
+  module _ (h : len < length rest) (line : Bytes) (el : line ≡ take len rest) (r : Result ℕ Refusal) (f' t' w' : List ℕ) (step : Stepped text m n at line c f t w (read_of r) f' t' w') where
     line_long : length line ≡ len
     line_long = ap length el ∙ length-take-le len rest (omega arith)
 
@@ -120,50 +123,53 @@ module _ (m : ℕ) (text : Bytes) (f₀ t₀ w₀ : List ℕ) (at n c : ℕ) (f 
         ∙ lines_more m n at head.so.l line (split 10 (drop (at + len + 1) text)) sc.0 sc.1 sc.2
         ∙ ap₂ (λ (k j : ℕ). then (step_suite m n at head.so.l line) (λ s. lines_from m k (at + j + 1) s (split 10 (drop (at + len + 1) text)))) (sym (add-one n)) line_long
 
-    answer : After m (step_suite m n at head.so.l line) r t' w' × MarkedAfter f' (step_suite m n at head.so.l line)
+    answer : After m (step_suite m n at head.so.l line) (read_of r) t' w' × MarkedAfter f' (step_suite m n at head.so.l line)
     unfolding Steps
     answer = step.steps head.so.l head.so.known head.so.hold head.so.marked
 
-    pub head_on : r.number ≡ 0 → length f' ≡ length f → length t' ≡ length t → length w' ≡ length w → Head m text f₀ t₀ w₀ (at + len + 1) (n + 1) r.count f' t' w'
+    -- The next line.
+    pub head_on : (c' : ℕ) → r ≡ Ok c' → length f' ≡ length f → length t' ≡ length t → length w' ≡ length w → Head m text f₀ t₀ w₀ (at + len + 1) (n + 1) c' f' t' w'
     unfolding then
-    head_on z lf lt lw =
-        let a = accepted_of m (step_suite m n at head.so.l line) r t' w' answer.0 z in
+    head_on c' z lf lt lw =
+        let a = accepted_of m (step_suite m n at head.so.l line) (read_of r) t' w' answer.0 (ap (λ (x : Result ℕ Refusal). (read_of x).number) z) in
+        let e : (read_of r).count ≡ c' = ap (λ (x : Result ℕ Refusal). (read_of x).count) z in
         record {
           in_text = omega (arith, ap length er, length-drop at text);
           few = omega (arith, head.few);
-          small = step.few;
+          small = omega (arith, step.few, e);
           some = lf ∙ head.some;
           long = lt ∙ head.long;
           wide = lw ∙ head.wide;
           so = record {
             l = a.0;
             known = known_step m text n at head.so.l head.so.known c t w head.so.hold line len (el ∙ ap (λ (s : Bytes). take len s) er) line_long a.0 a.1;
-            hold = a.2;
+            hold = subst (λ (k : ℕ). Holds m t' w' k a.0) e a.2;
             marked = answer.1 a.0 a.1;
             goes = whole ∙ ap (λ (x : Reading TestListing). then x (λ s. lines_from m (n + 1) (at + len + 1) s (split 10 (drop (at + len + 1) text)))) a.1;
           };
         }
 
-    pub no_line : (r.number ≡ 0 → ⊥) → Lines m text r t' w'
+    -- A line that is refused.
+    pub no_line : (e : Refusal) → r ≡ Err e → Lines m text (read_of (Err e)) t' w'
     unfolding Lines then
-    no_line z =
-        let a = refused_of m (step_suite m n at head.so.l line) r t' w' answer.0 z in
-        let q : lines_from m 1 0 no_tests (split 10 text) ≡ refused r.number r.place =
-        whole ∙ ap (λ (x : Reading TestListing). then x (λ s. lines_from m (n + 1) (at + len + 1) s (split 10 (drop (at + len + 1) text)))) a.0 in
-        simp q (refl, refl, a.1)
+    no_line e z =
+        let k : (read_of r).number ≡ fault_number e.fault = ap (λ (x : Result ℕ Refusal). (read_of x).number) z in
+        let a = refused_of m (step_suite m n at head.so.l line) (read_of r) t' w' answer.0 (λ y. let z : ⊥ = omega (arith, fault_some e.fault, k, y) in z) in
+        let q : lines_from m 1 0 no_tests (split 10 text) ≡ refused (fault_number e.fault) e.place =
+        whole
+        ∙ ap (λ (x : Reading TestListing). then x (λ s. lines_from m (n + 1) (at + len + 1) s (split 10 (drop (at + len + 1) text)))) a.0
+        ∙ ap (λ (x : Result ℕ Refusal). refused (read_of x).number (read_of x).place) z in
+        simp q (refl, refl, fault_some e.fault)
 
 pub all_read : (m : ℕ) (text : Bytes) (f₀ t₀ w₀ : List ℕ) (at n c : ℕ) (f t w : List ℕ) → Head m text f₀ t₀ w₀ at n c f t w → length text ≤ at
     → Lines m text (record { number = 0; place = 0; count = c }) t w
 unfolding Lines read_lines split unless isnt empty
 all_read m text f₀ t₀ w₀ at n c f t w head h = simp (head.so.goes, drop_end text at h) (refl, refl, head.so.hold)
 
-pub step_few : (text : Bytes) (m n at : ℕ) (line : Bytes) (c : ℕ) (f t w : List ℕ) (r : Read) (f' t' w' : List ℕ) → Stepped text m n at line c f t w r f' t' w' → r.count ≤ 200
-step_few text m n at line c f t w r f' t' w' s = s.few
-
 pub head_few : (m : ℕ) (text : Bytes) (f₀ t₀ w₀ : List ℕ) (at n c : ℕ) (f t w : List ℕ) → Head m text f₀ t₀ w₀ at n c f t w → c ≤ 200
 head_few m text f₀ t₀ w₀ at n c f t w head = head.small
 
-pub ruleset turns = (head_start, no_end, head_on, no_line, all_read, step_few, head_few)
+pub ruleset turns = (head_start, no_end, head_on, no_line, all_read, head_few)
 
 -- ---- `read_tests`
 

@@ -7,7 +7,7 @@ use Rattle.rules.specs.Text.{Bytes, same, bytes, is_name, Reading, refused, acce
 use Rattle.rules.specs.SuiteFile.{TestListing, finish_suite, no_tests, read_tests, step_suite, take_test, test_line, test_count, test_name}
 use Rattle.text.specs.Scans.{span}
 use Rattle.text.specs.Hash.{hash_of}
-use Rattle.suite.specs.declared.Read.{Read}
+use Rattle.suite.specs.Reads.{Read}
 use Rattle.suite.specs.Tables.{Holds}
 
 -- ---- a line

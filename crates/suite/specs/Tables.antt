@@ -7,6 +7,16 @@ use Rattle.rules.specs.Text.{Bytes}
 use Rattle.rules.specs.SuiteFile.{TestListing, bits_of, coverage_at, test_count, test_name}
 use Rattle.coverage.specs.Rows.{Row}
 
+-- The tests of a suite in memory: the text with their names, the table of the names, that of the rows, and how many there are.
+pub record Tests : Type 0 where
+  pub text : Bytes
+  pub names : List ℕ
+  pub rows : List ℕ
+  pub count : ℕ
+
+abbrev pub tests : Bytes → List ℕ → List ℕ → ℕ → Tests
+tests text names rows count = record { text = text; names = names; rows = rows; count = count }
+
 -- The tables hold the tests that were read, where the old program has m edges.
 pub record Holds (m : ℕ) (tests rows : List ℕ) (n : ℕ) (l : TestListing) : Type 0 where
   pub counted : n ≡ test_count l.suite

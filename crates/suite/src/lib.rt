@@ -1,7 +1,7 @@
 // Test files, `T,name,row` lines, read into two tables: where each name stands in the text, and the rows as words of 64 bits.
-#![tactic(auto)]
+#![tactic(auto, using(crate::proofs::All::all))]
 
-ghost use Rattle.std.specs.Prelude.{◌≡◌, true, ◌∷◌, [], ◌+◌, ◌*◌, ◌/◌, ◌%◌, ◌≤◌, ◌<◌, drop, length, set as set_at, take};
+ghost use Rattle.std.specs.Prelude.{◌≡◌, true, ◌+◌, ◌*◌, ◌/◌, ◌%◌, ◌≤◌, ◌<◌, drop, length, set as set_at, take};
 ghost use Rattle.laws.specs.Digits.{itself, number};
 ghost use Rattle.laws.specs.Bits.{word_of};
 ghost use Rattle.laws.specs.BitSets.{with_bit};
@@ -9,24 +9,99 @@ ghost use Rattle.rules.specs.Text.{all_bytes};
 ghost use Rattle.rules.specs.SuiteFile.{bits_of, hex_byte, hex_value, none_set, row_fine};
 ghost use Rattle.text.specs.Hash.{hash_of};
 ghost use Rattle.suite.specs.Reading.{Added, LinesRead, Stepped, TestsRead, begins_test, comma_in, name_at, name_in, name_met};
-ghost use Rattle.suite.specs.Tables.{stored_row, stored_test, turn};
+ghost use Rattle.suite.specs.Reads.{read_of};
+ghost use Rattle.suite.specs.Tables.{Tests, stored_row, stored_test, tests, turn};
+ghost use Rattle.coverage.specs.Rows.{edge_bit, row_meets, row_ones};
 
-// What was read: a refusal by number and place, where the number is not 0, or how many tests there are.
-#[derive(Clone, Copy)]
-pub struct Read {
-    pub number: usize,
-    pub place: usize,
-    pub count: usize,
+use answer::{Fault, Refusal};
+use std::marker::Model;
+use text::Class;
+
+// The tests of a suite: the text with their names, where each name stands in it, and their rows.
+#[derive(Drop)]
+pub struct Suite<'a> {
+    text: &'a [u8],
+    names: &'a [usize],
+    rows: &'a [u64],
+    count: usize,
 }
 
-// A refusal. Its count is 0.
-pub fn refused(number: usize, place: usize) -> Read
-    ensures { (result.number ≡ number) × (result.place ≡ place) × (result.count ≡ 0) }
-{
-    Read {
-        number,
-        place,
-        count: 0,
+impl<'a> Model for Suite<'a> {
+    ghost Value = { Tests };
+
+    ghost view = { λ s. tests s.text.now s.names.now s.rows.now s.count };
+}
+
+impl<'a> Suite<'a> {
+    pub fn new(text: &'a [u8], names: &'a [usize], rows: &'a [u64], count: usize) -> Suite<'a>
+        ensures { result ≡ tests text.now names.now rows.now count }
+    {
+        Suite {
+            text,
+            names,
+            rows,
+            count,
+        }
+    }
+
+    // The text with the names.
+    pub fn text(&self) -> &'a [u8]
+        ensures { result.now ≡ self.now.text }
+    {
+        self.text
+    }
+
+    // Two numbers a test: where its name stands, and how long it is.
+    pub fn names(&self) -> &'a [usize]
+        ensures { result.now ≡ self.now.names }
+    {
+        self.names
+    }
+
+    // 16 words a test: its row.
+    pub fn rows(&self) -> &'a [u64]
+        ensures { result.now ≡ self.now.rows }
+    {
+        self.rows
+    }
+
+    // How many tests there are.
+    pub fn count(&self) -> usize
+        ensures { result ≡ self.now.count }
+    {
+        self.count
+    }
+
+    // The name of the test i.
+    pub fn name(&self, i: usize) -> &'a [u8]
+        requires { i ≤ 200 }
+        ensures { result.now ≡ name_at self.now.text self.now.names i }
+    {
+        name_at(self.text, self.names, i)
+    }
+
+    // Whether the test i covers the edge e.
+    pub fn covers(&self, i: usize, e: usize) -> bool
+        requires { i ≤ 200 }
+        ensures { result ≡ edge_bit self.now.rows i e }
+    {
+        coverage::covers(self.rows, i, e)
+    }
+
+    // How many edges the test i covers.
+    pub fn ones(&self, i: usize) -> usize
+        requires { i ≤ 200 }
+        ensures { result ≡ row_ones self.now.rows i }
+    {
+        coverage::ones(self.rows, i)
+    }
+
+    // Whether the test i covers an edge of the set.
+    pub fn meets(&self, i: usize, set: &[u64]) -> bool
+        requires { i ≤ 200 }
+        ensures { result ≡ row_meets self.now.rows set.now i }
+    {
+        coverage::row_meets(self.rows, i, set)
     }
 }
 
@@ -41,21 +116,12 @@ fn put_word(rows: &mut [u64], i: usize, w: u64)
     }
 }
 
-// The number of eight bytes, the first lowest.
-fn join(a: u8, b: u8, c: u8, d: u8, e: u8, f: u8, g: u8, h: u8) -> u64
-    ensures { result ≡ number 256 itself (a ∷ (b ∷ (c ∷ (d ∷ (e ∷ (f ∷ (g ∷ (h ∷ [])))))))) }
-{
-    let low = a as u64 + b as u64 * 256 + c as u64 * 65536 + d as u64 * 16777216;
-    let high = e as u64 + f as u64 * 256 + g as u64 * 65536 + h as u64 * 16777216;
-    low + high * 4294967296
-}
-
 // The number of eight digits to the base 16, the first lowest: their values in a byte each, then two, four and all of them together.
-fn eight(a: u8, b: u8, c: u8, d: u8, e: u8, f: u8, g: u8, h: u8) -> u64
-    requires { all_bytes hex_byte (a ∷ (b ∷ (c ∷ (d ∷ (e ∷ (f ∷ (g ∷ (h ∷ [])))))))) ≡ true }
-    ensures { result ≡ number 16 hex_value (a ∷ (b ∷ (c ∷ (d ∷ (e ∷ (f ∷ (g ∷ (h ∷ [])))))))) }
+fn eight(digits: [u8; 8]) -> u64
+    requires { all_bytes hex_byte digits ≡ true }
+    ensures { result ≡ number 16 hex_value digits }
 {
-    let x = join(a, b, c, d, e, f, g, h);
+    let x = u64::from_le_bytes(digits);
     let one = (x & 0x0f0f0f0f0f0f0f0f) + 9 * ((x & 0x4040404040404040) / 64);
     let two = (one & 0x000f000f000f000f) + (one & 0x0f000f000f000f00) / 16;
     let four = (two & 0x000000ff000000ff) + (two & 0x00ff000000ff0000) / 256;
@@ -67,7 +133,7 @@ fn eight_at(s: &[u8], i: usize) -> u64
     requires { (i ≤ 8) × (length s.now ≡ 16) × (all_bytes hex_byte s.now ≡ true) }
     ensures { result ≡ number 16 hex_value (take 8 (drop i s.now)) }
 {
-    eight(
+    eight([
         s[i],
         s[i + 1],
         s[i + 2],
@@ -76,7 +142,7 @@ fn eight_at(s: &[u8], i: usize) -> u64
         s[i + 5],
         s[i + 6],
         s[i + 7],
-    )
+    ])
 }
 
 // The value of a digit.
@@ -93,12 +159,8 @@ fn few(s: &[u8]) -> u64
     ensures { result ≡ number 16 hex_value s.now }
 {
     let mut w: u64 = 0;
-    let mut i = s.len();
-    while 0 < i {
-        let j = i - 1;
-        let d = value(s[j]);
-        w = w * 16 + d;
-        i = j;
+    for i in (0..s.len()).rev() {
+        w = w * 16 + value(s[i]);
     }
     w
 }
@@ -119,11 +181,10 @@ fn pack(s: &[u8]) -> u64
     ensures { result ≡ word_of (bits_of s.now) }
 {
     if s.len() == 16 {
-        let low = eight_at(s, 0);
-        let high = eight_at(s, 8);
-        return turned(high * 4294967296 + low);
+        turned(eight_at(s, 8) * 4294967296 + eight_at(s, 0))
+    } else {
+        turned(few(s))
     }
-    turned(few(s))
 }
 
 // Makes the row of a test that of the digits.
@@ -131,11 +192,9 @@ fn store_row(rows: &mut [u64], test: usize, row: &[u8])
     requires { (test ≤ 200) × (all_bytes hex_byte row.now ≡ true) }
     ensures { rows.new ≡ stored_row rows.old test row.now }
 {
-    let mut k = 0;
-    while k < 16 {
+    for k in 0..16 {
         let w = pack(text::part(row, 16 * k, 16));
         put_word(rows, 16 * test + k, w);
-        k += 1;
     }
 }
 
@@ -145,19 +204,16 @@ fn store_row(rows: &mut [u64], test: usize, row: &[u8])
 fn begins_test(line: &[u8]) -> bool
     ensures { result ≡ begins_test line.now }
 {
-    if text::same(text::first_short(line, 44), b"T") {
-        let rest = text::after(line, 2);
-        let name = text::first_short(rest, 44);
-        if text::is_name(name) {
-            return name.len() < rest.len();
-        }
+    if !text::same(text::first_short(line, b','), b"T") {
         return false;
     }
-    false
+    let rest = text::after(line, 2);
+    let name = text::first_short(rest, b',');
+    text::is_name(name) && name.len() < rest.len()
 }
 
 // The name of the test i.
-pub fn name_at<'a>(text: &'a [u8], tests: &[usize], i: usize) -> &'a [u8]
+fn name_at<'a>(text: &'a [u8], tests: &[usize], i: usize) -> &'a [u8]
     requires { i ≤ 200 }
     ensures { result.now ≡ name_at text.now tests.now i }
 {
@@ -171,14 +227,7 @@ fn name_seen(text: &[u8], tests: &[usize], count: usize, name: &[u8]) -> bool
     requires { count ≤ 200 }
     ensures { result ≡ name_in text.now tests.now count name.now }
 {
-    let mut i = 0;
-    while i < count {
-        if text::same(name_at(text, tests, i), name) {
-            return true;
-        }
-        i += 1;
-    }
-    false
+    (0..count).any(|i| text::same(name_at(text, tests, i), name))
 }
 
 // Whether one of the first `count` tests has the name, where the filter has the bits of their hashes: names are compared only if it has that of
@@ -191,10 +240,7 @@ fn name_met(text: &[u8], tests: &[usize], count: usize, name: &[u8], filter: &mu
     let h = text::hash(name);
     let maybe = text::bit_at(filter, h);
     text::set_bit(filter, h);
-    if maybe {
-        return name_seen(text, tests, count, name);
-    }
-    false
+    maybe && name_seen(text, tests, count, name)
 }
 
 // Whether the bits of a row past its edges are 0.
@@ -203,12 +249,7 @@ fn spare_clear(edges: usize, row: &[u8]) -> bool
     ensures { result ≡ none_set (drop edges (bits_of row.now)) }
 {
     let i = edges / 4;
-    if row.len() <= i {
-        return true;
-    }
-    let d = turned(value(row[i]));
-    let shift = edges % 4;
-    d >> shift == 0
+    row.len() <= i || turned(value(row[i])) >> (edges % 4) == 0
 }
 
 // Whether a row is one for so many edges.
@@ -216,27 +257,14 @@ fn row_fine(edges: usize, row: &[u8]) -> bool
     requires { edges ≤ 1024 }
     ensures { result ≡ row_fine edges row.now }
 {
-    let digits = (edges + 3) / 4;
-    if row.len() < digits {
-        return false;
-    }
-    if digits < row.len() {
-        return false;
-    }
-    if text::all_in(3, row) {
-        return spare_clear(edges, row);
-    }
-    false
+    row.len() == (edges + 3) / 4 && text::all_in(Class::Hex, row) && spare_clear(edges, row)
 }
 
 // Whether a row has a comma; one that is fine has none.
 fn comma_in(fine: bool, row: &[u8]) -> bool
     ensures { result ≡ comma_in fine row.now }
 {
-    if fine {
-        return false;
-    }
-    text::find(row, 44) < row.len()
+    !fine && text::find(row, b',') < row.len()
 }
 
 // Notes where the name of the test i stands, and how long it is.
@@ -248,8 +276,10 @@ fn put_test(tests: &mut [usize], i: usize, start: usize, len: usize)
     text::put(tests, 2 * i + 1, len);
 }
 
-// Adds a test after `count` others: its line is numbered n and begins at the offset `at`; `fine` says whether its row is. What the filter and the
-// tables hold after a refusal is left open.
+// The filter and the tables are passed one by one: of a struct that holds them each function would have to say that it keeps its references.
+
+// Adds a test after `count` others, and answers how many there are: its line is numbered n and begins at the offset `at`; `fine` says whether its
+// row is. What the filter and the tables hold after a refusal is left open.
 fn add_test(
     text: &[u8],
     edges: usize,
@@ -262,31 +292,36 @@ fn add_test(
     filter: &mut [usize],
     tests: &mut [usize],
     rows: &mut [u64],
-) -> Read
+) -> Result<usize, Refusal>
     requires fine_value { fine ≡ row_fine edges row.now }
     requires edges_bound { (edges ≤ 1024) × (at ≤ 65536) × (count ≤ 200) × (64 ≤ length filter.old) × (400 ≤ length tests.old) × (3200 ≤ length rows.old) }
-    ensures { Added text.now edges n at name.now row.now count filter.old tests.old rows.old result filter.new tests.new rows.new }
+    ensures { Added text.now edges n at name.now row.now count filter.old tests.old rows.old (read_of result) filter.new tests.new rows.new }
 {
     if 200 <= count {
-        return refused(4, n);
+        return Err(Refusal {
+            fault: Fault::TooManyLines,
+            place: n,
+        });
     }
-    let seen = name_met(text, tests, count, name, filter);
-    if seen {
-        return refused(5, n);
+    if name_met(text, tests, count, name, filter) {
+        return Err(Refusal {
+            fault: Fault::NameTwice,
+            place: n,
+        });
     }
-    if fine {
-        put_test(tests, count, at + 2, name.len());
-        store_row(rows, count, row);
-        return Read {
-            number: 0,
-            place: 0,
-            count: count + 1,
-        };
+    if !fine {
+        return Err(Refusal {
+            fault: Fault::RowWrong,
+            place: n,
+        });
     }
-    refused(10, n)
+    put_test(tests, count, at + 2, name.len());
+    store_row(rows, count, row);
+    Ok(count + 1)
 }
 
-// Takes a line, numbered n, that begins at the offset `at`, after `count` tests. What the filter and the tables hold after a refusal is left open.
+// Takes a line, numbered n, that begins at the offset `at`, after `count` tests, and answers how many there are. What the filter and the tables
+// hold after a refusal is left open.
 fn step(
     text: &[u8],
     edges: usize,
@@ -297,23 +332,29 @@ fn step(
     filter: &mut [usize],
     tests: &mut [usize],
     rows: &mut [u64],
-) -> Read
+) -> Result<usize, Refusal>
     requires { (edges ≤ 1024) × (at ≤ 65536) × (count ≤ 200) × (64 ≤ length filter.old) × (400 ≤ length tests.old) × (3200 ≤ length rows.old) }
-    ensures { Stepped text.now edges n at line.now count filter.old tests.old rows.old result filter.new tests.new rows.new }
+    ensures { Stepped text.now edges n at line.now count filter.old tests.old rows.old (read_of result) filter.new tests.new rows.new }
 {
-    if begins_test(line) {
-        let rest = text::after(line, 2);
-        let name = text::first_short(rest, 44);
-        let row = text::after(rest, name.len() + 1);
-        let fine = row_fine(edges, row);
-        if comma_in(fine, row) {
-            return refused(2, n);
-        }
-        return add_test(
-            text, edges, n, at, name, row, fine, count, filter, tests, rows,
-        );
+    if !begins_test(line) {
+        return Err(Refusal {
+            fault: Fault::LineMalformed,
+            place: n,
+        });
     }
-    refused(2, n)
+    let rest = text::after(line, 2);
+    let name = text::first_short(rest, b',');
+    let row = text::after(rest, name.len() + 1);
+    let fine = row_fine(edges, row);
+    if comma_in(fine, row) {
+        return Err(Refusal {
+            fault: Fault::LineMalformed,
+            place: n,
+        });
+    }
+    add_test(
+        text, edges, n, at, name, row, fine, count, filter, tests, rows,
+    )
 }
 
 // ---- a text
@@ -325,44 +366,46 @@ fn read_lines(
     filter: &mut [usize],
     tests: &mut [usize],
     rows: &mut [u64],
-) -> Read
+) -> Result<usize, Refusal>
     requires { (length text.now ≤ 65536) × (edges ≤ 1024) × (64 ≤ length filter.old) × (400 ≤ length tests.old) × (3200 ≤ length rows.old) }
-    ensures { LinesRead edges text.now result tests.new rows.new }
+    ensures { LinesRead edges text.now (read_of result) tests.new rows.new }
 {
     let mut at = 0;
     let mut n = 1;
     let mut count = 0;
     while at < text.len() {
         let rest = text::after(text, at);
-        let len = text::find(rest, 10);
+        let len = text::find(rest, b'\n');
         if rest.len() <= len {
-            return refused(2, n);
+            return Err(Refusal {
+                fault: Fault::LineMalformed,
+                place: n,
+            });
         }
         let line = text::front(rest, len);
-        let r = step(text, edges, n, at, line, count, filter, tests, rows);
-        let number = r.number;
-        if number != 0 {
-            return r;
-        }
-        count = r.count;
+        count = step(text, edges, n, at, line, count, filter, tests, rows)?;
         at = at + len + 1;
         n += 1;
     }
-    Read {
-        number: 0,
-        place: 0,
-        count,
-    }
+    Ok(count)
 }
 
-// Reads a test file, where the old program has so many edges. What the tables hold after a refusal is left open, and what they hold behind the
-// tests of an accepted one.
-pub fn read_tests(text: &[u8], edges: usize, tests: &mut [usize], rows: &mut [u64]) -> Read
+// Reads a test file, where the old program has so many edges, and answers how many tests there are. What the tables hold after a refusal is left
+// open, and what they hold behind the tests of an accepted one.
+pub fn read_tests(
+    text: &[u8],
+    edges: usize,
+    tests: &mut [usize],
+    rows: &mut [u64],
+) -> Result<usize, Refusal>
     requires { (edges ≤ 1024) × (400 ≤ length tests.old) × (3200 ≤ length rows.old) }
-    ensures { TestsRead edges text.now result tests.new rows.new }
+    ensures { TestsRead edges text.now (read_of result) tests.new rows.new }
 {
     if 65536 < text.len() {
-        return refused(1, 0);
+        return Err(Refusal {
+            fault: Fault::TextTooLong,
+            place: 0,
+        });
     }
     let mut filter = [0usize; 64];
     read_lines(text, edges, &mut filter, tests, rows)

@@ -5,39 +5,39 @@
 // edges of the old program and the length of the text, of six digits each, and a name of at most 32 bytes without blanks.
 #![tactic(auto)]
 
+ghost use Rattle.std.specs.Prelude.{◌≤◌};
+
 use std::io;
 use std::io::{Read, Write};
 
-// How many edges each of the first `count` tests covers. No test file that is read has more than 200.
-fn covered<W: Write>(to: &mut W, rows: &[u64], count: usize) -> io::Result<()> {
-    if 200 < count {
-        return Ok(());
-    }
+// Prints how many edges each of the first `count` tests covers.
+fn covered<W: Write>(to: &mut W, rows: &[u64], count: usize) -> io::Result<()>
+    requires { count ≤ 200 }
+{
     for i in 0..count {
         files::print_field(to, coverage::ones(rows, i))?;
     }
     Ok(())
 }
 
-fn told<W: Write>(to: &mut W, r: suite::Read, rows: &[u64]) -> io::Result<()> {
-    if r.number != 0 {
-        files::print_field(to, r.number)?;
-        return files::print_field(to, r.place);
-    }
-    to.write_all(b",read")?;
-    files::print_field(to, r.count)?;
-    covered(to, rows, r.count)
-}
-
 // What the reader says of a text. The tables are full of ones before, so that a word it leaves out is seen in the counts.
 fn read_text<W: Write>(to: &mut W, text: &[u8], edges: usize) -> io::Result<()> {
     let mut tests = [18446744073709551615usize; 400];
     let mut rows = [18446744073709551615u64; 3200];
-    if edges <= 1024 {
-        let r = suite::read_tests(text, edges, &mut tests, &mut rows);
-        return told(to, r, &rows);
+    if 1024 < edges {
+        return Ok(());
     }
-    Ok(())
+    match suite::read_tests(text, edges, &mut tests, &mut rows) {
+        Ok(count) => {
+            to.write_all(b",read")?;
+            files::print_field(to, count)?;
+            covered(to, &rows, count)
+        }
+        Err(refusal) => {
+            files::print_field(to, refusal.fault.number())?;
+            files::print_field(to, refusal.place)
+        }
+    }
 }
 
 // What the reader says of the text in the next n bytes. The buffer has one byte more than a test file may have.

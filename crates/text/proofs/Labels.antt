@@ -1,48 +1,27 @@
 -- The turns and the returns of the functions that compare two labels, from one run of blanks to the next.
 use mathlib.Core.Path.{◌≡◌, refl, sym, ap, ap₂, ◌∙◌}
 use mathlib.Core.Logic.{◌⊎◌, inl, inr, ⊎_elim}
-use mathlib.Core.Bool.{Bool, true, false, false≢true}
+use mathlib.Core.Bool.{Bool, true, false, false≢true, not, ◌&&◌}
 use mathlib.Core.List.{[], ◌∷◌}
-use Prim.Native.Nat.{ℕ, zero, suc, ◌+◌, ◌-◌, ◌^◌, ◌≤◌, ◌<◌}
+use Prim.Native.Nat.{ℕ, suc, ◌+◌, ◌-◌, ◌≤◌, ◌<◌, min}
 use native.Mathlib.Omega.{arith}
-use lib.Dec.{eqb, leb, ltb}
+use lib.Dec.{eqb, ltb}
 use lib.ListN.{length, get_or, drop, length-drop}
-use lib.Seq.{drop-drop}
-use borrow.Author.Tests.{eq-eqb, eqb-false, eqb-true, le-leb, le-ltb, lt-leb, lt-ltb, ne_eqb}
+use borrow.Author.Tests.{eq-eqb, eqb-false, eqb-true, le-ltb, lt-ltb, ne_eqb}
 use Rattle.laws.specs.Tests.{◌and◌, choose, isnt}
-use Rattle.laws.specs.TestLaws.{and_both, and_left, and_right, eqb_self, fails, isnt_true, passes?, true_isnt}
+use Rattle.laws.specs.TestLaws.{and_assoc, and_both, and_left, and_not, and_right, eqb_self, fails, isnt_true, passes?, true_isnt}
 use Rattle.laws.specs.Slices.{below_or, drop_at, drop_end}
 use Rattle.rules.specs.Text.{Bytes, empty, same, same_label, squeezed}
 use Rattle.rules.proofs.ClosingLaws.{same_label_is, same_label_of, same_label_true}
 use Rattle.rules.proofs.LabelLaws.{behind, behind_bare, behind_left, behind_right, behind_same, behind_spaced, blank_first, spaced, squeezed_blank, squeezed_byte, squeezed_none}
 use Rattle.rules.proofs.TextLaws.{same_true}
+use Rattle.std.specs.List.{position, position_or_len, slice_get}
+use Rattle.std.specs.Option.{unwrap_or}
+use Rattle.std.specs.Prelude.{Option, cond}
+use Rattle.text.proofs.Laws.{also, not_is, place_or_end}
 use Rattle.text.specs.Scans.{blanks, ends_differ, in_common, last_byte}
 
 -- ---- `past_blanks`
-
-blank_here : (s : Bytes) (i : ℕ) → i < length s → get_or s i 0 ≡ 32 → blanks (drop i s) ≡ suc (blanks (drop (i + 1) s))
-unfolding blanks choose
-blank_here s i h e = ap blanks (drop_at s i 0 h) ∙ ap (λ (t : Bool). choose t (suc (blanks (drop (i + 1) s))) 0) (eq-eqb _ _ e)
-
-byte_here : (s : Bytes) (i : ℕ) → i < length s → (get_or s i 0 ≡ 32 → ⊥) → blanks (drop i s) ≡ 0
-unfolding blanks choose
-byte_here s i h e = ap blanks (drop_at s i 0 h) ∙ ap (λ (t : Bool). choose t (suc (blanks (drop (i + 1) s))) 0) (ne_eqb _ _ e)
-
-end_here : (s : Bytes) (i : ℕ) → length s ≤ i → blanks (drop i s) ≡ 0
-unfolding blanks
-end_here s i h = ap blanks (drop_end s i h)
-
-module _ (s : Bytes) (n i : ℕ) (inv : n + blanks (drop n s) ≡ i + blanks (drop i s)) where
-  pub blanks_stop : i < length s → (get_or s i 0 ≡ 32 → ⊥) → i ≡ n + blanks (drop n s)
-  blanks_stop h e = omega (arith, byte_here s i h e)
-
-  pub blanks_on : i < length s → get_or s i 0 ≡ 32 → n + blanks (drop n s) ≡ i + 1 + blanks (drop (i + 1) s)
-  blanks_on h e = omega (arith, blank_here s i h e)
-
-  pub blanks_end : length s ≤ i → i ≡ n + blanks (drop n s)
-  blanks_end h = omega (arith, end_here s i h)
-
--- ---- what stands behind the blanks at the front
 
 blanks_most : (s : Bytes) → blanks s ≤ length s
 unfolding blanks choose
@@ -74,45 +53,46 @@ first_blank (x ∷ s) p k h = go (eqb x 32) h
     go true e = sym (lt-ltb p k (omega arith))
     go false e = sym (le-ltb p k (omega arith))
 
--- From the place n of s on: the place k behind the blanks.
-module _ (s : Bytes) (n k : ℕ) (h : k ≡ n + blanks (drop n s)) where
-  past_in : n ≤ length s → k ≤ length s
-  past_in l = omega (arith, blanks_most (drop n s), length-drop n s)
+bare_place : (s : Bytes) → position_or_len (λ x. not (eqb x 32)) s ≡ blanks s
+unfolding blanks choose
+bare_place [] = refl
+bare_place (x ∷ s) = by_cases (eqb x 32) (bare_place s)
+  where
+    by_cases : (t : Bool) → position_or_len (λ x. not (eqb x 32)) s ≡ blanks s → cond (not (not t)) (1 + position_or_len (λ x. not (eqb x 32)) s) 0 ≡ choose t (suc (blanks s)) 0
+    by_cases true e = omega arith
+    by_cases false e = refl
 
-  past_drop : drop k s ≡ drop (blanks (drop n s)) (drop n s)
-  past_drop = ap (λ (m : ℕ). drop m s) h ∙ sym (drop-drop (blanks (drop n s)) n s)
+pub bare_behind : (s r : Bytes) (o : Option ℕ) (n : ℕ) → o ≡ position (λ x. not (eqb x 32)) s → n ≡ unwrap_or o (length s) → r ≡ drop n s → r ≡ drop (blanks s) s
+bare_behind s r o n e q d = d ∙ ap (λ (k : ℕ). drop k s) (q ∙ place_or_end _ s o (blanks s) e (bare_place s) (blanks_most s))
 
-  past_byte : blank_first (drop k s) ≡ false
-  past_byte = ap blank_first past_drop ∙ (front_past (drop n s)).0
+-- What is left of s behind the blanks, r.
+module _ (s r : Bytes) (h : r ≡ drop (blanks s) s) where
+  past_less : length r ≤ length s
+  past_less = omega (arith, ap length h, length-drop (blanks s) s)
 
-  past_rest : squeezed (drop k s) ≡ squeezed (drop n s)
-  past_rest = ap squeezed past_drop ∙ (front_past (drop n s)).1
+  past_byte : blank_first r ≡ false
+  past_byte = ap blank_first h ∙ (front_past s).0
 
-  past_behind : behind (drop k s) ≡ squeezed (drop n s)
-  past_behind = behind_bare (drop k s) past_byte ∙ past_rest
+  past_rest : squeezed r ≡ squeezed s
+  past_rest = ap squeezed h ∙ (front_past s).1
 
--- Nothing is left just at the end.
-nothing_left : (s : Bytes) (k : ℕ) → blank_first (drop k s) ≡ false → empty (squeezed (drop k s)) ≡ leb (length s) k
+  past_behind : behind r ≡ squeezed s
+  past_behind = behind_bare r past_byte ∙ past_rest
+
+  -- There were blanks just if it is shorter.
+  past_none : length r ≡ length s → blank_first s ≡ false
+  past_none e = first_blank s 0 (blanks s) (omega arith) ∙ le-ltb 0 (blanks s) (omega (arith, ap length h, length-drop (blanks s) s, blanks_most s))
+
+  past_some : (length r ≡ length s → ⊥) → blank_first s ≡ true
+  past_some n = first_blank s 0 (blanks s) (omega arith) ∙ lt-ltb 0 (blanks s) (omega (arith, ap length h, length-drop (blanks s) s, blanks_most s))
+
+-- Nothing is left just where no byte is.
+nothing_left : (s : Bytes) → blank_first s ≡ false → empty (squeezed s) ≡ eqb (length s) 0
 unfolding empty blank_first
-nothing_left s k b =
-    below_or k (length s)
-    (λ l.
-    let d = drop_at s k 0 l in
-    ap (λ (t : Bytes). empty (squeezed t)) d ∙ ap empty (squeezed_byte _ _ (sym (ap blank_first d) ∙ b)) ∙ sym (lt-leb (length s) k l))
-    (λ l. ap (λ (t : Bytes). empty (squeezed t)) (drop_end s k l) ∙ ap empty squeezed_none ∙ sym (le-leb (length s) k l))
+nothing_left [] b = ap empty squeezed_none
+nothing_left (x ∷ s) b = ap empty (squeezed_byte x s b) ∙ sym (ne_eqb (length (x ∷ s)) 0 (λ e. let z : ⊥ = omega arith in z))
 
 -- ---- `common`
-
-common_most : (s t : Bytes) → (in_common s t ≤ length s) × (in_common s t ≤ length t)
-unfolding in_common choose
-common_most [] t = (omega arith, omega arith)
-common_most (x ∷ s) [] = (omega arith, omega arith)
-common_most (x ∷ s) (y ∷ t) = go (eqb x y and isnt (eqb x 32)) (common_most s t)
-  where
-    go : (u : Bool) → (in_common s t ≤ length s) × (in_common s t ≤ length t)
-        → (choose u (suc (in_common s t)) 0 ≤ suc (length s)) × (choose u (suc (in_common s t)) 0 ≤ suc (length t))
-    go true h = let l = h.0 in let r = h.1 in (omega arith, omega arith)
-    go false h = (omega arith, omega arith)
 
 module _ (a b : Bytes) (i : ℕ) (inv : in_common a b ≡ i + in_common (drop i a) (drop i b)) where
   module _ (h : i < length a) (k : i < length b) where
@@ -120,41 +100,29 @@ module _ (a b : Bytes) (i : ℕ) (inv : in_common a b ≡ i + in_common (drop i 
     unfolding in_common
     here = ap₂ in_common (drop_at a i 0 h) (drop_at b i 0 k)
 
-    pub common_differ : (get_or a i 0 ≡ get_or b i 0 → ⊥) → i ≡ in_common a b
-    unfolding ◌and◌ choose
-    common_differ e = let q = here ∙ ap (λ (t : Bool). choose (t and isnt (eqb (get_or a i 0) 32)) (suc (in_common (drop (i + 1) a) (drop (i + 1) b))) 0) (ne_eqb _ _ e) in omega arith
+    pub common_stop : (get_or a i 0 ≡ get_or b i 0 → ⊥) ⊎ (get_or a i 0 ≡ 32) → i ≡ in_common a b
+    unfolding ◌and◌ isnt choose
+    common_stop (inl e) = let q = here ∙ ap (λ (t : Bool). choose (t and isnt (eqb (get_or a i 0) 32)) (suc (in_common (drop (i + 1) a) (drop (i + 1) b))) 0) (ne_eqb _ _ e) in omega arith
+    common_stop (inr e) =
+        let n : (eqb (get_or a i 0) (get_or b i 0) and isnt (eqb (get_or a i 0) 32)) ≡ false = ap (λ (t : Bool). eqb (get_or a i 0) (get_or b i 0) and isnt t) (eq-eqb _ _ e) ∙ and_not _ in
+        let q = here ∙ ap (λ (t : Bool). choose t (suc (in_common (drop (i + 1) a) (drop (i + 1) b))) 0) n in omega arith
 
-    module _ (e : get_or a i 0 ≡ get_or b i 0) where
-      equal_here : in_common (drop i a) (drop i b) ≡ choose (isnt (eqb (get_or a i 0) 32)) (suc (in_common (drop (i + 1) a) (drop (i + 1) b))) 0
-      unfolding ◌and◌
-      equal_here = here ∙ ap (λ (t : Bool). choose (t and isnt (eqb (get_or a i 0) 32)) (suc (in_common (drop (i + 1) a) (drop (i + 1) b))) 0) (eq-eqb _ _ e)
+    pub common_on : get_or a i 0 ≡ get_or b i 0 → (get_or a i 0 ≡ 32 → ⊥) → in_common a b ≡ i + 1 + in_common (drop (i + 1) a) (drop (i + 1) b)
+    unfolding ◌and◌ isnt choose
+    common_on e z =
+        let n : (eqb (get_or a i 0) (get_or b i 0) and isnt (eqb (get_or a i 0) 32)) ≡ true = ap₂ (λ (t u : Bool). t and isnt u) (eq-eqb _ _ e) (ne_eqb _ _ z) in
+        let q = here ∙ ap (λ (t : Bool). choose t (suc (in_common (drop (i + 1) a) (drop (i + 1) b))) 0) n in omega arith
 
-      pub common_blank : get_or a i 0 ≡ 32 → i ≡ in_common a b
-      unfolding isnt choose
-      common_blank z = let q = equal_here ∙ ap (λ (t : Bool). choose (isnt t) (suc (in_common (drop (i + 1) a) (drop (i + 1) b))) 0) (eq-eqb _ _ z) in omega arith
-
-      pub common_on : (get_or a i 0 ≡ 32 → ⊥) → in_common a b ≡ i + 1 + in_common (drop (i + 1) a) (drop (i + 1) b)
-      unfolding isnt choose
-      common_on z = let q = equal_here ∙ ap (λ (t : Bool). choose (isnt t) (suc (in_common (drop (i + 1) a) (drop (i + 1) b))) 0) (ne_eqb _ _ z) in omega arith
-
-  pub common_end : length a ≤ i → i ≡ in_common a b
+  pub common_end : min (length a) (length b) ≤ i → i ≡ in_common a b
   unfolding in_common
-  common_end h = let q : in_common (drop i a) (drop i b) ≡ 0 = ap (λ (s : Bytes). in_common s (drop i b)) (drop_end a i h) in omega arith
+  common_end h =
+      let q : in_common (drop i a) (drop i b) ≡ 0 =
+      below_or i (length a)
+      (λ l. ap₂ in_common (drop_at a i 0 l) (drop_end b i (omega arith)))
+      (λ l. ap (λ (s : Bytes). in_common s (drop i b)) (drop_end a i l)) in
+      omega arith
 
-  pub common_short : i < length a → length b ≤ i → i ≡ in_common a b
-  unfolding in_common
-  common_short h k = let q : in_common (drop i a) (drop i b) ≡ 0 = ap₂ in_common (drop_at a i 0 h) (drop_end b i k) in omega arith
-
--- ---- `both_past`
-
-module _ (a b : Bytes) (i j : ℕ) where
-  pub both_left : length a ≤ i → leb (length b) j ≡ (leb (length a) i and leb (length b) j)
-  unfolding ◌and◌
-  both_left h = sym (ap (λ (t : Bool). t and leb (length b) j) (le-leb (length a) i h))
-
-  pub both_not : i < length a → false ≡ (leb (length a) i and leb (length b) j)
-  unfolding ◌and◌
-  both_not h = sym (ap (λ (t : Bool). t and leb (length b) j) (lt-leb (length a) i h))
+pub ruleset commons = (common_stop, common_on, common_end)
 
 -- ---- `same_squeezed`
 
@@ -207,117 +175,69 @@ one_blank : (s t : Bytes) → in_common s t ≡ 0 → (blank_first s ≡ false) 
 one_blank s t e (inl h) = ⊎_elim (λ k. behind_right s t h k) (λ k. parted s t e h k) (passes? (blank_first t))
 one_blank s t e (inr k) = ⊎_elim (λ h. behind_left s t h k) (λ h. parted s t e h k) (passes? (blank_first s))
 
--- The places i and j of two labels: the labels match just if the same is left of them from there on, behind a byte.
-pub record Matching (a b : Bytes) (i j : ℕ) : Type 0 where
-  pub left_in : i ≤ length a
-  pub right_in : j ≤ length b
-  pub rest : same_label a b ≡ same (behind (drop i a)) (behind (drop j b))
+-- What is left of two labels, s and t: the labels match just if the same is left of both, behind a byte.
+pub record Matching (a b s t : Bytes) : Type 0 where
+  pub rest : same_label a b ≡ same (behind s) (behind t)
 
-pub match_start : (a b : Bytes) (i j : ℕ) → i ≡ 0 + blanks (drop 0 a) → j ≡ 0 + blanks (drop 0 b) → Matching a b i j
-match_start a b i j h k =
-    record {
-      left_in = past_in a 0 i h (omega arith);
-      right_in = past_in b 0 j k (omega arith);
-      rest = same_label_is a b ∙ sym (ap₂ same (past_behind a 0 i h) (past_behind b 0 j k));
-    }
+pub match_start : (a b s t : Bytes) → s ≡ drop (blanks a) a → t ≡ drop (blanks b) b → Matching a b s t
+match_start a b s t h k = record { rest = same_label_is a b ∙ sym (ap₂ same (past_behind a s h) (past_behind b t k)) }
 
--- From there n bytes are the same and no blanks, and k and l are the next places without a blank.
-module _ (a b s t : Bytes) (i j n : ℕ) (m : Matching a b i j) (es : s ≡ drop i a) (et : t ≡ drop j b) (en : n ≡ in_common s t) where
-  so_many : in_common (drop i a) (drop j b) ≡ n
-  so_many = sym (en ∙ ap₂ in_common es et)
+-- At their fronts n bytes are the same and no blanks; p and q stand behind them, and x and y behind the blanks that follow.
+module _ (a b s t p q x y : Bytes) (n : ℕ) (m : Matching a b s t) (en : n ≡ in_common s t) (ep : p ≡ drop n s) (eq : q ≡ drop n t) (ex : x ≡ drop (blanks p) p) (ey : y ≡ drop (blanks q) q) where
+  left_there : p ≡ drop (in_common s t) s
+  left_there = ep ∙ ap (λ (k : ℕ). drop k s) en
 
-  pub common_left : i + n ≤ length a
-  common_left = let l = m.left_in in let h = (common_most (drop i a) (drop j b)).0 in omega (arith, so_many, length-drop i a)
+  right_there : q ≡ drop (in_common s t) t
+  right_there = eq ∙ ap (λ (k : ℕ). drop k t) en
 
-  pub common_right : j + n ≤ length b
-  common_right = let l = m.right_in in let h = (common_most (drop i a) (drop j b)).1 in omega (arith, so_many, length-drop j b)
+  there : same_label a b ≡ same (behind p) (behind q)
+  there = m.rest ∙ behind_common s t ∙ sym (ap₂ (λ (s t : Bytes). same (behind s) (behind t)) left_there right_there)
 
-  pub left_fits : length a < 2 ^ 64 → i + n < 2 ^ 64
-  left_fits h = omega (arith, common_left)
+  pub match_less : (length x ≡ length p → ⊥) → length x < length s
+  match_less h = omega (arith, past_less p x ex, ap length ep, length-drop n s)
 
-  pub right_fits : length b < 2 ^ 64 → j + n < 2 ^ 64
-  right_fits h = omega (arith, common_right)
+  pub match_on : (length x ≡ length p → ⊥) → (length y ≡ length q → ⊥) → Matching a b x y
+  match_on h k =
+      record { rest = there ∙ behind_same p q true (past_some p x ex h) (past_some q y ey k) ∙ sym (ap₂ same (past_behind p x ex) (past_behind q y ey)) }
 
-  left_there : drop (in_common (drop i a) (drop j b)) (drop i a) ≡ drop (i + n) a
-  left_there = drop-drop _ i a ∙ ap (λ (x : ℕ). drop (i + x) a) so_many
+  nothing_more : (length x ≡ length p) ⊎ ((length x ≡ length p → ⊥) × (length y ≡ length q)) → (eqb (length x) 0 and eqb (length y) 0) ≡ same_label a b
+  nothing_more u =
+      sym (there
+      ∙ one_blank p q (ap₂ in_common left_there right_there ∙ common_ends s t) (⊎_elim (λ e. inl (past_none p x ex e)) (λ e. inr (past_none q y ey e.1)) u)
+      ∙ ap₂ (λ (s t : Bytes). empty s and empty t) (sym (past_rest p x ex)) (sym (past_rest q y ey))
+      ∙ ap₂ (λ (s t : Bool). s and t) (nothing_left x (past_byte p x ex)) (nothing_left y (past_byte q y ey)))
 
-  right_there : drop (in_common (drop i a) (drop j b)) (drop j b) ≡ drop (j + n) b
-  right_there = drop-drop _ j b ∙ ap (λ (x : ℕ). drop (j + x) b) so_many
+  module _ (u : (length x ≡ length p) ⊎ ((length x ≡ length p → ⊥) × (length y ≡ length q))) (r : Bool) (e : r ≡ eqb (length x) 0) where
+    pub match_end : (t : Bool) → r ≡ true → t ≡ eqb (length y) 0 → t ≡ same_label a b
+    unfolding ◌and◌
+    match_end t h f = f ∙ ap (λ (u : Bool). u and eqb (length y) 0) (sym h ∙ e) ∙ nothing_more u
 
-  there : same_label a b ≡ same (behind (drop (i + n) a)) (behind (drop (j + n) b))
-  there = m.rest ∙ behind_common (drop i a) (drop j b) ∙ ap₂ (λ (s t : Bytes). same (behind s) (behind t)) left_there right_there
+    pub match_more : r ≡ false → r ≡ same_label a b
+    unfolding ◌and◌
+    match_more h = h ∙ ap (λ (u : Bool). u and eqb (length y) 0) (sym h ∙ e) ∙ nothing_more u
 
-  module _ (k l : ℕ) (ek : k ≡ i + n + blanks (drop (i + n) a)) (el : l ≡ j + n + blanks (drop (j + n) b)) where
-    pub match_less : i + n < k → length a - k < length a - i
-    match_less h = omega (arith, past_in a (i + n) k ek common_left)
-
-    pub match_on : i + n < k → j + n < l → Matching a b k l
-    match_on h h' =
-        record {
-          left_in = past_in a (i + n) k ek common_left;
-          right_in = past_in b (j + n) l el common_right;
-          rest =
-              there
-              ∙ behind_same _ _ true (first_blank (drop (i + n) a) (i + n) k ek ∙ lt-ltb (i + n) k h) (first_blank (drop (j + n) b) (j + n) l el ∙ lt-ltb (j + n) l h')
-              ∙ sym (ap₂ same (past_behind a (i + n) k ek) (past_behind b (j + n) l el));
-        }
-
-    nothing_more : (blank_first (drop (i + n) a) ≡ false) ⊎ (blank_first (drop (j + n) b) ≡ false) → (leb (length a) k and leb (length b) l) ≡ same_label a b
-    nothing_more u =
-        sym (there
-        ∙ one_blank _ _ (sym (ap₂ in_common left_there right_there) ∙ common_ends (drop i a) (drop j b)) u
-        ∙ ap₂ (λ (s t : Bytes). empty s and empty t) (sym (past_rest a (i + n) k ek)) (sym (past_rest b (j + n) l el))
-        ∙ ap₂ (λ (s t : Bool). s and t) (nothing_left a k (past_byte a (i + n) k ek)) (nothing_left b l (past_byte b (j + n) l el)))
-
-    pub match_left : (r : Bool) → k ≤ i + n → r ≡ (leb (length a) k and leb (length b) l) → r ≡ same_label a b
-    match_left r h e = e ∙ nothing_more (inl (first_blank (drop (i + n) a) (i + n) k ek ∙ le-ltb (i + n) k h))
-
-    pub match_right : (r : Bool) → l ≤ j + n → r ≡ (leb (length a) k and leb (length b) l) → r ≡ same_label a b
-    match_right r h e = e ∙ nothing_more (inr (first_blank (drop (j + n) b) (j + n) l el ∙ le-ltb (j + n) l h))
+pub ruleset matches = (match_start, match_less, match_on)
 
 -- ---- `last_byte`, `ends_differ`
 
-pub last_none : (s : Bytes) → length s < 1 → 32 ≡ last_byte s
+last_item : (s : Bytes) → unwrap_or (slice_get s (length s - 1)) 32 ≡ last_byte s
 unfolding last_byte
-last_none [] h = refl
-last_none (x ∷ s) h = absurd (let z : ⊥ = omega arith in z)
+last_item [] = refl
+last_item (x ∷ []) = refl
+last_item (x ∷ y ∷ s) = let e : suc (suc (length s)) - 1 ≡ suc (suc (length s) - 1) = omega arith in ap (λ (n : ℕ). unwrap_or (slice_get (x ∷ y ∷ s) n) 32) e ∙ last_item (y ∷ s)
 
-last_at : (s : Bytes) (k : ℕ) → length s ≡ suc k → get_or s k 0 ≡ last_byte s
-unfolding last_byte
-last_at [] k h = absurd (let z : ⊥ = omega arith in z)
-last_at (x ∷ []) zero h = refl
-last_at (x ∷ []) (suc k) h = absurd (let z : ⊥ = omega arith in z)
-last_at (x ∷ y ∷ s) zero h = absurd (let z : ⊥ = omega arith in z)
-last_at (x ∷ y ∷ s) (suc k) h = last_at (y ∷ s) k (omega arith)
+pub last_is : (s : Bytes) (r : ℕ) (o : Option ℕ) → o ≡ slice_get s (length s - 1) → r ≡ unwrap_or o 32 → r ≡ last_byte s
+last_is s r o e q = q ∙ ap (λ (o : Option ℕ). unwrap_or o 32) e ∙ last_item s
 
-pub last_is : (s : Bytes) → 1 ≤ length s → get_or s (length s - 1) 0 ≡ last_byte s
-last_is s h = last_at s (length s - 1) (omega arith)
+pub ends_are : (a b : Bytes) (x y : ℕ) → x ≡ last_byte a → y ≡ last_byte b → (not (eqb x 32) && not (eqb y 32) && not (eqb x y)) ≡ ends_differ a b
+unfolding ends_differ
+ends_are a b x y ex ey =
+    also (not (eqb x 32) && not (eqb y 32)) (not (eqb x y))
+    ∙ ap₂ (λ (t u : Bool). t and u) (also (not (eqb x 32)) (not (eqb y 32)) ∙ ap₂ (λ (t u : Bool). t and u) (not_is (eqb x 32)) (not_is (eqb y 32))) (not_is (eqb x y))
+    ∙ sym (and_assoc (isnt (eqb x 32)) (isnt (eqb y 32)) (isnt (eqb x y)))
+    ∙ ap₂ (λ (x y : ℕ). isnt (eqb x 32) and isnt (eqb y 32) and isnt (eqb x y)) ex ey
 
-module _ (a b : Bytes) (x y : ℕ) (ex : x ≡ last_byte a) (ey : y ≡ last_byte b) where
-  ends_are : ends_differ a b ≡ (isnt (eqb x 32) and isnt (eqb y 32) and isnt (eqb x y))
-  unfolding ends_differ
-  ends_are = rw (ex, ey) refl
-
-  pub ends_left : x ≡ 32 → false ≡ ends_differ a b
-  unfolding ◌and◌ isnt
-  ends_left h = sym (ends_are ∙ ap (λ (t : Bool). isnt t and isnt (eqb y 32) and isnt (eqb x y)) (eq-eqb _ _ h))
-
-  pub ends_right : (x ≡ 32 → ⊥) → y ≡ 32 → false ≡ ends_differ a b
-  unfolding ◌and◌ isnt
-  ends_right h k = sym (ends_are ∙ ap₂ (λ (t u : Bool). isnt t and isnt u and isnt (eqb x y)) (ne_eqb _ _ h) (eq-eqb _ _ k))
-
-  module _ (h : x ≡ 32 → ⊥) (k : y ≡ 32 → ⊥) where
-    ends_both : ends_differ a b ≡ isnt (eqb x y)
-    unfolding ◌and◌ isnt
-    ends_both = ends_are ∙ ap₂ (λ (t u : Bool). isnt t and isnt u and isnt (eqb x y)) (ne_eqb _ _ h) (ne_eqb _ _ k)
-
-    pub ends_same : x ≡ y → false ≡ ends_differ a b
-    unfolding isnt
-    ends_same e = sym (ends_both ∙ ap isnt (eq-eqb _ _ e))
-
-    pub ends_other : (x ≡ y → ⊥) → true ≡ ends_differ a b
-    unfolding isnt
-    ends_other e = sym (ends_both ∙ ap isnt (ne_eqb _ _ e))
+pub ruleset ends = (last_is, ends_are)
 
 -- A last byte that is no blank is the last of what is left, also behind a byte.
 last_behind : (x : ℕ) (s : Bytes) → eqb (last_byte s) 32 ≡ false → last_byte (x ∷ s) ≡ last_byte s
@@ -361,4 +281,4 @@ label_differs a b r d y =
 pub label_bytes : (a b : Bytes) (r : Bool) → r ≡ same a b → r ≡ true → true ≡ same_label a b
 label_bytes a b r e y = sym (same_label_of a b (ap squeezed (same_true a b (sym e ∙ y))))
 
-pub ruleset labels = (blanks_stop, blanks_on, blanks_end, common_differ, common_blank, common_on, common_end, common_short, both_left, both_not, match_start, common_left, common_right, left_fits, right_fits, match_less, match_on, match_left, match_right, last_none, last_is, ends_left, ends_right, ends_same, ends_other, label_differs, label_bytes)
+pub ruleset labels = (label_differs, label_bytes)

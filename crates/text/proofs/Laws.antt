@@ -1,30 +1,38 @@
 -- The turns and the returns of this crate's functions, as `search` finds them: the premises are what the code holds there.
-use mathlib.Core.Path.{◌≡◌, refl, sym, ap, ap₂, ◌∙◌, subst}
-use mathlib.Core.Bool.{Bool, true, false, ◌&&◌, ◌||◌}
-use mathlib.Core.List.{List, [], ◌∷◌, ◌++◌, append-nil}
+use mathlib.Core.Path.{◌≡◌, refl, sym, ap, ap₂, ◌∙◌}
+use mathlib.Core.Bool.{Bool, true, false, ◌&&◌, ◌||◌, not}
+use mathlib.Core.List.{List, [], ◌∷◌, ◌++◌, append_assoc}
 use Prim.Native.Nat.{ℕ, zero, suc, ◌+◌, ◌-◌, ◌*◌, ◌/◌, ◌%◌, ◌^◌, ◌≤◌, ◌<◌, min}
 use native.Mathlib.Nat.{add-sub_cancel_left}
 use native.Mathlib.Omega.{arith}
-use lib.Dec.{eqb, leb}
-use lib.ListN.{length, get_or, take, drop, set, replicate, length-drop, length-append, take-append-drop, get_or-eq_default}
-use lib.Seq.{drop-drop, length-take-le, take_all, take-nil, set_out, sets, set-get_or, get_or-set_same}
-use borrow.Author.Fill.{fill_more}
-use borrow.Author.Tests.{eq-eqb, ne_eqb, le-leb, lt-leb}
+use lib.Dec.{eqb, leb, ltb}
+use lib.ListN.{length, get_or, take, drop, length-drop, length-append, take-append-drop}
+use lib.Seq.{drop-drop, length-take-le, set_out, sets, sets-eq, length-sets}
+use borrow.Author.Tests.{le-leb, le-ltb, lt-leb, lt-ltb}
 use Rattle.laws.specs.Tests.{◌and◌, ◌or◌, isnt, choose, has}
-use Rattle.laws.specs.TestLaws.{and_assoc, and_ends, and_right, same_test, or_assoc, or_ends, or_left, or_right, false_isnt, fails, both_ways}
-use Rattle.laws.specs.Slices.{below_or, drop_at, drop_end, take_more, sets_more, sets_out, get_d_sets_before}
+use Rattle.laws.specs.TestLaws.{and_assoc, and_ends, and_right, same_test, or_assoc, or_ends, or_left, or_right, fails, both_ways}
+use Rattle.laws.specs.Slices.{below_or, drop_at, drop_end, sets_append, sets_out}
+use borrow.Rule.Slice.PartMut.{put_mid}
+use lib.Pointwise.{pointwise}
+use Rattle.std.specs.Cmp.{IsEquivalence}
 use Rattle.laws.specs.Bits.{bit_at, bit_in}
 use Rattle.laws.specs.BitSets.{bit_in_lem, bit_out}
 use Rattle.rules.specs.Text.{Bytes, same, between, all_bytes, name_byte, label_byte, word_byte, digit_byte, is_name, is_label, is_word, is_number, value_from, decimal}
 use Rattle.rules.specs.SuiteFile.{hex_byte}
-use Rattle.rules.proofs.TextLaws.{decimal_small, decimal_more, same_of, same_self, same_true}
-use Rattle.text.specs.Scans.{span, plain_byte, class_byte, sized}
-use Rattle.text.specs.SplitLaws.{span_hit, span_miss, span_end}
-use Rattle.text.specs.Puts.{Puts, puts_none, puts_then, puts_length}
+use Rattle.rules.proofs.TextLaws.{decimal_small, decimal_more, same_true}
+use Rattle.std.specs.Prelude.{◌⊎◌, Option, Some, None, cond}
+use Rattle.std.proofs.Common.{inl, inr}
+use Rattle.text.specs.declared.Class.{Class}
+use Rattle.text.specs.declared.Class.TheVariants.{Name, Label, Word, Digit}
+use Rattle.std.specs.List.{list_all, position, position_or_len}
+use Rattle.std.specs.Option.{unwrap_or}
+use Rattle.text.specs.Scans.{last_byte, span, plain_byte, class_byte, sized}
+use Rattle.text.specs.SplitLaws.{span_within}
+use Rattle.text.specs.Puts.{Puts, puts_then}
 use Rattle.text.specs.Hash.{hash_from, hash_of}
 
 -- The test of the code and that of the rules.
-also : (a b : Bool) → (a && b) ≡ (a and b)
+pub also : (a b : Bool) → (a && b) ≡ (a and b)
 unfolding ◌and◌
 also true b = refl
 also false b = refl
@@ -34,17 +42,33 @@ unfolding ◌or◌
 either true b = refl
 either false b = refl
 
--- ---- `find_from`, `block_has`, `find`, `find_short`
+pub not_is : (a : Bool) → not a ≡ isnt a
+unfolding isnt
+not_is true = refl
+not_is false = refl
 
-module _ (b : ℕ) (s : Bytes) (n i : ℕ) (inv : n + span b (drop n s) ≡ i + span b (drop i s)) where
-  pub find_hit : i < length s → get_or s i 0 ≡ b → i ≡ n + span b (drop n s)
-  find_hit h e = omega (arith, span_hit b s i h e)
+-- ---- `find_short`, `block_has`, `find`
 
-  pub find_on : i < length s → (get_or s i 0 ≡ b → ⊥) → n + span b (drop n s) ≡ i + 1 + span b (drop (i + 1) s)
-  find_on h e = omega (arith, span_miss b s i h e)
+first_place : (b : ℕ) (s : Bytes) → position_or_len (λ x. eqb x b) s ≡ span b s
+unfolding span choose
+first_place b [] = refl
+first_place b (x ∷ s) = by_cases (eqb x b) (first_place b s)
+  where
+    by_cases : (t : Bool) → position_or_len (λ x. eqb x b) s ≡ span b s → cond (not t) (1 + position_or_len (λ x. eqb x b) s) 0 ≡ choose t 0 (suc (span b s))
+    by_cases true e = refl
+    by_cases false e = omega arith
 
-  pub find_end : length s ≤ i → i ≡ n + span b (drop n s)
-  find_end e = omega (arith, span_end b s i e)
+-- The place that was found, or else the end.
+pub place_or_end : (f : ℕ → Bool) (s : Bytes) (o : Option ℕ) (n : ℕ) → o ≡ position f s → position_or_len f s ≡ n → n ≤ length s → unwrap_or o (length s) ≡ n
+place_or_end f s o n e q l =
+    ap (λ (o : Option ℕ). unwrap_or o (length s)) e
+    ∙ ap (λ (n : ℕ). unwrap_or (cond (ltb n (length s)) (Some n) None) (length s)) q
+    ∙ below_or n (length s)
+    (λ h. ap (λ (t : Bool). unwrap_or (cond t (Some n) None) (length s)) (lt-ltb n (length s) h))
+    (λ h. ap (λ (t : Bool). unwrap_or (cond t (Some n) None) (length s)) (le-ltb n (length s) h) ∙ omega arith)
+
+pub find_place : (b : ℕ) (s : Bytes) (r : ℕ) (o : Option ℕ) → o ≡ position (λ x. eqb x b) s → r ≡ unwrap_or o (length s) → r ≡ span b s
+find_place b s r o e q = q ∙ place_or_end _ s o (span b s) e (first_place b s) (span_within b s)
 
 pub has_start : (b : ℕ) (s : Bytes) → has s b ≡ (false or has s b)
 unfolding ◌or◌
@@ -60,9 +84,9 @@ module _ (b : ℕ) (s : Bytes) (i : ℕ) (hit : Bool) (inv : has s b ≡ (hit or
       ∙ or_assoc hit (eqb (get_or s i 0) b) rest
       ∙ ap (λ (t : Bool). t or rest) (sym (either hit (eqb (get_or s i 0) b)))
 
-  pub has_done : length s ≡ 16 → 16 ≤ i → hit ≡ has s b
+  pub has_done : length s ≤ i → hit ≡ has s b
   unfolding has
-  has_done l h = sym (or_ends hit) ∙ sym (inv ∙ ap (λ (l : Bytes). hit or has l b) (drop_end s i (omega arith)))
+  has_done h = sym (or_ends hit) ∙ sym (inv ∙ ap (λ (l : Bytes). hit or has l b) (drop_end s i h))
 
 -- The first b stands past a part that has none.
 span_past : (b n : ℕ) (s : Bytes) → n ≤ length s → has (take n s) b ≡ false → span b s ≡ n + span b (drop n s)
@@ -74,271 +98,133 @@ span_past b (suc n) (x ∷ s) h e =
     let q : has (take n s) b ≡ false = fails _ (λ y. both_ways (or_right (eqb x b) y) e) in
     ap (λ (t : Bool). choose t 0 (suc (span b s))) p ∙ omega (arith, span_past b n s (omega arith) q)
 
-module _ (b : ℕ) (s : Bytes) (i : ℕ) (inv : span b s ≡ i + span b (drop i s)) where
-  pub find_past : (block : Bytes) (t : Bool) → block ≡ take 16 (drop i s) → t ≡ has block b → t ≡ false → 16 ≤ length s - i → span b s ≡ i + 16 + span b (drop (i + 16) s)
-  find_past block t eb et y h =
-      let q : span b (drop i s) ≡ 16 + span b (drop 16 (drop i s)) =
-      span_past b 16 (drop i s) (omega (arith, length-drop i s)) (ap (λ (l : Bytes). has l b) (sym eb) ∙ sym et ∙ y) in
-      omega (arith, q, ap (λ (l : Bytes). span b l) (drop-drop 16 i s))
+pub find_past : (b : ℕ) (s rest block more : Bytes) (t : Bool) → span b s ≡ length s - length rest + span b rest → length rest ≤ length s
+    → block ≡ take 16 rest → more ≡ drop 16 rest → 16 ≤ length rest → t ≡ has block b → t ≡ false → span b s ≡ length s - length more + span b more
+find_past b s rest block more t inv l eb em h e n =
+    let p : span b rest ≡ 16 + span b (drop 16 rest) = span_past b 16 rest h (ap (λ (x : Bytes). has x b) (sym eb) ∙ sym e ∙ n) in
+    omega (arith, ap length em, length-drop 16 rest, ap (span b) em)
 
-  pub find_here : (r : ℕ) → r ≡ i + span b (drop i s) → r ≡ span b s
-  find_here r e = e ∙ sym inv
+pub ruleset finds = (has_start, has_on, has_done, find_past, span_within)
 
-pub ruleset finds = (find_hit, find_on, find_end, has_start, has_on, has_done, find_past, find_here)
-
--- ---- `same_short`, `same_block`, `same_half`, `same_rest`, `same_long`, `same`
+-- ---- `same`
 
 pub same_sized : (a b : Bytes) → (length a ≡ length b → ⊥) → false ≡ same a b
 same_sized a b h = sym (fails _ (λ y. h (ap length (same_true a b y))))
 
-pub same_start : (a b : Bytes) → length a ≡ length b → drop (length a) a ≡ drop (length a) b
-same_start a b h = drop_end a (length a) (omega arith) ∙ sym (drop_end b (length a) (omega arith))
+pub same_not : (a b : Bytes) (x y : ℕ) → x ≡ last_byte a → y ≡ last_byte b → (x ≡ y → ⊥) → false ≡ same a b
+same_not a b x y e f n = sym (fails _ (λ h. n (e ∙ ap last_byte (same_true a b h) ∙ sym f)))
 
-module _ (a b : Bytes) (i : ℕ) (h : 0 < i) (k : i ≤ length a) where
-  pub same_on : length a ≡ length b → drop i a ≡ drop i b → get_or a (i - 1) 0 ≡ get_or b (i - 1) 0 → drop (i - 1) a ≡ drop (i - 1) b
-  same_on l inv e =
-      let q : i - 1 + 1 ≡ i = omega arith in
-      drop_at a (i - 1) 0 (omega arith)
-      ∙ ap₂ (λ (x : ℕ) (s : Bytes). x ∷ s) e (ap (λ (n : ℕ). drop n a) q ∙ inv ∙ ap (λ (n : ℕ). drop n b) (sym q))
-      ∙ sym (drop_at b (i - 1) 0 (omega arith))
+pub ruleset sames = (same_sized, same_not)
 
-  pub same_not : (get_or a (i - 1) 0 ≡ get_or b (i - 1) 0 → ⊥) → false ≡ same a b
-  same_not e = sym (fails _ (λ y. e (ap (λ (s : Bytes). get_or s (i - 1) 0) (same_true a b y))))
-
-pub same_done : (a b : Bytes) (i : ℕ) → drop i a ≡ drop i b → i ≤ 0 → true ≡ same a b
-same_done a b i inv h =
-    let q : i ≡ 0 = omega arith in
-    sym (same_of (ap (λ (n : ℕ). drop n a) (sym q) ∙ inv ∙ ap (λ (n : ℕ). drop n b) q))
-
-pub same_empty : (a b : Bytes) → length a ≡ length b → length a < 1 → true ≡ same a b
-same_empty a b l h = same_done a b (length a) (same_start a b l) (omega arith)
-
-pub same_single : (a b : Bytes) (last : ℕ) → length a ≡ length b → 1 ≤ length a → last ≡ length a - 1 → last < 1 → get_or a last 0 ≡ get_or b last 0 → true ≡ same a b
-same_single a b last l h d s e =
-    let q : get_or a (length a - 1) 0 ≡ get_or b (length a - 1) 0 = subst (λ (n : ℕ). get_or a n 0 ≡ get_or b n 0) d e in
-    same_done a b (length a - 1) (same_on a b (length a) h (omega arith) l (same_start a b l) q) (omega arith)
-
-pub block_same : (a b : Bytes) → same a b ≡ (true and same a b)
-unfolding ◌and◌
-block_same a b = refl
-
-module _ (a b : Bytes) (i : ℕ) (all : Bool) (inv : same a b ≡ (all and same (drop i a) (drop i b))) where
-  pub block_more : i < length a → i < length b → same a b ≡ ((all && eqb (get_or a i 0) (get_or b i 0)) and same (drop (i + 1) a) (drop (i + 1) b))
-  unfolding same
-  block_more h k =
-      let rest = same (drop (i + 1) a) (drop (i + 1) b) in
-      let t = eqb (get_or a i 0) (get_or b i 0) in
-      inv
-      ∙ ap₂ (λ (x y : Bytes). all and same x y) (drop_at a i 0 h) (drop_at b i 0 k)
-      ∙ and_assoc all t rest
-      ∙ ap (λ (u : Bool). u and rest) (sym (also all t))
-
-  pub block_whole : (n : ℕ) → length a ≡ n → length b ≡ n → n ≤ i → all ≡ same a b
-  unfolding same
-  block_whole n h k l =
-      sym (and_ends all)
-      ∙ sym (inv ∙ ap₂ (λ (x y : Bytes). all and same x y) (drop_end a i (omega arith)) (drop_end b i (omega arith)))
-
--- Bytes are the same where the first n and the rest of them are.
-join_same : (n : ℕ) (a b : Bytes) → take n a ≡ take n b → drop n a ≡ drop n b → a ≡ b
-join_same n a b p q = sym (take-append-drop n a) ∙ ap₂ (λ (x y : Bytes). x ++ y) p q ∙ take-append-drop n b
-
--- The first n, where the rest from i on is the same, and is behind or among them.
-rest_same : (a b : Bytes) (i n : ℕ) (t : Bool) → drop i a ≡ drop i b → i ≤ n → t ≡ same (take n a) (take n b) → t ≡ same a b
-rest_same a b i n t inv h e =
-    let q : i + (n - i) ≡ n = omega arith in
-    let d : (s : Bytes) → drop (n - i) (drop i s) ≡ drop n s = λ s. drop-drop (n - i) i s ∙ ap (λ (m : ℕ). drop m s) q in
-    e ∙ same_test _ _
-    (λ y. same_of (join_same n a b (same_true _ _ y) (sym (d a) ∙ ap (drop (n - i)) inv ∙ d b)))
-    (λ y. same_of (ap (take n) (same_true a b y)))
-
-pub rest_short : (a b : Bytes) (i : ℕ) (t : Bool) → drop i a ≡ drop i b → i ≤ 8 → t ≡ same (take 8 a) (take 8 b) → t ≡ same a b
-rest_short a b i t inv h e = rest_same a b i 8 t inv h e
-
--- The w bytes before the place i.
-module _ (a b : Bytes) (i w : ℕ) (t : Bool) (h : w < i) (e : t ≡ same (take (i - (i - w)) (drop (i - w) a)) (take (i - (i - w)) (drop (i - w) b))) where
-  pub before_on : drop i a ≡ drop i b → t ≡ true → drop (i - w) a ≡ drop (i - w) b
-  before_on inv y =
-      let n = i - (i - w) in
-      let q : i - w + n ≡ i = omega arith in
-      let d : (s : Bytes) → drop n (drop (i - w) s) ≡ drop i s = λ s. drop-drop n (i - w) s ∙ ap (λ (m : ℕ). drop m s) q in
-      join_same n (drop (i - w) a) (drop (i - w) b) (same_true _ _ (sym e ∙ y)) (d a ∙ inv ∙ sym (d b))
-
-  pub before_not : t ≡ false → false ≡ same a b
-  before_not y =
-      sym (fails _ (λ z. both_ways (same_of (ap (λ (s : Bytes). take (i - (i - w)) (drop (i - w) s)) (same_true a b z))) (sym e ∙ y)))
-
-  pub before_rest : (u : Bool) → drop i a ≡ drop i b → t ≡ true → i ≤ w + w → u ≡ same (take w a) (take w b) → u ≡ same a b
-  before_rest u inv y k f = rest_same a b (i - w) w u (before_on inv y) (omega arith) f
-
--- The first n of the second, by the length of the first.
-pub front_long : (n : ℕ) (a b : Bytes) → length a ≡ length b → n ≤ length a → length (take n b) ≡ n
-front_long n a b e h = length-take-le n b (omega arith)
-
-pub ruleset sames = (same_sized, same_start, same_on, same_not, same_done, same_empty, same_single, block_same, block_more, block_whole, rest_short, before_on, before_not, before_rest, front_long)
-
--- ---- `part`, `run`, `front`, `after`
-
-module _ (s : List ℕ) (start len : ℕ) where
-  pub part_out : length s < start → ◌≡◌ {A = List ℕ} [] (take len (drop start s))
-  part_out h = sym (simp (drop_end s start (omega arith)) (take-nil len))
-
-  pub part_rest : length s - start < len → take (length s - start) (drop start s) ≡ take len (drop start s)
-  part_rest h = take_all (length s - start) (drop start s) (omega (arith, length-drop start s)) ∙ sym (take_all len (drop start s) (omega (arith, length-drop start s)))
-
-  pub part_in : take (start + len - start) (drop start s) ≡ take len (drop start s)
-  part_in = ap (λ (n : ℕ). take n (drop start s)) (add-sub_cancel_left start len)
-
-module _ (s : List ℕ) (n : ℕ) where
-  pub front_all : length s < n → s ≡ take n s
-  front_all h = sym (take_all n s (omega arith))
-
-  pub after_out : length s < n → ◌≡◌ {A = List ℕ} [] (drop n s)
-  after_out h = sym (drop_end s n (omega arith))
-
-  pub after_in : take (length s - n) (drop n s) ≡ drop n s
-  after_in = take_all (length s - n) (drop n s) (omega (arith, length-drop n s))
+-- ---- `first`, `first_short`
 
 pub first_is : (b : ℕ) (s r : Bytes) (n : ℕ) → n ≡ span b s → r ≡ take n s → r ≡ take (span b s) s
 first_is b s r n e q = q ∙ ap (λ (m : ℕ). take m s) e
 
-pub ruleset parts = (part_out, part_rest, part_in, front_all, after_out, after_in, first_is, length-take-le)
-
 -- ---- `get`, `put`, `bit_at`, `set_bit`, `clear`, `copy`
-
-pub get_out : (s : List ℕ) (i : ℕ) → length s ≤ i → 0 ≡ get_or s i 0
-get_out s i h = sym (get_or-eq_default s 0 h)
-
-pub put_out : (s : List ℕ) (i v : ℕ) → length s ≤ i → s ≡ set s i v
-put_out s i v h = sym (set_out s i v h)
 
 pub bit_read : (s : List ℕ) (i n : ℕ) → n ≡ get_or s (i / 64) 0 → eqb (n / 2 ^ (i % 64) % 2) 1 ≡ bit_in s i
 unfolding bit_in bit_at
 bit_read s i n e = ap (λ (x : ℕ). eqb (x / 2 ^ (i % 64) % 2) 1) e
 
-module _ (s₀ s : List ℕ) (i : ℕ) (inv : s ≡ replicate i 0 ++ drop i s₀) (l : length s ≡ length s₀) where
-  pub clear_on : i < length s → set s i 0 ≡ replicate (i + 1) 0 ++ drop (i + 1) s₀
-  clear_on h = simp inv (fill_more i 0 s₀ (omega arith))
+pub copy_none : {A : Type 0} (d s : List A) (at : ℕ) → length d ≤ at → d ≡ sets d at s
+copy_none d s at h = sym (sets_out s d at h)
 
-  pub clear_done : i ≤ length s₀ → length s ≤ i → s ≡ replicate (length s₀) 0
-  clear_done h k =
-      let n : i ≡ length s₀ = omega arith in
-      inv ∙ ap (λ (r : List ℕ). replicate i 0 ++ r) (drop_end s₀ i (omega arith)) ∙ append-nil (replicate i 0) ∙ ap (λ (m : ℕ). replicate m 0) n
+-- As many of s as fit.
+module _ {A : Type 0} (d s : List A) (at n : ℕ) (e : n ≡ min (length s) (length d - at)) where
+  sets_fit : at < length d → sets d at s ≡ take at d ++ (take n s ++ drop (at + n) d)
+  sets_fit h =
+      let m : length (take n s) ≡ n = length-take-le n s (omega arith) in
+      let whole : sets d at s ≡ sets d at (take n s) =
+      sym (sets_append d at (take n s) (drop n s) ∙ ap (sets d at) (take-append-drop n s))
+      ∙ below_or n (length s)
+      (λ l. sets_out (drop n s) (sets d at (take n s)) (at + length (take n s)) (omega (arith, length-sets d at (take n s))))
+      (λ l. ap (sets (sets d at (take n s)) (at + length (take n s))) (drop_end s n l)) in
+      whole ∙ sets-eq (take n s) d at (omega arith) ∙ append_assoc (take at d) (take n s) (drop (at + length (take n s)) d)
+      ∙ ap (λ (k : ℕ). take at d ++ (take n s ++ drop (at + k) d)) m
 
-module _ (d₀ d s : List ℕ) (at k i : ℕ) (inv : sets d₀ at s ≡ sets d k (drop i s)) where
-  pub copy_on : i < length s → sets d₀ at s ≡ sets (set d k (get_or s i 0)) (k + 1) (drop (i + 1) s)
-  copy_on h = inv ∙ ap (λ (l : List ℕ). sets d k l) (drop_at s i 0 h) ∙ sets_more d k (get_or s i 0) (drop (i + 1) s)
+  pub copy_some : (x : List A) → at < length d → x ≡ take n s → put_mid at (at + n - at) d x ≡ sets d at s
+  copy_some x h q =
+      ap (λ (y : List A). take at d ++ (y ++ drop (at + n - at) (drop at d))) q
+      ∙ ap (λ (r : List A). take at d ++ (take n s ++ r)) (ap (λ (k : ℕ). drop k (drop at d)) (add-sub_cancel_left at n) ∙ drop-drop n at d)
+      ∙ sym (sets_fit h)
 
-  pub copy_full : length d ≤ k → d ≡ sets d₀ at s
-  copy_full h = sym (inv ∙ sets_out (drop i s) d k h)
+-- Lists are equal by E just if they are without a front and an end that they share.
+module _ {A : Type 0} (E : A → A → Bool) (equiv : IsEquivalence E) where
+  equal_self : (a : List A) → pointwise E a a ≡ true
+  equal_self [] = refl
+  equal_self (z ∷ a) = simp (equiv.refl z) (equal_self a)
 
-  pub copy_done : length s ≤ i → d ≡ sets d₀ at s
-  copy_done h = sym (inv ∙ simp (drop_end s i h))
+  front_equal : (a x y : List A) → pointwise E (a ++ x) (a ++ y) ≡ pointwise E x y
+  front_equal [] x y = refl
+  front_equal (z ∷ a) x y = simp (equiv.refl z) (front_equal a x y)
 
-pub ruleset stores = (get_out, put_out, bit_read, bit_out, bit_in_lem, clear_on, clear_done, copy_on, copy_full, copy_done)
+  end_equal : (x y b : List A) → length x ≡ length y → pointwise E (x ++ b) (y ++ b) ≡ pointwise E x y
+  end_equal [] [] b l = equal_self b
+  end_equal [] (v ∷ y) b l = absurd (let z : ⊥ = omega arith in z)
+  end_equal (u ∷ x) [] b l = absurd (let z : ⊥ = omega arith in z)
+  end_equal (u ∷ x) (v ∷ y) b l = ap (λ (t : Bool). E u v && t) (end_equal x y b (omega arith))
 
--- ---- `same_run`
+  pub run_equal : (d s room : List A) (at n : ℕ) (t : Bool) → room ≡ drop at d → n ≡ min (length s) (length room) → t ≡ pointwise E (take n s) (take n room)
+      → t ≡ pointwise E (sets d at s) d
+  run_equal d s room at n t q e u = below_or at (length d) within beyond
+    where
+      long : length room ≡ length d - at
+      long = ap length q ∙ length-drop at d
 
-module _ (t vs : List ℕ) (at k i : ℕ) (inv : same (sets t at vs) t ≡ same (sets t k (drop i vs)) t) where
-  pub run_full : length t ≤ k → true ≡ same (sets t at vs) t
-  run_full h = sym (inv ∙ ap (λ (l : List ℕ). same l t) (sets_out (drop i vs) t k h) ∙ same_self t)
+      within : at < length d → t ≡ pointwise E (sets d at s) d
+      within h =
+          let m : length (take n s) ≡ length (take n room) = length-take-le n s (omega (arith, long)) ∙ sym (length-take-le n room (omega (arith, long))) in
+          let whole : d ≡ take at d ++ (take n room ++ drop (at + n) d) =
+          sym (take-append-drop at d)
+          ∙ ap (λ (r : List A). take at d ++ r) (sym q ∙ sym (take-append-drop n room) ∙ ap (λ (r : List A). take n room ++ r) (ap (drop n) q ∙ drop-drop n at d)) in
+          u
+          ∙ sym (front_equal (take at d) (take n s ++ drop (at + n) d) (take n room ++ drop (at + n) d) ∙ end_equal (take n s) (take n room) (drop (at + n) d) m)
+          ∙ ap₂ (pointwise E) (sym (sets_fit d s at n (omega (arith, long)) h)) (sym whole)
 
-  pub run_end : length vs ≤ i → true ≡ same (sets t at vs) t
-  run_end h = sym (inv ∙ ap (λ (l : List ℕ). same (sets t k l) t) (drop_end vs i h) ∙ same_self t)
+      beyond : length d ≤ at → t ≡ pointwise E (sets d at s) d
+      beyond h =
+          let z : n ≡ 0 = omega (arith, long) in
+          u ∙ ap (λ (k : ℕ). pointwise E (take k s) (take k room)) z ∙ sym (equal_self d) ∙ ap (λ (x : List A). pointwise E x d) (copy_none d s at h)
 
-  pub run_on : i < length vs → get_or t k 0 ≡ get_or vs i 0 → same (sets t at vs) t ≡ same (sets t (k + 1) (drop (i + 1) vs)) t
-  run_on b q =
-      inv ∙ ap (λ (l : List ℕ). same (sets t k l) t) (drop_at vs i 0 b) ∙ ap (λ (l : List ℕ). same l t) (sets_more t k (get_or vs i 0) (drop (i + 1) vs))
-      ∙ ap (λ (l : List ℕ). same (sets l (k + 1) (drop (i + 1) vs)) t) (ap (set t k) (sym q) ∙ set-get_or t k 0)
+pub ruleset bits = (bit_read, bit_out, bit_in_lem)
 
-  pub run_not : k < length t → i < length vs → (get_or t k 0 ≡ get_or vs i 0 → ⊥) → false ≡ same (sets t at vs) t
-  run_not h b q =
-      sym (inv ∙ ap (λ (l : List ℕ). same (sets t k l) t) (drop_at vs i 0 b)
-      ∙ fails _ (λ y. q (sym (ap (λ (l : List ℕ). get_or l k 0) (same_true _ t y))
-      ∙ ap (λ (l : List ℕ). get_or l k 0) (sets_more t k (get_or vs i 0) (drop (i + 1) vs)) ∙ get_d_sets_before (drop (i + 1) vs) (set t k (get_or vs i 0)) (k + 1) k 0 (omega arith)
-      ∙ get_or-set_same t k (get_or vs i 0) 0 h)))
-
-pub ruleset runs = (run_full, run_end, run_on, run_not)
+pub ruleset stores = (copy_none, copy_some, run_equal)
 
 -- ---- the classes
 
-pub under : (a b x : ℕ) → x < a → false ≡ between a b x
-unfolding between ◌and◌
-under a b x h = sym (simp (lt-leb a x h))
+pub between_is : (a b x : ℕ) → (leb a x && leb x b) ≡ between a b x
+unfolding between
+between_is a b x = also (leb a x) (leb x b)
 
-pub from : (a b x : ℕ) → a ≤ x → leb x b ≡ between a b x
-unfolding between ◌and◌
-from a b x h = sym (simp (le-leb a x h))
+pub name_is : (x : ℕ) (t u v : Bool) → t ≡ between 65 90 x → u ≡ between 97 122 x → v ≡ between 48 57 x → (t || u || v || eqb x 95) ≡ name_byte x
+unfolding name_byte
+name_is x t u v e f g = simp (either, or_assoc, e, f, g)
 
-module _ (x : ℕ) (t : Bool) (e : t ≡ between 65 90 x) where
-  pub name_upper : t ≡ true → true ≡ name_byte x
-  unfolding name_byte ◌or◌
-  name_upper y = sym (simp (← e, y))
-
-  module _ (u : Bool) (n : t ≡ false) (f : u ≡ between 97 122 x) where
-    pub name_lower : u ≡ true → true ≡ name_byte x
-    unfolding name_byte ◌or◌
-    name_lower y = sym (simp (← e, n, ← f, y))
-
-    module _ (v : Bool) (m : u ≡ false) (g : v ≡ between 48 57 x) where
-      pub name_digit : v ≡ true → true ≡ name_byte x
-      unfolding name_byte ◌or◌
-      name_digit y = sym (simp (← e, n, ← f, m, ← g, y))
-
-      pub name_other : v ≡ false → eqb x 95 ≡ name_byte x
-      unfolding name_byte ◌or◌
-      name_other y = sym (simp (← e, n, ← f, m, ← g, y))
-
-pub plain_comma : (a x : ℕ) → x ≡ 44 → false ≡ plain_byte a x
+pub plain_is : (a x : ℕ) (t : Bool) → t ≡ between a 126 x → (t && not (eqb x 44)) ≡ plain_byte a x
 unfolding plain_byte
-plain_comma a x h = sym (fails _ (λ p. both_ways (and_right _ _ p) (false_isnt (eq-eqb x 44 h))))
+plain_is a x t e = also t (not (eqb x 44)) ∙ ap₂ (λ (u v : Bool). u and v) e (not_is (eqb x 44))
 
-pub plain_other : (a x : ℕ) (t : Bool) → (x ≡ 44 → ⊥) → t ≡ between a 126 x → t ≡ plain_byte a x
-unfolding plain_byte isnt
-plain_other a x t h e = e ∙ sym (simp (ne_eqb x 44 h) (and_ends (between a 126 x)))
+pub hex_is : (x : ℕ) (t u : Bool) → t ≡ between 48 57 x → u ≡ between 97 102 x → (t || u) ≡ hex_byte x
+unfolding hex_byte
+hex_is x t u e f = either t u ∙ ap₂ (λ (t u : Bool). t or u) e f
 
-module _ (k x : ℕ) (r : Bool) where
-  pub class_name : k ≡ 0 → r ≡ name_byte x → r ≡ class_byte k x
-  unfolding class_byte choose
-  class_name h e = e ∙ sym (simp h)
+module _ (k : Class) (x : ℕ) (t : Bool) where
+  pub label_is : k ≡ Label → t ≡ plain_byte 32 x → t ≡ class_byte k x
+  unfolding label_byte plain_byte
+  label_is h e = e ∙ sym (simp h)
 
-  pub class_label : k ≡ 1 → r ≡ plain_byte 32 x → r ≡ class_byte k x
-  unfolding class_byte choose label_byte plain_byte
-  class_label h e = e ∙ sym (simp h)
+  pub word_is : k ≡ Word → t ≡ plain_byte 33 x → t ≡ class_byte k x
+  unfolding word_byte plain_byte
+  word_is h e = e ∙ sym (simp h)
 
-  pub class_word : k ≡ 2 → r ≡ plain_byte 33 x → r ≡ class_byte k x
-  unfolding class_byte choose word_byte plain_byte
-  class_word h e = e ∙ sym (simp h)
+  pub digit_is : k ≡ Digit → t ≡ between 48 57 x → t ≡ class_byte k x
+  unfolding digit_byte
+  digit_is h e = e ∙ sym (simp h)
 
-  pub class_hex : (k ≡ 0 → ⊥) → (k ≡ 1 → ⊥) → (k ≡ 2 → ⊥) → r ≡ hex_byte x → r ≡ class_byte k x
-  unfolding class_byte choose
-  class_hex a b c e = e ∙ sym (simp (ne_eqb k 0 a, ne_eqb k 1 b, ne_eqb k 2 c))
+pub ruleset classes = (between_is, name_is, plain_is, hex_is, digit_is, label_is, word_is)
 
-module _ (x : ℕ) (r : Bool) (e : r ≡ between 48 57 x) where
-  pub hex_low : r ≡ true → true ≡ hex_byte x
-  unfolding hex_byte ◌or◌
-  hex_low y = sym (simp (← e, y))
-
-  pub hex_high : (t : Bool) → r ≡ false → t ≡ between 97 102 x → t ≡ hex_byte x
-  unfolding hex_byte ◌or◌
-  hex_high t y f = f ∙ sym (simp (← e, y))
-
-pub ruleset classes = (under, from, name_upper, name_lower, name_digit, name_other, plain_comma, plain_other, class_name, class_label, class_word, class_hex, hex_low, hex_high)
-
--- ---- `all_from`, `label_block`, `hex_block`, `block_in`, `all_in`
-
-module _ (k : ℕ) (s : Bytes) (n i : ℕ) (inv : all_bytes (class_byte k) (drop n s) ≡ all_bytes (class_byte k) (drop i s)) where
-  pub all_on : (t : Bool) → i < length s → t ≡ class_byte k (get_or s i 0) → t ≡ true → all_bytes (class_byte k) (drop n s) ≡ all_bytes (class_byte k) (drop (i + 1) s)
-  unfolding all_bytes ◌and◌
-  all_on t h e y = inv ∙ simp (drop_at s i 0 h, ← e, y)
-
-  pub all_not : (t : Bool) → i < length s → t ≡ class_byte k (get_or s i 0) → t ≡ false → false ≡ all_bytes (class_byte k) (drop n s)
-  unfolding all_bytes ◌and◌
-  all_not t h e y = sym (inv ∙ simp (drop_at s i 0 h, ← e, y))
-
-  pub all_done : length s ≤ i → true ≡ all_bytes (class_byte k) (drop n s)
-  unfolding all_bytes
-  all_done h = sym (inv ∙ simp (drop_end s i h))
+-- ---- `all_short`, `block_in`, `all_in`
 
 pub block_start : (f : ℕ → Bool) (s : Bytes) → all_bytes f s ≡ (true and all_bytes f s)
 unfolding ◌and◌
@@ -355,31 +241,14 @@ module _ (f : ℕ → Bool) (s : Bytes) (i : ℕ) (all : Bool) (inv : all_bytes 
       ∙ and_assoc all t rest
       ∙ ap (λ (b : Bool). b and rest) (sym (also all t))
 
-  pub block_done : length s ≡ 16 → 16 ≤ i → all ≡ all_bytes f s
+  pub block_done : length s ≤ i → all ≡ all_bytes f s
   unfolding all_bytes
-  block_done l h = sym (and_ends all) ∙ sym (inv ∙ ap (λ (l : Bytes). all and all_bytes f l) (drop_end s i (omega arith)))
+  block_done h = sym (and_ends all) ∙ sym (inv ∙ ap (λ (l : Bytes). all and all_bytes f l) (drop_end s i h))
 
-hex_class : (k x : ℕ) → 2 < k → hex_byte x ≡ class_byte k x
-unfolding class_byte choose
-hex_class k x h =
-    let n : (j : ℕ) → j < 3 → eqb k j ≡ false = λ j l. ne_eqb k j (λ e. let z : ⊥ = omega arith in z) in
-    sym (simp (n 0 (omega arith), n 1 (omega arith), n 2 (omega arith)))
-
-hex_all : (k : ℕ) → 2 < k → (s : Bytes) → all_bytes hex_byte s ≡ all_bytes (class_byte k) s
+each_listed : (f : ℕ → Bool) (s : Bytes) → list_all f s ≡ all_bytes f s
 unfolding all_bytes
-hex_all k h [] = refl
-hex_all k h (x ∷ s) = ap₂ (λ (a b : Bool). a and b) (hex_class k x h) (hex_all k h s)
-
-module _ (k : ℕ) (s : Bytes) (r : Bool) where
-  pub block_label : k ≡ 1 → r ≡ all_bytes (plain_byte 32) s → r ≡ all_bytes (class_byte k) s
-  unfolding class_byte choose label_byte plain_byte
-  block_label h e = e ∙ sym (simp h)
-
-  pub block_hex : 2 < k → r ≡ all_bytes hex_byte s → r ≡ all_bytes (class_byte k) s
-  block_hex h e = e ∙ hex_all k h s
-
-  pub block_other : r ≡ all_bytes (class_byte k) (drop 0 s) → r ≡ all_bytes (class_byte k) s
-  block_other e = e
+each_listed f [] = refl
+each_listed f (x ∷ s) = also (f x) (list_all f s) ∙ ap (λ (b : Bool). f x and b) (each_listed f s)
 
 -- A part and the rest of it.
 all_part : (f : ℕ → Bool) (n : ℕ) (s : Bytes) → all_bytes f s ≡ (all_bytes f (take n s) and all_bytes f (drop n s))
@@ -391,48 +260,51 @@ all_part f (suc n) (x ∷ s) = ap (λ (b : Bool). f x and b) (all_part f n s) �
 all_drop : (f : ℕ → Bool) (n : ℕ) (s : Bytes) → all_bytes f s ≡ true → all_bytes f (drop n s) ≡ true
 all_drop f n s y = and_right _ _ (sym (all_part f n s) ∙ y)
 
-module _ (k : ℕ) (s : Bytes) (i : ℕ) (inv : all_bytes (class_byte k) s ≡ all_bytes (class_byte k) (drop i s)) where
-  module _ (block : Bytes) (t : Bool) (eb : block ≡ take 16 (drop i s)) (et : t ≡ all_bytes (class_byte k) block) where
-    parted : all_bytes (class_byte k) s ≡ (t and all_bytes (class_byte k) (drop (i + 16) s))
-    parted =
-        inv ∙ all_part (class_byte k) 16 (drop i s)
-        ∙ ap₂ (λ (b : Bool) (l : Bytes). b and all_bytes (class_byte k) l) (sym (et ∙ ap (all_bytes (class_byte k)) eb)) (drop-drop 16 i s)
+-- What is left of s behind whole blocks, all of whose bytes pass.
+pub record Left (f : ℕ → Bool) (s rest : Bytes) : Type 0 where
+  pub from : ℕ
+  pub is : rest ≡ drop from s
+  pub all : all_bytes f s ≡ all_bytes f rest
 
-    pub parts_on : t ≡ true → all_bytes (class_byte k) s ≡ all_bytes (class_byte k) (drop (i + 16) s)
+pub left_all : (f : ℕ → Bool) (s : Bytes) → Left f s s
+left_all f s = record { from = 0; is = refl; all = refl }
+
+module _ (f : ℕ → Bool) (s rest : Bytes) (l : Left f s rest) where
+  module _ (block more : Bytes) (t : Bool) (eb : block ≡ take 16 rest) (em : more ≡ drop 16 rest) (et : t ≡ all_bytes f block) where
+    parted : all_bytes f s ≡ (t and all_bytes f more)
+    parted = l.all ∙ all_part f 16 rest ∙ ap₂ (λ (b : Bool) (r : Bytes). b and all_bytes f r) (sym (et ∙ ap (all_bytes f) eb)) (sym em)
+
+    pub left_on : t ≡ true → Left f s more
     unfolding ◌and◌
-    parts_on y = parted ∙ ap (λ (b : Bool). b and all_bytes (class_byte k) (drop (i + 16) s)) y
+    left_on y =
+        record {
+          from = l.from + 16;
+          is = em ∙ ap (drop 16) l.is ∙ drop-drop 16 l.from s;
+          all = parted ∙ ap (λ (b : Bool). b and all_bytes f more) y;
+        }
 
-    pub parts_not : t ≡ false → false ≡ all_bytes (class_byte k) s
+    pub left_not : t ≡ false → false ≡ all_bytes f s
     unfolding ◌and◌
-    parts_not y = sym (parted ∙ ap (λ (b : Bool). b and all_bytes (class_byte k) (drop (i + 16) s)) y)
+    left_not y = sym (parted ∙ ap (λ (b : Bool). b and all_bytes f more) y)
 
-  -- The last 16 bytes, where no more are left from the place i on.
-  pub parts_done : (block : Bytes) (t : Bool) → length s - i ≤ 16 → 16 ≤ length s → i ≤ length s → block ≡ take 16 (drop (length s - 16) s) → t ≡ all_bytes (class_byte k) block
-      → t ≡ all_bytes (class_byte k) s
-  parts_done block t l g h eb et =
+  -- The last 16 bytes, where no more are left.
+  pub left_last : (last : Bytes) (t : Bool) → length rest < 16 → 16 ≤ length s → last ≡ drop (length s - 16) s → t ≡ all_bytes f last → t ≡ all_bytes f s
+  left_last last t h g e et =
       let n = length s - 16 in
-      let q : n + (i - n) ≡ i = omega arith in
-      let e : t ≡ all_bytes (class_byte k) (drop n s) =
-      et ∙ ap (all_bytes (class_byte k)) (eb ∙ take_all 16 (drop n s) (omega (arith, length-drop n s))) in
-      e ∙ same_test _ _
-      (λ y. inv ∙ ap (λ (m : ℕ). all_bytes (class_byte k) (drop m s)) (sym q) ∙ ap (all_bytes (class_byte k)) (sym (drop-drop (i - n) n s)) ∙ all_drop (class_byte k) (i - n) (drop n s) y)
-      (λ y. all_drop (class_byte k) n s y)
+      let from : n ≤ l.from = omega (arith, ap length l.is, length-drop l.from s) in
+      let back : n + (l.from - n) ≡ l.from = omega arith in
+      et ∙ ap (all_bytes f) e ∙ same_test _ _
+      (λ y. l.all ∙ ap (all_bytes f) (l.is ∙ ap (λ (m : ℕ). drop m s) (sym back) ∙ sym (drop-drop (l.from - n) n s)) ∙ all_drop f (l.from - n) (drop n s) y)
+      (λ y. all_drop f n s y)
 
--- A block is 16 bytes long.
-pub block_long : (s block : Bytes) (i : ℕ) → block ≡ take 16 (drop i s) → 16 ≤ length s - i → length block ≡ 16
-block_long s block i e h = ap length e ∙ length-take-le 16 (drop i s) (omega (arith, length-drop i s))
+  pub left_short : (t : Bool) → t ≡ list_all f rest → t ≡ all_bytes f s
+  left_short t e = e ∙ each_listed f rest ∙ sym l.all
 
-pub block_longer : (s block : Bytes) (i : ℕ) → block ≡ take 16 (drop i s) → 16 < length s - i → length block ≡ 16
-block_longer s block i e h = block_long s block i e (omega arith)
+pub ruleset alls = (block_start, block_on, block_done, left_all, left_on)
 
-pub block_last : (s block : Bytes) → block ≡ take 16 (drop (length s - 16) s) → 16 ≤ length s → length block ≡ 16
-block_last s block e h = block_long s block (length s - 16) e (omega arith)
+-- ---- `sized`, and what it serves
 
-pub ruleset alls = (all_on, all_not, all_done, block_start, block_on, block_done, block_label, block_hex, block_other, parts_on, parts_not, parts_done, block_long, block_longer, block_last)
-
--- ---- `sized` and the three that it serves
-
-module _ (k most : ℕ) (s : Bytes) where
+module _ (k : Class) (most : ℕ) (s : Bytes) where
   pub sized_none : length s < 1 → false ≡ sized k most s
   unfolding sized between ◌and◌
   sized_none h = sym (simp (lt-leb 1 (length s) h))
@@ -446,16 +318,16 @@ module _ (k most : ℕ) (s : Bytes) where
   sized_all t g h e = e ∙ sym (simp (le-leb 1 (length s) g, le-leb (length s) most h))
 
 module _ (s : Bytes) (r : Bool) where
-  pub sized_name : r ≡ sized 0 12 s → r ≡ is_name s
-  unfolding sized is_name class_byte choose
+  pub sized_name : r ≡ sized Name 12 s → r ≡ is_name s
+  unfolding sized is_name
   sized_name e = e
 
-  pub sized_label : r ≡ sized 1 60 s → r ≡ is_label s
-  unfolding sized is_label class_byte choose
+  pub sized_label : r ≡ sized Label 60 s → r ≡ is_label s
+  unfolding sized is_label
   sized_label e = e
 
-  pub sized_word : r ≡ sized 2 8 s → r ≡ is_word s
-  unfolding sized is_word class_byte choose
+  pub sized_word : r ≡ sized Word 8 s → r ≡ is_word s
+  unfolding sized is_word
   sized_word e = e
 
 pub ruleset sizes = (sized_none, sized_long, sized_all, sized_name, sized_label, sized_word)
@@ -525,69 +397,39 @@ number_zero [] g h = absurd (let z : ⊥ = omega arith in z)
 number_zero (d ∷ []) g h = absurd (let z : ⊥ = omega arith in z)
 number_zero (d ∷ x ∷ ds) g h = sym (simp h)
 
-abbrev number_of : Bytes → ℕ
-number_of s = choose (is_number s) (min (value_from 0 s) 65536) 65537
+-- Digits, where the first is not 0 or the only one.
+only_digits : (s : Bytes) → 1 ≤ length s → (get_or s 0 0 ≡ 48 → ⊥) ⊎ (length s ≤ 1) → is_number s ≡ all_bytes digit_byte s
+unfolding is_number all_bytes
+only_digits s g (inl h) = digits_only s g h
+only_digits [] g (inr h) = absurd (let z : ⊥ = omega arith in z)
+only_digits (d ∷ []) g (inr h) = sym (and_ends (digit_byte d))
+only_digits (d ∷ x ∷ ds) g (inr h) = absurd (let z : ⊥ = omega arith in z)
 
-pub spelled_none : (s : Bytes) → length s < 1 → 65537 ≡ number_of s
-unfolding choose
-spelled_none s h = ap (λ (t : Bool). choose t (min (value_from 0 s) 65536) 65537) (number_none s h)
+module _ (s : Bytes) where
+  number_not : is_number s ≡ false → ◌≡◌ {A = Option ℕ} None (choose (is_number s) (Some (min (value_from 0 s) 65536)) None)
+  unfolding choose
+  number_not e = sym (simp e)
 
-pub spelled_zeros : (s : Bytes) → get_or s 0 0 ≡ 48 → 1 < length s → 65537 ≡ number_of s
-unfolding choose
-spelled_zeros s h g = ap (λ (t : Bool). choose t (min (value_from 0 s) 65536) 65537) (number_zero s g h)
+  pub number_no_byte : length s ≡ 0 → ◌≡◌ {A = Option ℕ} None (choose (is_number s) (Some (min (value_from 0 s) 65536)) None)
+  number_no_byte h = number_not (sym (number_none s (omega arith)))
 
-pub spelled_zero : (s : Bytes) → 1 ≤ length s → get_or s 0 0 ≡ 48 → length s ≤ 1 → 0 ≡ number_of s
-unfolding choose is_number value_from digit_byte between ◌and◌
-spelled_zero [] g e h = absurd (let z : ⊥ = omega arith in z)
-spelled_zero (d ∷ []) g e h = sym (simp e)
-spelled_zero (d ∷ x ∷ ds) g e h = absurd (let z : ⊥ = omega arith in z)
+  pub number_zeros : get_or s 0 0 ≡ 48 → 2 ≤ length s → ◌≡◌ {A = Option ℕ} None (choose (is_number s) (Some (min (value_from 0 s) 65536)) None)
+  number_zeros e h = number_not (sym (number_zero s h e))
 
-pub spelled_start : (s : Bytes) → 1 ≤ length s → (get_or s 0 0 ≡ 48 → ⊥) → number_of s ≡ choose (all_bytes digit_byte s) (min (value_from 0 s) 65536) 65537
-spelled_start s g h = ap (λ (t : Bool). choose t (min (value_from 0 s) 65536) 65537) (digits_only s g h)
+  module _ (t : Bool) (e : t ≡ all_bytes (class_byte Digit) s) (g : 1 ≤ length s) (h : (get_or s 0 0 ≡ 48 → ⊥) ⊎ (length s ≤ 1)) where
+    pub number_other : t ≡ false → ◌≡◌ {A = Option ℕ} None (choose (is_number s) (Some (min (value_from 0 s) 65536)) None)
+    number_other n = number_not (only_digits s g h ∙ sym e ∙ n)
 
-module _ (s : Bytes) (x v i : ℕ) (inv : x ≡ choose (all_bytes digit_byte (drop i s)) (min (value_from v (drop i s)) 65536) 65537) where
-  module _ (t : Bool) (h : i < length s) (e : t ≡ between 48 57 (get_or s i 0)) where
-    spelled_step : x ≡ choose (t and all_bytes digit_byte (drop (i + 1) s)) (min (value_from v (drop i s)) 65536) 65537
-    unfolding all_bytes digit_byte
-    spelled_step =
-        inv ∙ ap (λ (l : Bytes). choose (all_bytes digit_byte l) (min (value_from v (drop i s)) 65536) 65537) (drop_at s i 0 h)
-        ∙ ap (λ (u : Bool). choose (u and all_bytes digit_byte (drop (i + 1) s)) (min (value_from v (drop i s)) 65536) 65537) (sym e)
+    pub number_some : (v : ℕ) → t ≡ true → v ≡ min (value_from 0 s) 65536 → Some v ≡ choose (is_number s) (Some (min (value_from 0 s) 65536)) None
+    unfolding choose
+    number_some v y q = sym (simp (only_digits s g h, ← e, y, q))
 
-    pub spelled_not : t ≡ false → 65537 ≡ x
-    unfolding choose ◌and◌
-    spelled_not y = sym (spelled_step ∙ ap (λ (u : Bool). choose (u and all_bytes digit_byte (drop (i + 1) s)) (min (value_from v (drop i s)) 65536) 65537) y)
-
-    pub spelled_on : (w : ℕ) → t ≡ true → w ≡ min (v * 10 + (get_or s i 0 - 48)) 65536 → x ≡ choose (all_bytes digit_byte (drop (i + 1) s)) (min (value_from w (drop (i + 1) s)) 65536) 65537
-    unfolding ◌and◌
-    spelled_on w y q =
-        spelled_step
-        ∙ ap₂ (λ (u : Bool) (n : ℕ). choose (u and all_bytes digit_byte (drop (i + 1) s)) n 65537) y (value_next s v i w h q)
-
-  pub spelled_done : length s ≤ i → v ≤ 65536 → v ≡ x
-  unfolding choose all_bytes value_from
-  spelled_done h l =
-      let q : v ≡ min v 65536 = omega arith in
-      q ∙ sym (inv ∙ ap (λ (l : Bytes). choose (all_bytes digit_byte l) (min (value_from v l) 65536) 65537) (drop_end s i h))
-
-pub ruleset spelled = (spelled_none, spelled_zeros, spelled_zero, spelled_start, spelled_not, spelled_on, spelled_done)
+pub ruleset numbers = (number_no_byte, number_zeros, number_other, number_some)
 
 -- ---- `put_byte`, `put_bytes`, `put_decimal`
 
 pub byte_past : (o : List ℕ) (at b : ℕ) → length o ≤ at → Puts o at (b ∷ []) (at + 1) o
 byte_past o at b h = record { next = refl; bytes = sym (set_out o at b h) }
-
-pub bytes_none : (o s : List ℕ) (at : ℕ) → Puts o at (take 0 s) at o
-bytes_none o s at = puts_none o at
-
-module _ (o o₁ s : List ℕ) (at k i : ℕ) (inv : Puts o at (take i s) k o₁) where
-  pub bytes_room : i < length s → at + length s < 2 ^ 64 → k + 1 < 2 ^ 64
-  bytes_room h l = omega (arith, inv.next, length-take-le i s (omega arith))
-
-  pub bytes_on : (o₂ : List ℕ) (r : ℕ) → i < length s → Puts o₁ k (get_or s i 0 ∷ []) r o₂ → Puts o at (take (i + 1) s) r o₂
-  bytes_on o₂ r h p = rw (take_more s i 0 h) (puts_then inv p)
-
-  pub bytes_done : length s ≤ i → Puts o at s k o₁
-  bytes_done h = rw (take_all i s h) at inv
 
 pub decimal_one : {o o₁ : List ℕ} {at r x d : ℕ} → x < 10 → d ≡ 48 + x % 10 → Puts o at (d ∷ []) r o₁ → Puts o at (decimal x) r o₁
 decimal_one {o} {o₁} {at} {r} {x} h e p = rw (decimal_small x h) (rw e at p)
@@ -613,7 +455,7 @@ module _ (at x : ℕ) (l : at + length (decimal x) < 2 ^ 64) where
 pub over_ten : (x : ℕ) → 100 ≤ x → 10 ≤ x
 over_ten x h = omega arith
 
-pub ruleset writes = (byte_past, bytes_none, bytes_room, bytes_on, bytes_done, decimal_one, decimal_on, room_one, room_before, room_last, puts_length)
+pub ruleset writes = (byte_past, decimal_one, decimal_on, room_one, room_before, room_last, over_ten)
 
 -- ---- `hash`
 
@@ -626,9 +468,4 @@ module _ (s : Bytes) (h i : ℕ) (inv : hash_of s ≡ hash_from h (drop i s)) wh
   unfolding hash_from
   hash_done l = sym (inv ∙ ap (hash_from h) (drop_end s i l))
 
-pub hash_start : (s : Bytes) → hash_of s ≡ hash_from 0 (drop 0 s)
-hash_start s = refl
-
-pub ruleset hashes = (hash_on, hash_done, hash_start)
-
-pub ruleset all = (hashes, finds, sames, parts, stores, runs, classes, alls, sizes, values, spelled, writes)
+pub ruleset hashes = (hash_on, hash_done)

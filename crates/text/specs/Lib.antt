@@ -3,3 +3,4 @@ pub mod SplitLaws
 pub mod Puts
 pub mod NumberLaws
 pub mod Hash
+pub mod Runs

@@ -1,8 +1,10 @@
 -- What the scans of a text find: a byte's place, blanks at the front, bytes that two texts have in common, last bytes, a byte's class, and bytes of one class.
 use Rattle.std.specs.Prelude.{Bool, [], ◌∷◌, ℕ, suc, eqb, length}
 use Rattle.laws.specs.Tests.{◌and◌, isnt, choose}
-use Rattle.rules.specs.Text.{Bytes, between, all_bytes, name_byte, label_byte, word_byte}
+use Rattle.rules.specs.Text.{Bytes, between, all_bytes, name_byte, label_byte, word_byte, digit_byte}
 use Rattle.rules.specs.SuiteFile.{hex_byte}
+use Rattle.text.specs.declared.Class.{Class}
+use Rattle.text.specs.declared.Class.TheVariants.{Name, Label, Word, Hex, Digit}
 
 -- How many bytes stand before the first b: all of them, where there is none.
 unfoldable pub span : ℕ → Bytes → ℕ
@@ -33,13 +35,14 @@ ends_differ a b = isnt (eqb (last_byte a) 32) and isnt (eqb (last_byte b) 32) an
 unfoldable pub plain_byte : ℕ → ℕ → Bool
 plain_byte a x = between a 126 x and isnt (eqb x 44)
 
--- The byte x is of the class k: 0 of a name, 1 of a label, 2 of a word, and else a lower-case hexadecimal digit.
-unfoldable pub class_byte : ℕ → ℕ → Bool
-class_byte k x =
-    choose (eqb k 0) (name_byte x)
-    (choose (eqb k 1) (label_byte x)
-    (choose (eqb k 2) (word_byte x) (hex_byte x)))
+-- The byte x is of the class.
+abbrev pub class_byte : Class → ℕ → Bool
+class_byte Name = name_byte
+class_byte Label = label_byte
+class_byte Word = word_byte
+class_byte Hex = hex_byte
+class_byte Digit = digit_byte
 
--- From 1 to `most` bytes, all of the class k.
-unfoldable pub sized : ℕ → ℕ → Bytes → Bool
+-- From 1 to `most` bytes, all of the class.
+unfoldable pub sized : Class → ℕ → Bytes → Bool
 sized k most s = between 1 most (length s) and all_bytes (class_byte k) s

@@ -2,15 +2,14 @@
 use mathlib.Core.Path.{◌≡◌, refl, sym, ap, ap₂, ◌∙◌, subst, subst₂}
 use mathlib.Core.Bool.{Bool, true, false, false≢true}
 use mathlib.Core.List.{List, []}
-use Prim.Native.Nat.{ℕ, ◌+◌, ◌-◌, ◌*◌, ◌≤◌, ◌<◌}
+use Prim.Native.Nat.{ℕ, ◌+◌, ◌-◌, ◌≤◌, ◌<◌}
 use native.Mathlib.Omega.{arith}
 use lib.Dec.{eqb}
 use lib.ListN.{get_or, length, length-set, set}
 use lib.Seq.{get_or-set_other, get_or-set_same, set_out}
 use borrow.Author.Tests.{eqb-true, eq-eqb, ne_eqb}
-use Rattle.laws.specs.Tests.{◌and◌, ◌⇒◌, choose, every}
+use Rattle.laws.specs.Tests.{◌and◌, ◌⇒◌, every}
 use Rattle.laws.specs.TestLaws.{and_both, and_left, and_right, both_ways, fails}
-use Rattle.laws.specs.Lists.{choose_no, choose_yes}
 use Rattle.laws.specs.Slices.{below_or, same_or}
 use Rattle.laws.specs.Chain.{Walk, walk_start}
 use Rattle.rules.specs.Text.{Bytes, same, same_label}
@@ -21,45 +20,15 @@ use Rattle.rules.specs.ProgramFile.{Listing}
 use Rattle.rules.proofs.ClosingLaws.{alike_back, alike_parts, alike_self, alike_then, bare_callees, same_callee_is}
 use Rattle.rules.proofs.GraphLaws.{same_kind_true}
 use Rattle.rules.proofs.TextLaws.{empty_true}
-use Rattle.graph.specs.Table.{edge_base, node_base, proc_base}
-use Rattle.graph.specs.Reads.{part_at, past, part_past}
-use Rattle.pairset.specs.Store.{Has, last_pair, new_at, old_at, pairs_in}
+use Rattle.graph.specs.Table.{node_base}
+use Rattle.graph.specs.Reads.{part_at}
+use Rattle.pairset.specs.Store.{last_pair, new_at, old_at, pairs_in}
 use Rattle.pairset.specs.StoreLaws.{listed_of, walked}
-use Rattle.versions.specs.Memory.{InMemory, memory}
+use Rattle.versions.specs.Memory.{InMemory, Memory, memory}
 use Rattle.versions.specs.MemoryLaws.{kind_is, label_is, callees_are, sound, well_formed}
 use Rattle.versions.specs.Called.{CalleesAt}
 use Rattle.versions.specs.Claims.{Alike, BothCall, CalleesEntered, Entered, ExitsMet, GoesOn, SameCallees}
-use Rattle.versions.specs.Groups.{Grouped, Groups, Known, OfGroup, Regrouped, Twin}
-
--- ---- what the tables hold, past their ends
-
-module _ (t : List ℕ) (i : ℕ) (h : length t ≤ i) where
-  pub kind_past : 0 ≡ get_or t (node_base i) 0
-  kind_past = sym (past t i (node_base i) h (omega arith))
-
-  pub callees_past : 0 ≡ get_or t (node_base i + 3) 0
-  callees_past = sym (past t i (node_base i + 3) h (omega arith))
-
-  pub entry_past : 0 ≡ get_or t (proc_base i + 5) 0
-  entry_past = sym (past t i (proc_base i + 5) h (omega arith))
-
-  pub exit_past : 0 ≡ get_or t (proc_base i + 6) 0
-  exit_past = sym (past t i (proc_base i + 6) h (omega arith))
-
-  pub source_past : 0 ≡ get_or t (edge_base i) 0
-  source_past = sym (past t i (edge_base i) h (omega arith))
-
-  pub target_past : 0 ≡ get_or t (edge_base i + 3) 0
-  target_past = sym (past t i (edge_base i + 3) h (omega arith))
-
-  module _ (text r : List ℕ) (e : r ≡ part_at text t i) where
-    pub label_past : r ≡ part_at text t (node_base i + 1)
-    label_past = e ∙ part_past text t i (node_base i + 1) h (omega arith)
-
-    pub name_past : r ≡ part_at text t (proc_base i)
-    name_past = e ∙ part_past text t i (proc_base i) h (omega arith)
-
-pub ruleset reads = (kind_past, callees_past, entry_past, exit_past, source_past, target_past, label_past, name_past)
+use Rattle.versions.specs.Groups.{Grouped, Groups, Known, OfGroup, Regrouped}
 
 -- ---- `same_label`, `same_name`
 
@@ -86,30 +55,30 @@ call_is : (k : Kind) → kind_number k ≡ 2 → k ≡ C
 unfolding same_kind
 call_is k e = same_kind_true k C (eq-eqb _ _ e)
 
-module _ (ot on ol nt nn nl : List ℕ) (n m k l : ℕ) (ek : k ≡ get_or on (node_base n) 0) (el : l ≡ get_or nn (node_base m) 0) where
-  pub alike_kinds : (k ≡ l → ⊥) → Alike (memory ot on ol) (memory nt nn nl) n m false
+module _ (v w : Memory) (n m k l : ℕ) (ek : k ≡ get_or v.nodes (node_base n) 0) (el : l ≡ get_or w.nodes (node_base m) 0) where
+  pub alike_kinds : (k ≡ l → ⊥) → Alike v w n m false
   unfolding Alike same_kind ◌and◌
   alike_kinds d o p h g i j =
       let x : k ≡ kind_number (kind_at o.program n) = ek ∙ kind_is _ o h n i in
       let y : l ≡ kind_number (kind_at p.program m) = el ∙ kind_is _ p g m j in
       sym (alike_parts o.program p.program n m ∙ fails _ (λ t. d (x ∙ eqb-true _ _ (and_left _ _ t) ∙ sym y)))
 
-  module _ (q : k ≡ l) (u : Bool) (eu : u ≡ same_label (part_at ot on (node_base n + 1)) (part_at nt nn (node_base m + 1))) where
-    pub alike_labels : u ≡ false → Alike (memory ot on ol) (memory nt nn nl) n m false
+  module _ (q : k ≡ l) (u : Bool) (eu : u ≡ same_label (part_at v.text v.nodes (node_base n + 1)) (part_at w.text w.nodes (node_base m + 1))) where
+    pub alike_labels : u ≡ false → Alike v w n m false
     unfolding Alike
     alike_labels z o p h g i j =
         sym (alike_parts o.program p.program n m
         ∙ fails _ (λ t. both_ways (eu ∙ ap₂ same_label (label_is _ o h n i) (label_is _ p g m j) ∙ and_left _ _ (and_right _ _ t)) z))
 
-    kinds_are : (o p : Listing) → InMemory (memory ot on ol) o → InMemory (memory nt nn nl) p → n < node_count o.program → m < node_count p.program
+    kinds_are : (o p : Listing) → InMemory v o → InMemory w p → n < node_count o.program → m < node_count p.program
         → (kind_number (kind_at o.program n) ≡ k) × (kind_number (kind_at p.program m) ≡ k)
     kinds_are o p h g i j = (sym (ek ∙ kind_is _ o h n i), sym (q ∙ el ∙ kind_is _ p g m j))
 
-    labels_are : (o p : Listing) → InMemory (memory ot on ol) o → InMemory (memory nt nn nl) p → n < node_count o.program → m < node_count p.program
+    labels_are : (o p : Listing) → InMemory v o → InMemory w p → n < node_count o.program → m < node_count p.program
         → u ≡ true → same_label (label_at o.program n) (label_at p.program m) ≡ true
     labels_are o p h g i j z = sym (ap₂ same_label (label_is _ o h n i) (label_is _ p g m j)) ∙ sym eu ∙ z
 
-    pub alike_bare : u ≡ true → (k ≡ 2 → ⊥) → Alike (memory ot on ol) (memory nt nn nl) n m true
+    pub alike_bare : u ≡ true → (k ≡ 2 → ⊥) → Alike v w n m true
     unfolding Alike same_kind
     alike_bare z d o p h g i j =
         let ks = kinds_are o p h g i j in
@@ -118,14 +87,14 @@ module _ (ot on ol nt nn nl : List ℕ) (n m k l : ℕ) (ek : k ≡ get_or on (n
         sym (alike_parts o.program p.program n m
         ∙ and_both (eq-eqb _ _ (ks.0 ∙ sym ks.1)) (and_both (labels_are o p h g i j z) (bare_callees o.program p.program n m c c')))
 
-    pub alike_calls : (a b : ℕ) (r : Bool) → u ≡ true → k ≡ 2 → a ≡ get_or on (node_base n + 3) 0 → b ≡ get_or nn (node_base m + 3) 0 → SameCallees ot ol nt nl a b r
-        → Alike (memory ot on ol) (memory nt nn nl) n m r
+    pub alike_calls : (a b : ℕ) (r : Bool) → u ≡ true → k ≡ 2 → a ≡ get_or v.nodes (node_base n + 3) 0 → b ≡ get_or w.nodes (node_base m + 3) 0 → SameCallees v.text v.links w.text w.links a b r
+        → Alike v w n m r
     unfolding Alike SameCallees same_kind every ◌and◌
     alike_calls a b r z d ea eb er o p h g i j =
         let ks = kinds_are o p h g i j in
         let at : CalleesAt o p n m 0 a b
         = record { old_node = i; call = call_is _ (ks.0 ∙ d); within = omega arith; old_from = ea ∙ callees_are _ o h n i; new_from = eb ∙ callees_are _ p g m j } in
-        er on nn o p h g n m 0 at j (call_is _ (ks.1 ∙ d)) (omega arith) refl
+        er v.nodes w.nodes o p h g n m 0 at j (call_is _ (ks.1 ∙ d)) (omega arith) refl
         ∙ sym (alike_parts o.program p.program n m
         ∙ ap₂ (λ (s t : Bool). s and (t and same_callee (callee_at o.program n) (callee_at p.program m))) (eq-eqb _ _ (ks.0 ∙ sym ks.1)) (labels_are o p h g i j z))
 
@@ -144,11 +113,6 @@ module _ (on nn : List ℕ) (n m k : ℕ) (ek : k ≡ get_or on (node_base n) 0)
       ap (λ (x : ℕ). eqb x 2) (el ∙ kind_is _ p g m j) ∙ sym (ap (λ (t : Bool). t and eqb (kind_number (kind_at p.program m)) 2) (eq-eqb (kind_number (kind_at o.program n)) 2 (sym (ek ∙ kind_is _ o h n i) ∙ d)))
 
 pub ruleset calls = (calls_not, calls_both)
-
--- ---- `entries_paired`, `exits_paired`
-
-pub paired : (w : List ℕ) (a b x y : ℕ) (r : Bool) → a ≡ x → b ≡ y → Has w a b r → Has w x y r
-paired w a b x y r ea eb h = subst₂ (λ (i j : ℕ). Has w i j r) ea eb h
 
 -- ---- `goes_on`, `entered`
 
@@ -183,24 +147,16 @@ module _ (on ol nn nl w : List ℕ) (n m : ℕ) where
         came ot on nt nn o p c h g st n m 0 (all_callees h g i j (same_kind_true _ _ (and_left _ _ both))) refl refl
         ∙ sym (ap (λ (t : Bool). t ⇒ every (callee_count o.program n) (entered_at o.program p.program (pairs_in w c) n m)) both)
 
-pub ruleset goes = (paired, goes_free, goes_exits, entered_free, entered_callees)
+pub ruleset goes = (goes_free, goes_exits, entered_free, entered_callees)
 
--- ---- `twin`, `group_node`, `group`
+-- ---- `group_node`, `group`
 
-module _ (text nodes links : List ℕ) where
-  pub twin_none : (r x : ℕ) → Twin (memory text nodes links) r x false
-  unfolding Twin
-  twin_none r x s h l t = absurd (false≢true t)
-
-  pub twin_alike : (r x : ℕ) (t : Bool) → 1 ≤ r → r ≤ x → Alike (memory text nodes links) (memory text nodes links) (r - 1) x t → Twin (memory text nodes links) r x t
-  unfolding Twin Alike
-  twin_alike r x t pos le is s h l y = sym (is s s h h (omega arith) l) ∙ y
-
-  pub group_start : (g : List ℕ) → Regrouped (memory text nodes links) g g
+module _ (v : Memory) where
+  pub group_start : (g : List ℕ) → Regrouped v g g
   unfolding Groups
   group_start g = record { size = refl; groups = λ s h was. was }
 
-  pub group_on : (g g₁ g₂ : List ℕ) → Regrouped (memory text nodes links) g g₁ → Regrouped (memory text nodes links) g₁ g₂ → Regrouped (memory text nodes links) g g₂
+  pub group_on : (g g₁ g₂ : List ℕ) → Regrouped v g g₁ → Regrouped v g₁ g₂ → Regrouped v g g₂
   unfolding Groups
   group_on g g₁ g₂ a b = record { size = b.size ∙ a.size; groups = λ s h was. b.groups s h (a.groups s h was) }
 
@@ -212,7 +168,7 @@ module _ (text nodes links : List ℕ) where
     size_at = ap length e ∙ length-set g x r
 
     -- A number for the node x, where it says what is so.
-    group_one : ((s : Listing) → InMemory (memory text nodes links) s → x < node_count s.program → OfGroup s.program r x) → Regrouped (memory text nodes links) g g₁
+    group_one : ((s : Listing) → InMemory v s → x < node_count s.program → OfGroup s.program r x) → Regrouped v g g₁
     unfolding Groups Grouped
     group_one like =
         record {
@@ -231,7 +187,7 @@ module _ (text nodes links : List ℕ) where
         }
 
     -- A number behind the nodes.
-    group_behind : 512 ≤ x → Regrouped (memory text nodes links) g g₁
+    group_behind : 512 ≤ x → Regrouped v g g₁
     unfolding Groups Grouped
     group_behind far =
         record {
@@ -241,28 +197,19 @@ module _ (text nodes links : List ℕ) where
               subst (λ (n : ℕ). OfGroup s.program n y) (sym k) (was y l (omega arith));
         }
 
-  pub group_twin : (g g₁ : List ℕ) (x r : ℕ) (t : Bool) → Twin (memory text nodes links) r x t → t ≡ true → g₁ ≡ set g x r → Regrouped (memory text nodes links) g g₁
-  unfolding Twin
-  group_twin g g₁ x r t is y e = group_one g g₁ x r e (λ s h l. is s h l y)
+  pub group_twin : (g g₁ : List ℕ) (x n : ℕ) (t : Bool) → n < x → Alike v v n x t → t ≡ true → g₁ ≡ set g x (n + 1) → Regrouped v g g₁
+  unfolding Alike
+  group_twin g g₁ x n t b is y e =
+      let own : n ≡ n + 1 - 1 = omega arith in
+      group_one g g₁ x (n + 1) e (λ s h l. subst (λ (k : ℕ). alike s.program s.program k x ≡ true) own (sym (is s s h h (omega arith) l) ∙ y))
 
-  pub group_own : (g g₁ g₂ : List ℕ) (place x : ℕ) → 512 ≤ place → g₁ ≡ set g place (x + 1) → g₂ ≡ set g₁ x (x + 1) → Regrouped (memory text nodes links) g g₂
+  pub group_own : (g g₁ g₂ : List ℕ) (place x : ℕ) → 512 ≤ place → g₁ ≡ set g place (x + 1) → g₂ ≡ set g₁ x (x + 1) → Regrouped v g g₂
   group_own g g₁ g₂ place x far e e' =
       let own : x ≡ x + 1 - 1 = omega arith in
       group_on g g₁ g₂ (group_behind g g₁ place (x + 1) e far)
       (group_one g₁ g₂ x (x + 1) e' (λ s h l. subst (λ (n : ℕ). alike s.program s.program n x ≡ true) own (alike_self s.program x)))
 
-pub ruleset groups = (twin_none, twin_alike, group_start, group_on, group_twin, group_own)
-
--- ---- `with_byte`
-
-module _ (key b : ℕ) where
-  pub byte_left : b ≡ 32 → key ≡ choose (eqb b 32) key (256 * key + b)
-  byte_left e = sym (choose_yes _ _ (eq-eqb _ _ e))
-
-  pub byte_put : (b ≡ 32 → ⊥) → 256 * key + b ≡ choose (eqb b 32) key (256 * key + b)
-  byte_put e = sym (choose_no _ _ (ne_eqb _ _ e))
-
-pub ruleset keys = (byte_left, byte_put)
+pub ruleset groups = (group_start, group_on, group_twin, group_own)
 
 -- ---- `known_alike`
 
@@ -284,5 +231,3 @@ module _ (w g : List ℕ) (a b : ℕ) where
       (alike_then new new new partner (group - 1) b (alike_back new new (group - 1) partner r) (subst (λ (n : ℕ). OfGroup new n b) (sym eg) (gr b j (omega arith))))
 
 pub ruleset knowns = (known_not, known_same)
-
-pub ruleset all = (reads, sames, alikes, calls, goes, groups, keys, knowns)

@@ -20,7 +20,7 @@ use Rattle.graph.specs.Table.{edge_base, head_base}
 use Rattle.graph.specs.Keys.{key_star, star_key, star_word, word_key}
 use Rattle.graph.specs.Lookups.{EdgeTaken, EdgeWith}
 use Rattle.graph.specs.Reads.{up_to, up_to_le}
-use Rattle.graph.proofs.Laws.{before_less, taken_named}
+use Rattle.graph.proofs.Laws.{taken_named}
 use Rattle.versions.specs.Memory.{InMemory, memory}
 use Rattle.versions.specs.MemoryLaws.{edges_chained, edges_in, key_is, sound, source_is, well_formed}
 use Rattle.versions.specs.Opposite.{FindsBefore, FindsFrom, IsStar, LastOpposite, OppositeBefore, OppositeFrom, SoleOpposite, Takes, WordLost, opposite_below, side_at, side_of_lem, side_of}
@@ -65,52 +65,42 @@ module _ (ol nl : List ℕ) (e n from : ℕ) where
   unfolding LeftFrom
   from_start ot on nt nn o p h g i en s m k l q = left_at m k from (below_blind _ _ e m) l q refl
 
-  module _ (place : ℕ) (inv : LeftFrom ol nl e n from place) where
-    pub from_end : place ≤ 0 → OppositeFrom ol nl e n from 0
-    unfolding LeftFrom FindsFrom latest
-    from_end z =
+  pub from_end : LeftFrom ol nl e n from 0 → OppositeFrom ol nl e n from 0
+  unfolding LeftFrom FindsFrom latest
+  from_end inv =
+      record {
+        finds = λ ot on nt nn o p h g i en s m k l q. sym (inv ot on nt nn o p h g i en s m k l q).rest;
+        below = omega arith;
+      }
+
+  module _ (f : ℕ) (t : Bool) (inv : LeftFrom ol nl e n from (suc f)) (et : Takes ol nl e n f t) where
+    here : (ot on nt nn : List ℕ) (o p : Listing) (h : InMemory (memory ot on ol) o) (g : InMemory (memory nt nn nl) p) → e < edge_count o.program → n ≡ source_at o.program e
+        → word_at o.program e ≡ star → f < edge_count p.program → opposite o.program p.program e f ≡ t
+    unfolding Takes
+    here ot on nt nn o p h g i en s j = star_opposite o.program p.program (well_formed _ o h) (well_formed _ p g) e f s i ∙ sym (et ot on nt nn o p h g i en j)
+
+    pub from_hit : suc f ≤ from → t ≡ true → OppositeFrom ol nl e n from (suc f)
+    unfolding LeftFrom FindsFrom
+    from_hit b y =
         record {
           finds = λ ot on nt nn o p h g i en s m k l q.
-              let y : place ≡ 0 = omega arith in
-              sym ((inv ot on nt nn o p h g i en s m k l q).rest ∙ ap (opposite_below o.program p.program e m) y);
-          below = omega arith;
+              let r = inv ot on nt nn o p h g i en s m k l q in
+              let j : f < edge_count p.program = omega (arith, r.within) in
+              let d : suc f - 1 ≡ f = omega arith in
+              let own : source_at p.program f ≡ m = subst (λ (x : ℕ). source_at p.program x ≡ m) d (r.owner (omega arith)) in
+              sym (latest_hit _ 0 f (side_of_lem o.program p.program e m f own (here ot on nt nn o p h g i en s j ∙ y))) ∙ sym r.rest;
+          below = b;
         }
 
-    module _ (f : ℕ) (t : Bool) (pos : 0 < place) (d : f ≡ place - 1) (et : Takes ol nl e n f t) where
-      here : (ot on nt nn : List ℕ) (o p : Listing) (h : InMemory (memory ot on ol) o) (g : InMemory (memory nt nn nl) p) → e < edge_count o.program → n ≡ source_at o.program e
-          → word_at o.program e ≡ star → f < edge_count p.program → opposite o.program p.program e f ≡ t
-      unfolding Takes
-      here ot on nt nn o p h g i en s j = star_opposite o.program p.program (well_formed _ o h) (well_formed _ p g) e f s i ∙ sym (et ot on nt nn o p h g i en j)
-
-      pub from_hit : place ≤ from → t ≡ true → OppositeFrom ol nl e n from place
-      unfolding LeftFrom FindsFrom
-      from_hit b y =
-          record {
-            finds = λ ot on nt nn o p h g i en s m k l q.
-                let r = inv ot on nt nn o p h g i en s m k l q in
-                let j : f < edge_count p.program = omega (arith, r.within) in
-                let x : place ≡ suc f = omega arith in
-                let own : source_at p.program f ≡ m = ap (source_at p.program) d ∙ r.owner pos in
-                x ∙ sym (latest_hit _ 0 f (side_of_lem o.program p.program e m f own (here ot on nt nn o p h g i en s j ∙ y)))
-                ∙ sym (ap (opposite_below o.program p.program e m) x) ∙ sym r.rest;
-            below = b;
-          }
-
-      pub from_on : (next : ℕ) → t ≡ false → next ≡ up_to f (get_or nl (edge_base f + 4) 0) → LeftFrom ol nl e n from next
-      unfolding LeftFrom
-      from_on next y q ot on nt nn o p h g i en s m k l z =
-          let r = inv ot on nt nn o p h g i en s m k l z in
-          let j : f < edge_count p.program = omega (arith, r.within) in
-          let x : place ≡ suc f = omega arith in
-          let miss : opposite_below o.program p.program e m place ≡ opposite_below o.program p.program e m (place - 1)
-          = ap (opposite_below o.program p.program e m) x
-          ∙ latest_miss _ 0 f (λ v. both_ways (side_at o.program p.program e m f v).1 (here ot on nt nn o p h g i en s j ∙ y))
-          ∙ ap (opposite_below o.program p.program e m) d in
-          rw (q, d) (left_step (edges_chained _ p g) r pos (below_blind o.program p.program e m) miss)
-
--- The walk leads down.
-pub from_within : (from place f next y : ℕ) → place ≤ from → 0 < place → f ≡ place - 1 → next ≡ up_to f y → next ≤ from
-from_within from place f next y b pos d q = omega (arith, before_less place f next y pos d q)
+    pub from_on : t ≡ false → LeftFrom ol nl e n from (up_to f (get_or nl (edge_base f + 4) 0))
+    unfolding LeftFrom
+    from_on y ot on nt nn o p h g i en s m k l z =
+        let r = inv ot on nt nn o p h g i en s m k l z in
+        let j : f < edge_count p.program = omega (arith, r.within) in
+        let d : suc f - 1 ≡ f = omega arith in
+        let miss : opposite_below o.program p.program e m (suc f) ≡ opposite_below o.program p.program e m f
+        = latest_miss _ 0 f (λ v. both_ways (side_at o.program p.program e m f v).1 (here ot on nt nn o p h g i en s j ∙ y)) in
+        rw d at (left_step (edges_chained _ p g) r (omega arith) (below_blind o.program p.program e m) (miss ∙ sym (ap (opposite_below o.program p.program e m) d)))
 
 -- ---- `last_opposite`, `opposite_before`, `word_lost`
 
@@ -183,13 +173,13 @@ module _ (ol nl : List ℕ) (e m key : ℕ) (ek : key ≡ get_or ol (edge_base e
       go (some f) q = ne_eqb last 0 (λ y. let v : ⊥ = omega arith in v)
 
 module _ (ol nl : List ℕ) (e f key : ℕ) (ek : key ≡ get_or ol (edge_base e + 2) 0) where
-  pub before_star : (n from r : ℕ) → key ≡ 42 → n ≡ get_or ol (edge_base e) 0 → from ≡ up_to f (get_or nl (edge_base f + 4) 0) → OppositeFrom ol nl e n from r → OppositeBefore ol nl e f r
+  pub before_star : (n r : ℕ) → key ≡ 42 → n ≡ get_or ol (edge_base e) 0 → OppositeFrom ol nl e n (up_to f (get_or nl (edge_base f + 4) 0)) r → OppositeBefore ol nl e f r
   unfolding FindsBefore FindsFrom
-  before_star n from r z en ef t =
+  before_star n r z en t =
       record {
         finds = λ ot on nt nn o p h g i j m s.
             t.finds ot on nt nn o p h g i (en ∙ source_is _ o h e i) (is_star ol e key ek ot on o h i z) m f (omega arith)
-            (ef ∙ (edges_chained _ p g).link f j ∙ ap (λ (x : ℕ). latest (source_at p.program) x f) (side_at o.program p.program e m f s).0);
+            ((edges_chained _ p g).link f j ∙ ap (λ (x : ℕ). latest (source_at p.program) x f) (side_at o.program p.program e m f s).0);
         below = omega (arith, t.below, up_to_le f (get_or nl (edge_base f + 4) 0));
       }
 
@@ -221,4 +211,4 @@ module _ (ol nl : List ℕ) (e m key : ℕ) (ek : key ≡ get_or ol (edge_base e
         kept = subst (WordLost ol nl e m r) (ne_eqb r 0 (λ z. let y : ⊥ = omega arith in y)) (lost_named ol nl e m key ek r d);
       }
 
-pub ruleset all = (takes_none, takes_one, from_start, from_end, from_hit, from_on, before_less, from_within, last_star, last_named, lost_star, lost_named, before_star, before_named, star_told, sole_none, sole_named)
+pub ruleset all = (from_start, from_end, from_hit, from_on, up_to_le, last_star, last_named, before_star, before_named, star_told, sole_none, sole_named)

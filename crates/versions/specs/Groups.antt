@@ -28,10 +28,6 @@ pub record InGroups (m : Memory) (g : List ℕ) (s : Listing) : Type 0 where
   pub memory : InMemory m s
   pub groups : Grouped s.program g
 
--- `twin`: if it is told, r is a number for the group of x.
-unfoldable pub Twin : Memory → ℕ → ℕ → Bool → Type 0
-Twin v r x t = (s : Listing) → InMemory v s → x < node_count s.program → t ≡ true → OfGroup s.program r x
-
 -- `group_node`, `group`: a table that has groups has groups afterwards, and is as long as it was.
 unfoldable pub Groups : Memory → List ℕ → List ℕ → Type 0
 Groups v g g' = (s : Listing) → InMemory v s → Grouped s.program g → Grouped s.program g'

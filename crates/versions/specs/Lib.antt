@@ -1,6 +1,7 @@
 -- A program in memory, and what the functions over two versions answer.
 pub mod Memory
 pub mod MemoryLaws
+pub mod Callees
 pub mod Called
 pub mod Found
 pub mod Claims

@@ -1,5 +1,5 @@
 -- What a memory says of the program that it holds: the numbers and the parts of the text that the functions read, by the definitions.
-use Rattle.std.specs.Prelude.{◌≡◌, List, ℕ, ◌+◌, ◌<◌, drop}
+use Rattle.std.specs.Prelude.{◌≡◌, ℕ, ◌+◌, ◌<◌, drop}
 use Rattle.std.proofs.Common.{sym, ap, ◌∙◌, add_assoc, add-zero, arith, le-leb}
 use Rattle.std.proofs.Math.Path.{ap₂}
 use Rattle.std.proofs.Math.ListN.{get_or, take}
@@ -7,7 +7,7 @@ use Rattle.laws.specs.Lists.{choose_yes}
 use Rattle.laws.specs.Chain.{Chained, link_le}
 use Rattle.rules.specs.Text.{accepted}
 use Rattle.rules.specs.Graph.{WellFormed, edge_count, entry, exit, kind_at, kind_number, label_at, name_at, node_count, proc_count, source_at, target_at, word_at}
-use Rattle.rules.specs.ProgramFile.{Listing, read_listing, read_program}
+use Rattle.rules.specs.ProgramFile.{Listing, read_program}
 use Rattle.rules.specs.Places.{Placed}
 use Rattle.rules.proofs.Places.{listing_placed, part_is}
 use Rattle.rules.specs.Kept.{Sound}
@@ -17,13 +17,7 @@ use Rattle.graph.specs.Table.{callees_from, edge_base, head_base, node_base, pro
 use Rattle.graph.specs.Keys.{word_key}
 use Rattle.graph.specs.Lookups.{Edges, in_table}
 use Rattle.graph.specs.Reads.{part_at, up_to}
-use Rattle.reader.specs.declared.Count.{Count}
-use Rattle.reader.specs.Result.{InTable, links_of}
-use Rattle.versions.specs.Memory.{InMemory, Memory, memory}
-
--- What reading a text leaves in a work table is a memory.
-pub in_memory : (text w : List ℕ) (c : Count) (s : Listing) → read_listing text ≡ accepted s → InTable w c s → InMemory (memory text w (links_of w)) s
-in_memory text w c s e t = record { read = e; nodes = t.nodes; procs = t.procs; edges = t.edges; heads = t.heads }
+use Rattle.versions.specs.Memory.{InMemory, Memory}
 
 module _ (m : Memory) (s : Listing) (h : InMemory m s) where
   -- ---- the program is well-formed and within its limits, and its parts stand in the text

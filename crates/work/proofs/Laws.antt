@@ -16,7 +16,7 @@ use Rattle.rules.specs.SuiteFile.{coverage_at, read_tests, test_count}
 use Rattle.rules.specs.Closing.{pairs}
 use Rattle.rules.specs.Job.{Given, probes_bytes, record_bytes, recording, refusal, sheet_bytes, writing, written}
 use Rattle.rules.proofs.ReadBack.{selected_short}
-use Rattle.answer.specs.declared.Answer.{Answer}
+use Rattle.answer.specs.Refusals.{Answer}
 use Rattle.answer.specs.Outcomes.{Told, refusal_told, told_as}
 use Rattle.pairset.specs.Store.{pair_base}
 use Rattle.versions.specs.Memory.{InMemory, Memory, memory}

@@ -6,7 +6,7 @@ use Rattle.rules.specs.Graph.{Program}
 use Rattle.rules.specs.ProgramFile.{Listing}
 use Rattle.rules.specs.Closing.{pairs}
 use Rattle.rules.specs.Job.{Given, probes_bytes, recording, sheet_bytes, writing}
-use Rattle.answer.specs.declared.Answer.{Answer}
+use Rattle.answer.specs.Refusals.{Answer}
 use Rattle.answer.specs.Outcomes.{Told}
 use Rattle.pairset.specs.Store.{pair_base}
 use Rattle.versions.specs.Memory.{InMemory, Memory, memory}

@@ -1,197 +1,183 @@
-// The work of a job whose texts were read: the selection, the sheet, the list of probes, the record lines. Programs and tests are in memory, as reading them
-// leaves them; `w` is the table of the pairs, with room for `limit` of them: the answer is `over` where more exist. What a call that writes
-// leaves in it is left open.
-#![tactic(auto)]
+// The work of a job whose texts were read: the selection, the sheet, the list of probes, the record lines. `w` is the table of the pairs, with room for
+// `limit` of them: a call is refused with `over` where more exist. What a call that writes leaves in it is left open.
+#![tactic(auto, using(crate::proofs::Laws::all))]
 
-ghost use Rattle.std.specs.Prelude.{◌≤◌};
+ghost use Rattle.std.specs.Prelude.{◌≡◌, ◌≤◌, IfSome};
+ghost use Rattle.answer.specs.Refusals.{fault_number, told};
+ghost use Rattle.closure.specs.Claims.{counted};
 ghost use Rattle.intake.specs.Ready.{Few};
-ghost use Rattle.versions.specs.Memory.{memory};
+ghost use Rattle.work.specs.Loads.{had_in};
 ghost use Rattle.work.specs.Work.{Done, ProbesDone, RecordDone, RecordFrom, Selected, SheetDone};
 
-use answer::Answer;
-use intake::Counts;
+use answer::{Fault, Refusal};
+use suite::Suite;
+use versions::Program;
+use writer::Sizes;
 
-// The limit on pairs, and the number of the refusal where more exist, as the callers give them.
+// The limit on pairs, and why a call is refused where more exist, as the callers give them.
 pub const MAX_PAIRS: usize = 4096;
 
-pub const TOO_MANY: usize = 15;
+pub const TOO_MANY: Fault = Fault::TooManyPairs;
 
-// Finds the pairs of two versions, and their dangerous edges: the number of pairs, or one more than the limit where there are more; what the
-// table and the set hold then is left open.
+// A job that was read: its programs and tests in memory, and how many nodes and edges the programs have.
+#[derive(Clone, Copy)]
+pub struct Loaded<'a> {
+    pub old: &'a Program<'a>,
+    pub new: &'a Program<'a>,
+    pub suite: &'a Suite<'a>,
+    pub old_nodes: usize,
+    pub old_edges: usize,
+    pub new_nodes: usize,
+    pub new_edges: usize,
+}
+
+// Finds the pairs of two versions, and their dangerous edges: the number of pairs, or none where there are more than the limit; what the table
+// and the set hold then is left open.
 pub fn select(
     limit: usize,
-    ot: &[u8],
-    on: &[usize],
-    ol: &[usize],
-    nt: &[u8],
-    nn: &[usize],
-    nl: &[usize],
+    old: &Program,
+    new: &Program,
     w: &mut [usize],
     set: &mut [u64],
-) -> usize
+) -> Option<usize>
     requires { limit ≤ 4096 }
-    ensures { Selected limit (memory ot.now on.now ol.now) (memory nt.now nn.now nl.now) w.old w.new set.old set.new result }
+    ensures few { IfSome result (λ c. c ≤ limit) }
+    ensures selects { Selected limit old.now new.now w.old w.new set.old set.new (counted limit result) }
 {
-    let c = closure::close(ot, on, ol, nt, nn, nl, limit, w);
-    if limit < c {
-        return c;
-    }
+    let pairs = closure::close(old, new, limit, w)?;
     selection::copy_dangers(w, set);
-    c
+    Some(pairs)
 }
 
 // Writes the sheet of the selection. What the table of the pairs holds afterwards is left open.
 pub fn write_sheet(
     limit: usize,
-    over: usize,
-    ot: &[u8],
-    on: &[usize],
-    ol: &[usize],
-    nt: &[u8],
-    nn: &[usize],
-    nl: &[usize],
-    tt: &[u8],
-    tests: &[usize],
-    rows: &[u64],
-    had: Counts,
+    over: Fault,
+    job: &Loaded,
     w: &mut [usize],
     out: &mut [u8],
-) -> Answer
+) -> Result<usize, Refusal>
     requires limit_bound { limit ≤ 4096 }
-    requires few { Few had }
-    ensures { Done w.old w.new out.old out.new (SheetDone limit over (memory ot.now on.now ol.now) (memory nt.now nn.now nl.now) tt.now tests.now rows.now had w.old out.old result out.new) }
+    requires few { Few (had_in job.now) }
+    ensures { Done w.old w.new out.old out.new (SheetDone limit (fault_number over) job.now.old.now job.now.new.now job.now.suite.now.text job.now.suite.now.names job.now.suite.now.rows (had_in job.now) w.old out.old (told result) out.new) }
 {
     let mut set = [0u64; 16];
-    let c = select(limit, ot, on, ol, nt, nn, nl, w, &mut set);
-    if limit < c {
-        return Answer {
-            number: over,
+    let Some(pairs) = select(limit, job.old, job.new, w, &mut set) else {
+        return Err(Refusal {
+            fault: over,
             place: 0,
-        };
-    }
-    let edges = had.old_edges;
-    let olds = had.old_nodes;
-    let news = had.new_nodes;
-    let count = had.tests;
-    writer::write_sheet(w, c, olds, news, &set, edges, tt, tests, rows, count, out)
+        });
+    };
+    let sizes = Sizes {
+        pairs,
+        olds: job.old_nodes,
+        news: job.new_nodes,
+        edges: job.old_edges,
+    };
+    writer::write_sheet(w, &set, sizes, job.suite, out)
 }
 
 // Writes the list of probes. What the table of the pairs holds afterwards is left open.
 pub fn write_probes(
     limit: usize,
-    over: usize,
-    ot: &[u8],
-    on: &[usize],
-    ol: &[usize],
-    nt: &[u8],
-    nn: &[usize],
-    nl: &[usize],
-    had: Counts,
+    over: Fault,
+    job: &Loaded,
     w: &mut [usize],
     out: &mut [u8],
-) -> Answer
+) -> Result<usize, Refusal>
     requires limit_bound { limit ≤ 4096 }
-    requires few { Few had }
-    ensures { Done w.old w.new out.old out.new (ProbesDone limit over (memory ot.now on.now ol.now) (memory nt.now nn.now nl.now) had w.old out.old result out.new) }
+    requires few { Few (had_in job.now) }
+    ensures { Done w.old w.new out.old out.new (ProbesDone limit (fault_number over) job.now.old.now job.now.new.now (had_in job.now) w.old out.old (told result) out.new) }
 {
     let mut dangers = [0u64; 16];
-    let c = select(limit, ot, on, ol, nt, nn, nl, w, &mut dangers);
-    if limit < c {
-        return Answer {
-            number: over,
+    let Some(_) = select(limit, job.old, job.new, w, &mut dangers) else {
+        return Err(Refusal {
+            fault: over,
             place: 0,
-        };
-    }
+        });
+    };
     let mut set = [0u64; 16];
-    let old_edges = had.old_edges;
-    let new_nodes = had.new_nodes;
-    probes::find_probes(on, ol, nn, nl, w, &dangers, old_edges, new_nodes, &mut set);
-    writer::write_probes(&set, had.new_edges, out)
+    probes::find_probes(
+        job.old,
+        job.new,
+        w,
+        &dangers,
+        job.old_edges,
+        job.new_nodes,
+        &mut set,
+    );
+    writer::write_probes(&set, job.new_edges, out)
 }
 
 // Writes the record line of a test, from the pairs and the dangerous edges.
 pub fn record_from(
-    on: &[usize],
-    ol: &[usize],
-    nn: &[usize],
-    nl: &[usize],
-    tt: &[u8],
-    tests: &[usize],
-    rows: &[u64],
-    had: Counts,
+    job: &Loaded,
     i: usize,
     w: &[usize],
     set: &[u64],
     out: &mut [u8],
-) -> Answer
-    requires few { Few had }
+) -> Result<usize, Refusal>
+    requires few { Few (had_in job.now) }
     requires i_bound { i ≤ 200 }
-    ensures { Done w.now w.now out.old out.new (RecordFrom on.now ol.now nn.now nl.now tt.now tests.now rows.now had i w.now set.now out.old result out.new) }
+    ensures { Done w.now w.now out.old out.new (RecordFrom job.now.old.now.nodes job.now.old.now.links job.now.new.now.nodes job.now.new.now.links job.now.suite.now.text job.now.suite.now.names job.now.suite.now.rows (had_in job.now) i w.now set.now out.old (told result) out.new) }
 {
     let mut marks = [0u8; 1024];
     let mut probed = [0u64; 16];
     let mut after = [0u64; 16];
-    let old_edges = had.old_edges;
-    let new_edges = had.new_edges;
-    let olds = had.old_nodes;
-    let news = had.new_nodes;
-    let again = coverage::row_meets(rows, i, set);
+    let again = job.suite.meets(i, set);
     probes::find_open(
-        on,
-        ol,
-        nn,
-        nl,
+        job.old,
+        job.new,
         w,
         set,
-        old_edges,
-        olds,
-        news,
+        job.old_edges,
+        job.old_nodes,
+        job.new_nodes,
         again,
         &mut probed,
         &mut after,
     );
     selection::find_marks(
-        on, ol, nn, nl, w, rows, i, old_edges, new_edges, again, &probed, &after, &mut marks,
+        job.old,
+        job.new,
+        w,
+        job.suite.rows(),
+        i,
+        job.old_edges,
+        job.new_edges,
+        again,
+        &probed,
+        &after,
+        &mut marks,
     );
-    writer::write_record(tt, tests, rows, i, &marks, new_edges, out)
+    writer::write_record(job.suite, i, &marks, job.new_edges, out)
 }
 
-// Writes the record line of a test: 6 where there is none of that number. What the table of the pairs holds afterwards is left open.
+// Writes the record line of a test: refused where there is none of that number. What the table of the pairs holds afterwards is left open.
 pub fn write_record(
     limit: usize,
-    over: usize,
-    ot: &[u8],
-    on: &[usize],
-    ol: &[usize],
-    nt: &[u8],
-    nn: &[usize],
-    nl: &[usize],
-    tt: &[u8],
-    tests: &[usize],
-    rows: &[u64],
-    had: Counts,
+    over: Fault,
+    job: &Loaded,
     i: usize,
     w: &mut [usize],
     out: &mut [u8],
-) -> Answer
+) -> Result<usize, Refusal>
     requires limit_bound { limit ≤ 4096 }
-    requires few { Few had }
-    ensures { Done w.old w.new out.old out.new (RecordDone limit over (memory ot.now on.now ol.now) (memory nt.now nn.now nl.now) tt.now tests.now rows.now had i w.old out.old result out.new) }
+    requires few { Few (had_in job.now) }
+    ensures { Done w.old w.new out.old out.new (RecordDone limit (fault_number over) job.now.old.now job.now.new.now job.now.suite.now.text job.now.suite.now.names job.now.suite.now.rows (had_in job.now) i w.old out.old (told result) out.new) }
 {
-    let count = had.tests;
-    if count <= i {
-        return Answer {
-            number: 6,
+    if job.suite.count() <= i {
+        return Err(Refusal {
+            fault: Fault::NotNamed,
             place: 0,
-        };
+        });
     }
     let mut set = [0u64; 16];
-    let c = select(limit, ot, on, ol, nt, nn, nl, w, &mut set);
-    if limit < c {
-        return Answer {
-            number: over,
+    let Some(_) = select(limit, job.old, job.new, w, &mut set) else {
+        return Err(Refusal {
+            fault: over,
             place: 0,
-        };
-    }
-    record_from(on, ol, nn, nl, tt, tests, rows, had, i, w, &set, out)
+        });
+    };
+    record_from(job, i, w, &set, out)
 }

@@ -16,8 +16,7 @@ use Rattle.rules.specs.WriteBack.{SameParts}
 use Rattle.rules.proofs.WriteProgram.{accepted_follows}
 use Rattle.graph.specs.Table.{edge_base, first_edge, first_node, node_base, proc_base}
 use Rattle.graph.specs.Reads.{part_at}
-use Rattle.reader.specs.declared.Count.{Count}
-use Rattle.reader.specs.Result.{Small}
+use Rattle.reader.specs.Result.{Count, Small}
 use Rattle.program.specs.Lent.{Counted}
 use Rattle.versions.specs.Memory.{InMemory, memory}
 use Rattle.versions.specs.MemoryLaws.{kind_is, program_read, source_is, target_is}

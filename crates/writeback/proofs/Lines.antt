@@ -5,16 +5,17 @@ use Prim.Native.Nat.{ℕ, zero, suc, ◌+◌, ◌-◌, ◌*◌, ◌^◌, ◌≤�
 use native.Mathlib.Numerals.{add-one}
 use native.Mathlib.Nat.{zero-add}
 use native.Mathlib.Omega.{arith}
+use denote.Ref.{MutBor}
 use lib.ListN.{length, get_or}
 use borrow.Author.Tests.{le-ltb, lt-ltb}
 use Rattle.laws.specs.Lists.{choose_no, choose_yes}
 use Rattle.rules.specs.Text.{Bytes, decimal, join_by, text_of}
 use Rattle.rules.specs.Layout.{line_of_edge, kind_field, line_of_node, line_of_proc}
 use Rattle.graph.specs.Table.{edge_base, node_base, proc_base}
-use Rattle.reader.specs.declared.Count.{Count}
-use Rattle.reader.specs.Result.{Small}
+use Rattle.reader.specs.Result.{Count, Small}
 use Rattle.text.specs.Puts.{Puts, puts_then, puts_length}
 use Rattle.writer.specs.Writes.{Writes, writes_byte, writes_most, writes_none, writes_of, writes_then, writes_length}
+use Rattle.writeback.specs.Runs.{Callable, LineWriter, PutsLines, RunPut}
 use Rattle.writeback.specs.Parts.{callee_in, label_in, name_in, word_in}
 use Rattle.writeback.specs.Back.{back_text, begins, edge_in, edge_text, edges_text, kind_from, node_in, node_text, nodes_text, proc_text, procedure_text, run_from}
 use Rattle.writeback.proofs.BackLaws.{begins_few}
@@ -94,13 +95,25 @@ module _ (f : ℕ → Bytes) (from : ℕ) where
     run_all : m - from ≤ to - from → to ≤ m → Writes o at (run_from f from (to - from)) (128 * (to - from)) k o₁
     run_all h l = let e : m - from ≡ to - from = omega arith in rw e at inv
 
-    pub nodes_done : to ≤ 512 → m - from ≤ to - from → to ≤ m → Writes o at (run_from f from (to - from)) (2 ^ 16) k o₁
-    nodes_done s h l = writes_most (2 ^ 16) (run_all h l) (omega arith)
+-- ---- `put_run`
 
-    pub edges_done : to ≤ 1024 → m - from ≤ to - from → to ≤ m → Writes o at (run_from f from (to - from)) (2 ^ 17) k o₁
-    edges_done s h l = writes_most (2 ^ 17) (run_all h l) (omega arith)
+module _ {F : Type 0} (g : LineWriter F) (f : F) (o : List ℕ) (at from : ℕ) where
+  pub put_start : RunPut g f o at from from at o
+  unfolding RunPut
+  put_start line puts = run_start line from o at
 
-pub ruleset runs = (run_start, run_on, run_room, nodes_done, edges_done)
+  module _ (to i k : ℕ) (o₁ : List ℕ) (inv : RunPut g f o at from i k o₁) where
+    pub put_room : Callable g f → i < to → to ≤ 1024 → at ≤ 2 ^ 30 → k ≤ 2 ^ 31
+    unfolding RunPut
+    put_room c h l s = run_room c.line from i to (inv c.line c.puts) h l s
+
+    pub put_on : (p q : MutBor (List ℕ)) (r : ℕ) → p.now ≡ o₁ → from ≤ i → g.post f (p, (k, (i, tt))) (r, (q, tt)) → RunPut g f o at from (i + 1) r q.now
+    unfolding RunPut PutsLines
+    put_on p q r e h post line puts = run_on line from i to (inv line puts) h (subst (λ (x : List ℕ). Writes x k (line i) 128 r q.now) e (puts p q k i r post))
+
+    pub put_done : i - from ≤ to - from → to ≤ i → RunPut g f o at from to k o₁
+    unfolding RunPut
+    put_done h l line puts = run_all line from i to (inv line puts) h l
 
 -- ---- procedures
 
@@ -109,28 +122,21 @@ module _ (l : List ℕ) (k procs count q : ℕ) where
   unfolding begins
   begin_past h = sym (choose_no _ _ (le-ltb q procs h))
 
-  module _ (p : ℕ) (h : q < procs) (e : p ≡ get_or l (proc_base q + k) 0) where
-    pub begin_cut : count < p → count ≡ begins l k procs count q
-    unfolding begins
-    begin_cut b = let z : count ≡ min (get_or l (proc_base q + k) 0) count = omega arith in z ∙ sym (choose_yes _ _ (lt-ltb q procs h))
+  pub begin_at : (p : ℕ) → q < procs → p ≡ get_or l (proc_base q + k) 0 → min p count ≡ begins l k procs count q
+  unfolding begins
+  begin_at p h e = ap (λ (n : ℕ). min n count) e ∙ sym (choose_yes _ _ (lt-ltb q procs h))
 
-    pub begin_at : p ≤ count → p ≡ begins l k procs count q
-    unfolding begins
-    begin_at b = let z : p ≡ min (get_or l (proc_base q + k) 0) count = omega arith in z ∙ sym (choose_yes _ _ (lt-ltb q procs h))
+-- The nodes and the edges of a procedure are such a run.
+module _ {F : Type 0} (g : LineWriter F) (f : F) (t l : List ℕ) (had : Count) (q from to : ℕ) (o : List ℕ) (at r : ℕ) (o' : List ℕ) (run : RunPut g f o at from to r o') (s : Small had) where
+  pub its_nodes : (n : List ℕ) → PutsLines g f (node_text t n l) → from ≡ begins l 3 had.procs had.nodes q → to ≡ begins l 3 had.procs had.nodes (q + 1)
+      → Writes o at (nodes_text t n l had q) (2 ^ 16) r o'
+  unfolding RunPut nodes_text
+  its_nodes n puts ef et = rw (ef, et) at (writes_most (2 ^ 16) (run (node_text t n l) puts) (omega (arith, et, begins_few l 3 had.procs had.nodes (q + 1), s.few_nodes)))
 
-  pub begin_few : (r most : ℕ) → r ≡ begins l k procs count q → count ≤ most → r ≤ most
-  begin_few r most e h = omega (arith, begins_few l k procs count q)
-
-module _ (t l : List ℕ) (had : Count) (q from to : ℕ) {o o' : List ℕ} {at r : ℕ} where
-  pub its_nodes : (n : List ℕ) → from ≡ begins l 3 had.procs had.nodes q → to ≡ begins l 3 had.procs had.nodes (q + 1)
-      → Writes o at (run_from (node_text t n l) from (to - from)) (2 ^ 16) r o' → Writes o at (nodes_text t n l had q) (2 ^ 16) r o'
-  unfolding nodes_text
-  its_nodes n ef et p = rw (ef, et) at p
-
-  pub its_edges : from ≡ begins l 4 had.procs had.edges q → to ≡ begins l 4 had.procs had.edges (q + 1)
-      → Writes o at (run_from (edge_text t l) from (to - from)) (2 ^ 17) r o' → Writes o at (edges_text t l had q) (2 ^ 17) r o'
-  unfolding edges_text
-  its_edges ef et p = rw (ef, et) at p
+  pub its_edges : PutsLines g f (edge_text t l) → from ≡ begins l 4 had.procs had.edges q → to ≡ begins l 4 had.procs had.edges (q + 1)
+      → Writes o at (edges_text t l had q) (2 ^ 17) r o'
+  unfolding RunPut edges_text
+  its_edges puts ef et = rw (ef, et) at (writes_most (2 ^ 17) (run (edge_text t l) puts) (omega (arith, et, begins_few l 4 had.procs had.edges (q + 1), s.few_edges)))
 
 module _ (t n l : List ℕ) (had : Count) where
   pub procedure_puts : {o o₁ o₂ o₃ : List ℕ} {at r₁ r₂ r₃ : ℕ} (q : ℕ) → Writes o at (proc_text t l q) 128 r₁ o₁ → Writes o₁ r₁ (nodes_text t n l had q) (2 ^ 16) r₂ o₂
@@ -153,4 +159,4 @@ module _ (t n l : List ℕ) (had : Count) where
     unfolding back_text
     program_done s h b = let e : q ≡ had.procs = omega arith in let z = s.few_procs in writes_most (2 ^ 24) (rw e at inv) (omega arith)
 
-pub ruleset procedures = (begin_past, begin_cut, begin_at, begin_few, its_nodes, its_edges, procedure_puts, program_start, program_on, program_room, program_done)
+pub ruleset procedures = (begin_past, begin_at, procedure_puts, program_start, program_on, program_room, program_done)

@@ -22,7 +22,7 @@ use Rattle.graph.specs.Keys.{digit_of, word_key}
 use Rattle.graph.specs.Callees.{none_from, some_from}
 use Rattle.graph.specs.Table.{callees_from, node_base, proc_base}
 use Rattle.graph.specs.Reads.{part_at}
-use Rattle.reader.specs.declared.Count.{Count}
+use Rattle.reader.specs.Result.{Count}
 use Rattle.program.specs.Lent.{Counted}
 use Rattle.versions.specs.Memory.{InMemory, memory}
 use Rattle.versions.specs.MemoryLaws.{callees_are, key_is, kind_is, sound, well_formed}

@@ -2,33 +2,25 @@
 use mathlib.Core.Path.{◌≡◌, refl, sym, ap, ap₂, ◌∙◌}
 use mathlib.Core.Bool.{Bool, true, false}
 use mathlib.Core.List.{List, []}
+use Rattle.std.specs.Prelude.{Some, None}
 use Prim.Native.Nat.{ℕ, zero, suc, ◌+◌, ◌-◌, ◌*◌, ◌/◌, ◌%◌, ◌^◌, ◌≤◌, ◌<◌, min}
-use native.Mathlib.Numerals.{add-one}
 use native.Mathlib.Nat.{zero-add}
 use native.Mathlib.Omega.{arith}
 use lib.Dec.{eqb}
 use lib.ListN.{length, get_or, take, drop, length-drop, length-take}
 use borrow.Author.Tests.{eq-eqb, ne_eqb}
 use Rattle.laws.specs.Tests.{◌and◌, choose, every}
-use Rattle.laws.specs.TestLaws.{and_both, both_ways, every_at, fails}
+use Rattle.laws.specs.TestLaws.{both_ways, every_at, every_of, fails}
 use Rattle.laws.specs.Lists.{choose_no, choose_yes}
+use Rattle.laws.specs.Slices.{below_or}
 use Rattle.rules.specs.Text.{same}
 use Rattle.graph.specs.Table.{edge_base, node_base, proc_base}
-use Rattle.graph.specs.Reads.{part_at, past}
-use Rattle.reader.specs.declared.Count.{Count}
-use Rattle.writeback.specs.Parts.{behind_label, callee_in, digits_of, label_in, name_in, name_long, name_same, names_long, node_same, parts_same, word_in, word_same}
+use Rattle.graph.specs.Reads.{part_at}
+use Rattle.reader.specs.Result.{Count}
+use Rattle.versions.specs.Callees.{NextCallee}
+use Rattle.writeback.specs.Parts.{AllBelow, behind_label, callee_in, digits_of, label_in, name_in, name_long, name_same, names_long, node_same, parts_same, word_in, word_same}
 
 -- ---- numbers
-
-module _ (t : List ℕ) (i : ℕ) (h : length t ≤ i) where
-  pub node_past : (k : ℕ) → 0 ≡ get_or t (node_base i + k) 0
-  node_past k = sym (past t i (node_base i + k) h (omega arith))
-
-  pub proc_past : (k : ℕ) → 0 ≡ get_or t (proc_base i + k) 0
-  proc_past k = sym (past t i (proc_base i + k) h (omega arith))
-
-  pub word_past : 0 ≡ get_or t (edge_base i + 1) 0
-  word_past = sym (past t i (edge_base i + 1) h (omega arith))
 
 digits_zero : (k : ℕ) → digits_of k 0 ≡ 0
 unfolding digits_of
@@ -56,18 +48,17 @@ module _ (v n rest : ℕ) (inv : digits_of 8 v ≡ n + digits_of (8 - n) rest) w
   unfolding digits_of
   digits_done h l = let k : 8 - n ≡ 0 = omega arith in let z : digits_of (8 - n) rest ≡ 0 = ap (λ (k : ℕ). digits_of k rest) k in omega arith
 
-pub ruleset numbers = (node_past, proc_past, word_past, digits_start, digits_end, digits_on, digits_done)
+pub ruleset numbers = (digits_start, digits_end, digits_on, digits_done)
 
 -- ---- `name_long`, `names_long`
 
-module _ (l : List ℕ) (q len : ℕ) (e : len ≡ get_or l (proc_base q + 1) 0) where
-  pub long_cut : 12 < len → 12 ≡ name_long l q
-  unfolding name_long
-  long_cut h = omega arith
+pub long_is : (l : List ℕ) (q len : ℕ) → len ≡ get_or l (proc_base q + 1) 0 → min 12 len ≡ name_long l q
+unfolding name_long
+long_is l q len e = ap (min 12) e
 
-  pub long_whole : len ≤ 12 → len ≡ name_long l q
-  unfolding name_long
-  long_whole h = omega arith
+none_long : (l : List ℕ) (v : ℕ) → names_long 0 l v ≡ 0
+unfolding names_long
+none_long l v = refl
 
 long_zero : (k : ℕ) (l : List ℕ) → names_long k l 0 ≡ 0
 unfolding names_long
@@ -78,34 +69,34 @@ long_more : (k : ℕ) (l : List ℕ) (v : ℕ) → (v ≡ 0 → ⊥) → names_l
 unfolding names_long
 long_more k l v h = choose_no _ _ (ne_eqb v 0 h)
 
--- Of at most i names the length is known; those left are the digits of rest.
-pub record LongTo (l : List ℕ) (v rest len i : ℕ) : Type 0 where
-  pub few : len ≤ 13 * i
-  pub is : names_long 4 l v ≡ len + names_long (4 - i) l rest
+-- The length of the names so far is known; those left are the digits of rest, at most n of them.
+pub record LongTo (l : List ℕ) (v rest len n : ℕ) : Type 0 where
+  pub few : len + 13 * n ≤ 52
+  pub is : names_long 4 l v ≡ len + names_long n l rest
 
-pub long_start : (l : List ℕ) (v : ℕ) → LongTo l v v 0 0
+pub long_start : (l : List ℕ) (v : ℕ) → LongTo l v v 0 4
 long_start l v = record { few = omega arith; is = sym (zero-add (names_long 4 l v)) }
 
-module _ (l : List ℕ) (v rest len i : ℕ) (inv : LongTo l v rest len i) where
-  pub long_end : rest ≡ 0 → len ≡ names_long 4 l v
-  long_end e = let z : names_long (4 - i) l rest ≡ 0 = ap (names_long (4 - i) l) e ∙ long_zero (4 - i) l in omega (arith, inv.is)
+module _ (l : List ℕ) (v rest len n : ℕ) (inv : LongTo l v rest len n) where
+  pub long_end : (rest' : ℕ) → (0 < n → NextCallee rest None rest') → len ≡ names_long 4 l v
+  long_end rest' e =
+      below_or 0 n (λ h. let z : names_long n l rest ≡ 0 = ap (names_long n l) (e h).0 ∙ long_zero n l in omega (arith, inv.is))
+      (λ h. let k : n ≡ 0 = omega arith in let z : names_long n l rest ≡ 0 = ap (λ (k : ℕ). names_long k l rest) k ∙ none_long l rest in omega (arith, inv.is))
 
-  pub long_done : 4 ≤ i → len ≡ names_long 4 l v
-  unfolding names_long
-  long_done h = let k : 4 - i ≡ 0 = omega arith in let z : names_long (4 - i) l rest ≡ 0 = ap (λ (k : ℕ). names_long k l rest) k in omega (arith, inv.is)
-
-  module _ (q one : ℕ) (h : i < 4) (eq : q ≡ rest % 256 - 1) (eo : one ≡ name_long l q) (small : one ≤ 12) where
+  module _ (q one rest' n' : ℕ) (next : NextCallee rest (Some q) rest') (h : n' + 1 ≡ n) (eo : one ≡ name_long l q) (small : one ≤ 12) where
     pub long_room : len + (one + 1) < 2 ^ 64
     long_room = omega (arith, inv.few)
 
-    pub long_on : (rest ≡ 0 → ⊥) → LongTo l v (rest / 256) (len + (one + 1)) (i + 1)
-    long_on e =
-        let k : 4 - i ≡ suc (4 - (i + 1)) = omega arith in
-        let z : names_long (4 - i) l rest ≡ name_long l (rest % 256 - 1) + 1 + names_long (4 - (i + 1)) l (rest / 256) = ap (λ (k : ℕ). names_long k l rest) k ∙ long_more (4 - (i + 1)) l rest e in
-        let y : name_long l (rest % 256 - 1) ≡ one = sym (eo ∙ ap (name_long l) eq) in
+    pub long_on : LongTo l v rest' (len + (one + 1)) n'
+    long_on =
+        let k : n ≡ suc n' = omega arith in
+        let z : names_long n l rest ≡ name_long l (rest % 256 - 1) + 1 + names_long n' l (rest / 256)
+        = ap (λ (k : ℕ). names_long k l rest) k ∙ long_more n' l rest (λ e. let y : ⊥ = omega (arith, next.0) in y) in
+        let y : name_long l (rest % 256 - 1) ≡ one = sym (eo ∙ ap (name_long l) next.1) in
+        let x : names_long n' l rest' ≡ names_long n' l (rest / 256) = ap (names_long n' l) next.2 in
         record { few = omega (arith, inv.few); is = omega (arith, inv.is) }
 
-pub ruleset longs = (long_cut, long_whole, long_start, long_end, long_done, long_room, long_on)
+pub ruleset longs = (long_is, long_start, long_end, long_room, long_on)
 
 -- ---- parts
 
@@ -206,21 +197,10 @@ module _ (a b n l x y : List ℕ) (m : ℕ) (t : Bool) (ex : x ≡ label_in a n 
       let z : same (label_in a n m) (label_in b n m) ≡ true = sym (ap₂ same ex ey) ∙ sym et ∙ h in
       er ∙ ap₂ same ec ed ∙ sym (ap (λ (s : Bool). s and same (callee_in a n l m) (callee_in b n l m)) z)
 
--- Every number below i passes: one more, one that does not, all.
-pub every_start : (f : ℕ → Bool) → every 0 f ≡ true
-unfolding every
-every_start f = refl
-
-module _ (f : ℕ → Bool) (i : ℕ) where
-  pub every_on : (t : Bool) → every i f ≡ true → t ≡ f i → t ≡ true → every (i + 1) f ≡ true
-  unfolding every
-  every_on t inv e y = let q : every (suc i) f ≡ true = and_both inv (sym e ∙ y) in simp add-one q
-
-  pub every_stop : (n : ℕ) (t : Bool) → i < n → t ≡ f i → t ≡ false → false ≡ every n f
-  every_stop n t h e y = sym (fails _ (λ a. both_ways (every_at f n a i h) (sym e ∙ y)))
-
-  pub every_done : (n : ℕ) → every i f ≡ true → i ≤ n → n ≤ i → true ≡ every n f
-  every_done n inv h l = let q : i ≡ n = omega arith in sym (rw q at inv)
+-- Every number below n passes, where the answers are those of f.
+pub every_told : (post : ℕ → Bool → Type 0) (f : ℕ → Bool) (n : ℕ) (r : Bool) → ((i : ℕ) (t : Bool) → post i t → t ≡ f i) → AllBelow post n r → r ≡ every n f
+every_told post f n true h a = sym (every_of f n (λ i l. sym (h i true (a.passes refl i l))))
+every_told post f n false h a = let r = a.stops refl in sym (fails _ (λ b. both_ways (every_at f n b r.0 r.1) (sym (h r.0 false r.2))))
 
 -- The whole test, by the order in which it is made.
 module _ (a b n l : List ℕ) (had : Count) where
@@ -250,4 +230,4 @@ module _ (a b n l : List ℕ) (had : Count) where
       unfolding ◌and◌
       words_decide r z er = er ∙ sym (first_two ∙ ap (λ (v : Bool). v and every had.edges (word_same a b l)) z)
 
-pub ruleset tests = (name_same_lem, word_same_lem, node_differs, node_same_lem, every_start, every_on, every_stop, every_done, longer, names_differ, nodes_differ, words_decide)
+pub ruleset tests = (name_same_lem, word_same_lem, node_differs, node_same_lem, longer, names_differ, nodes_differ, words_decide)

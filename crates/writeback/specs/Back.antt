@@ -5,7 +5,7 @@ use Rattle.rules.specs.Text.{Bytes, text_of}
 use Rattle.rules.specs.Graph.{C, E, Edge, Kind, Node, S, X}
 use Rattle.rules.specs.Layout.{line_of_edge, line_of_node, line_of_proc}
 use Rattle.graph.specs.Table.{edge_base, node_base, proc_base}
-use Rattle.reader.specs.declared.Count.{Count}
+use Rattle.reader.specs.Result.{Count}
 use Rattle.writeback.specs.Parts.{callee_in, label_in, name_in, word_in}
 
 -- ---- lines, each with its byte 10

@@ -1,11 +1,11 @@
 -- The parts of a text that the tables of a program lead to: names, labels, callees and words. Each is cut to the length that such a part has at most, so that the definitions hold for
 -- tables of any numbers.
-use Rattle.std.specs.Prelude.{Bool, List, [], ℕ, zero, suc, ◌+◌, ◌-◌, ◌/◌, ◌%◌, min, eqb, length, get_or, take, drop}
+use Rattle.std.specs.Prelude.{◌≡◌, Bool, true, false, ◌<◌, List, [], ℕ, zero, suc, ◌+◌, ◌-◌, ◌/◌, ◌%◌, min, eqb, length, get_or, take, drop}
 use Rattle.laws.specs.Tests.{◌and◌, choose, every}
 use Rattle.rules.specs.Text.{Bytes, same}
 use Rattle.graph.specs.Table.{edge_base, node_base, proc_base}
 use Rattle.graph.specs.Reads.{part_at}
-use Rattle.reader.specs.declared.Count.{Count}
+use Rattle.reader.specs.Result.{Count}
 
 -- The name of the procedure q, at most 12 bytes, and the label of the node m, at most 60.
 unfoldable pub name_in : Bytes → List ℕ → ℕ → Bytes
@@ -55,3 +55,10 @@ word_same a b l e = same (word_in a l e) (word_in b l e)
 unfoldable pub parts_same : Bytes → Bytes → List ℕ → List ℕ → Count → Bool
 parts_same a b n l had =
     eqb (length a) (length b) and every had.procs (name_same a b l) and every had.nodes (node_same a b n l) and every had.edges (word_same a b l)
+
+-- ---- a test of every number below n
+
+-- What it answers, where `post i t` says that it answers t of i: true where it passes of all, false where it fails of one.
+pub record AllBelow (post : ℕ → Bool → Type 0) (n : ℕ) (r : Bool) : Type 0 where
+  pub passes : r ≡ true → (i : ℕ) → i < n → post i true
+  pub stops : r ≡ false → (i : ℕ) × (i < n) × post i false

@@ -1,14 +1,13 @@
-// A program written back: from the tables of a version and a text, the program file that they hold; and whether two texts have the same names,
-// labels, callees and words where the tables say. Every function takes tables of any numbers. A writer stores only inside its output and answers
+// A program written back: the program file that the text and the tables of a version hold; and whether another text has the same names, labels,
+// callees and words where the tables say. Every function takes tables of any numbers. A writer stores only inside its output and answers
 // the place behind what it writes, so that writing into no bytes measures.
-#![tactic(auto)]
+#![tactic(auto, using(crate::proofs::All::all))]
 
 ghost use Rattle.std.specs.Prelude.{◌≡◌, ◌∷◌, [], ◌+◌, ◌-◌, ◌^◌, ◌≤◌, get_or, length};
 ghost use Rattle.laws.specs.Tests.{every};
 ghost use Rattle.rules.specs.Layout.{kind_field};
 ghost use Rattle.rules.specs.Text.{decimal};
-ghost use Rattle.graph.specs.Table.{edge_base, node_base, proc_base};
-ghost use Rattle.reader.specs.Result.{Small};
+ghost use Rattle.reader.specs.Result.{Small, counts_of};
 ghost use Rattle.writer.specs.Writes.{Writes};
 ghost use Rattle.writeback.specs.Parts.{
   callee_in,
@@ -21,6 +20,7 @@ ghost use Rattle.writeback.specs.Parts.{
   name_same,
   node_same,
   word_same,
+  AllBelow,
   word_in,
 };
 ghost use Rattle.writeback.specs.Back.{
@@ -33,220 +33,155 @@ ghost use Rattle.writeback.specs.Back.{
   node_text,
   procedure_text,
   proc_text,
-  run_from,
 };
+ghost use Rattle.writeback.specs.Runs.{Callable, RunPut};
 
-use reader::Count;
-
-// ---- numbers of the tables
-
-// The number k of the node m.
-fn node_number(nodes: &[usize], m: usize, k: usize) -> usize
-    requires { k ≤ 3 }
-    ensures { result ≡ get_or nodes.now (node_base m + k) 0 }
-{
-    if nodes.len() <= m {
-        return 0;
-    }
-    text::get(nodes, 4 * m + k)
-}
-
-// The number k of the procedure q.
-fn proc_number(links: &[usize], q: usize, k: usize) -> usize
-    requires { k ≤ 6 }
-    ensures { result ≡ get_or links.now (proc_base q + k) 0 }
-{
-    if links.len() <= q {
-        return 0;
-    }
-    text::get(links, 7 * q + k)
-}
-
-// Where the word of the edge e begins.
-fn word_start(links: &[usize], e: usize) -> usize
-    ensures { result ≡ get_or links.now (edge_base e + 1) 0 }
-{
-    if links.len() <= e {
-        return 0;
-    }
-    text::get(links, 448 + 5 * e + 1)
-}
+use lines::Kind;
+use reader::Counts;
+use versions::{Callees, Program};
 
 // How many digits to the base 256 the number has, at most 8.
 fn digits_of(v: usize) -> usize
     ensures { result ≡ digits_of 8 v }
 {
     let mut rest = v;
-    let mut n = 0;
-    while n < 8 {
+    for n in 0..8 {
         if rest == 0 {
             return n;
         }
-        rest = rest / 256;
-        n += 1;
+        rest /= 256;
     }
-    n
+    8
 }
 
 // ---- parts of the text
 
 // The name of the procedure q.
-fn name_in<'a>(text: &'a [u8], links: &[usize], q: usize) -> &'a [u8]
-    ensures { result.now ≡ name_in text.now links.now q }
+fn name_in<'a>(version: &Program<'a>, q: usize) -> &'a [u8]
+    ensures { result.now ≡ name_in version.now.text version.now.links q }
 {
-    text::front(versions::name(text, links, q), 12)
+    text::front(version.name(q), 12)
 }
 
 // The label of the node m.
-fn label_in<'a>(text: &'a [u8], nodes: &[usize], m: usize) -> &'a [u8]
-    ensures { result.now ≡ label_in text.now nodes.now m }
+fn label_in<'a>(version: &Program<'a>, m: usize) -> &'a [u8]
+    ensures { result.now ≡ label_in version.now.text version.now.nodes m }
 {
-    text::front(versions::label(text, nodes, m), 60)
+    text::front(version.label(m), 60)
 }
 
 // How long the name of the procedure q is, at most 12 bytes.
-fn name_long(links: &[usize], q: usize) -> usize
-    ensures value { result ≡ name_long links.now q }
+#[tactic(auto, unfolding(crate::specs::Parts::name_long))]
+fn name_long(version: &Program, q: usize) -> usize
+    ensures value { result ≡ name_long version.now.links q }
     ensures upper_bound { result ≤ 12 }
 {
-    let len = proc_number(links, q, 1);
-    if 12 < len {
-        return 12;
-    }
-    len
+    12.min(version.proc_number(q, 1))
 }
 
 // How many bytes the names take of the procedures that are the digits of this number, at most four, each with the byte before it.
-fn names_long(links: &[usize], callees: usize) -> usize
-    ensures { result ≡ names_long 4 links.now callees }
+fn names_long(version: &Program, callees: usize) -> usize
+    ensures { result ≡ names_long 4 version.now.links callees }
 {
-    let mut rest = callees;
     let mut len = 0;
-    let mut i = 0usize;
-    while i < 4 {
-        if rest == 0 {
-            return len;
-        }
-        let one = name_long(links, versions::callee(rest));
-        len = len + (one + 1);
-        rest = rest / 256;
-        i += 1;
+    for q in Callees::of(callees).take(4) {
+        len += name_long(version, q) + 1;
     }
     len
 }
 
 // The callee field of the node m.
-fn callee_in<'a>(text: &'a [u8], nodes: &[usize], links: &[usize], m: usize) -> &'a [u8]
-    ensures { result.now ≡ callee_in text.now nodes.now links.now m }
+fn callee_in<'a>(version: &Program<'a>, m: usize) -> &'a [u8]
+    ensures { result.now ≡ callee_in version.now.text version.now.nodes version.now.links m }
 {
-    if versions::kind(nodes, m) != 2 {
-        return text::front(text, 0);
+    if !version.is_call(m) {
+        return text::front(version.text(), 0);
     }
-    let len = names_long(links, versions::callees(nodes, m));
-    let label = text::after(text, node_number(nodes, m, 1));
-    let behind = text::after(label, node_number(nodes, m, 2));
+    let len = names_long(version, version.callees(m));
+    let label = text::after(version.text(), version.node_number(m, 1));
+    let behind = text::after(label, version.node_number(m, 2));
     text::after(text::front(behind, len), 1)
 }
 
 // The word of the edge e.
-fn word_in<'a>(text: &'a [u8], links: &[usize], e: usize) -> &'a [u8]
-    ensures { result.now ≡ word_in text.now links.now e }
+fn word_in<'a>(version: &Program<'a>, e: usize) -> &'a [u8]
+    ensures { result.now ≡ word_in version.now.text version.now.links e }
 {
-    let len = digits_of(graph::word_key(links, e));
-    text::part(text, word_start(links, e), len)
+    let len = digits_of(version.word_key(e));
+    text::part(version.text(), version.edge_number(e, 1), len)
 }
 
-// ---- the same parts
+// ---- the same parts, of two versions with the same tables
 
 // Whether the procedure q has the same name.
-fn same_name(a: &[u8], b: &[u8], links: &[usize], q: usize) -> bool
-    ensures { result ≡ name_same a.now b.now links.now q }
+fn same_name(a: &Program, b: &Program, q: usize) -> bool
+    requires { a.now.links ≡ b.now.links }
+    ensures { result ≡ name_same a.now.text b.now.text a.now.links q }
 {
-    let x = name_in(a, links, q);
-    let y = name_in(b, links, q);
-    text::same_long(x, y)
+    text::same_long(name_in(a, q), name_in(b, q))
 }
 
 // Whether the node m has the same label and the same callee field.
-fn same_node(a: &[u8], b: &[u8], nodes: &[usize], links: &[usize], m: usize) -> bool
-    ensures { result ≡ node_same a.now b.now nodes.now links.now m }
+fn same_node(a: &Program, b: &Program, m: usize) -> bool
+    requires { (a.now.nodes ≡ b.now.nodes) × (a.now.links ≡ b.now.links) }
+    ensures { result ≡ node_same a.now.text b.now.text a.now.nodes a.now.links m }
 {
-    let x = label_in(a, nodes, m);
-    let y = label_in(b, nodes, m);
-    if text::same_long(x, y) {
-        let c = callee_in(a, nodes, links, m);
-        let d = callee_in(b, nodes, links, m);
-        return text::same_long(c, d);
-    }
-    false
+    text::same_long(label_in(a, m), label_in(b, m))
+        && text::same_long(callee_in(a, m), callee_in(b, m))
 }
 
 // Whether the edge e has the same word.
-fn same_word(a: &[u8], b: &[u8], links: &[usize], e: usize) -> bool
-    ensures { result ≡ word_same a.now b.now links.now e }
+fn same_word(a: &Program, b: &Program, e: usize) -> bool
+    requires { a.now.links ≡ b.now.links }
+    ensures { result ≡ word_same a.now.text b.now.text a.now.links e }
 {
-    let x = word_in(a, links, e);
-    let y = word_in(b, links, e);
-    text::same_long(x, y)
+    text::same_long(word_in(a, e), word_in(b, e))
+}
+
+// Whether the test passes of every number below n: as `all` of a range, with a contract that tells of each test.
+fn all_below<F: Fn(usize) -> bool>(n: usize, test: F) -> bool
+    requires { F.IsAlwaysCallable test }
+    ensures { AllBelow (F.post test) n result }
+{
+    for i in 0..n {
+        if !test(i) {
+            return false;
+        }
+    }
+    true
 }
 
 // The same of every procedure, of every node, of every edge.
-fn same_names(a: &[u8], b: &[u8], links: &[usize], procs: usize) -> bool
-    ensures { result ≡ every procs (name_same a.now b.now links.now) }
+fn same_names(a: &Program, b: &Program, procs: usize) -> bool
+    requires { a.now.links ≡ b.now.links }
+    ensures { result ≡ every procs (name_same a.now.text b.now.text a.now.links) }
 {
-    let mut q = 0;
-    while q < procs {
-        if same_name(a, b, links, q) {
-            q += 1;
-        } else {
-            return false;
-        }
-    }
-    true
+    all_below(procs, |q| same_name(a, b, q))
 }
 
-fn same_nodes(a: &[u8], b: &[u8], nodes: &[usize], links: &[usize], count: usize) -> bool
-    ensures { result ≡ every count (node_same a.now b.now nodes.now links.now) }
+fn same_nodes(a: &Program, b: &Program, nodes: usize) -> bool
+    requires { (a.now.nodes ≡ b.now.nodes) × (a.now.links ≡ b.now.links) }
+    ensures { result ≡ every nodes (node_same a.now.text b.now.text a.now.nodes a.now.links) }
 {
-    let mut m = 0;
-    while m < count {
-        if same_node(a, b, nodes, links, m) {
-            m += 1;
-        } else {
-            return false;
-        }
-    }
-    true
+    all_below(nodes, |m| same_node(a, b, m))
 }
 
-fn same_words(a: &[u8], b: &[u8], links: &[usize], edges: usize) -> bool
-    ensures { result ≡ every edges (word_same a.now b.now links.now) }
+fn same_words(a: &Program, b: &Program, edges: usize) -> bool
+    requires { a.now.links ≡ b.now.links }
+    ensures { result ≡ every edges (word_same a.now.text b.now.text a.now.links) }
 {
-    let mut e = 0;
-    while e < edges {
-        if same_word(a, b, links, e) {
-            e += 1;
-        } else {
-            return false;
-        }
-    }
-    true
+    all_below(edges, |e| same_word(a, b, e))
 }
 
-// Whether the two texts are of one length, and have the same names, labels, callees and words where the tables say.
-pub fn same_parts(a: &[u8], b: &[u8], nodes: &[usize], links: &[usize], had: Count) -> bool
-    ensures { result ≡ parts_same a.now b.now nodes.now links.now had }
+// Whether the other text is as long as that of the version, and has the same names, labels, callees and words where the tables say.
+pub fn same_parts(version: &Program, text: &[u8], had: Counts) -> bool
+    ensures { result ≡ parts_same version.now.text text.now version.now.nodes version.now.links (counts_of had) }
 {
-    if a.len() != b.len() {
-        return false;
-    }
-    if same_names(a, b, links, had.procs) {
-        if same_nodes(a, b, nodes, links, had.nodes) {
-            return same_words(a, b, links, had.edges);
-        }
-        return false;
-    }
-    false
+    let other = Program::new(text, version.nodes(), version.links());
+    version.text().len() == text.len()
+        && same_names(version, &other, had.procs)
+        && same_nodes(version, &other, had.nodes)
+        && same_words(version, &other, had.edges)
 }
 
 // ---- lines
@@ -256,34 +191,30 @@ fn put_part(out: &mut [u8], at: usize, part: &[u8]) -> usize
     requires { (at ≤ 2 ^ 32) × (length part.now ≤ 60) }
     ensures { Writes out.old at (44 ∷ part.now) 61 result out.new }
 {
-    let a = text::put_byte(out, at, 44);
+    let a = text::put_byte(out, at, b',');
     text::put_bytes(out, a, part)
 }
 
 // `P,name`, a procedure.
-fn put_proc(out: &mut [u8], at: usize, text: &[u8], links: &[usize], q: usize) -> usize
+fn put_proc(out: &mut [u8], at: usize, version: &Program, q: usize) -> usize
     requires { at ≤ 2 ^ 31 }
-    ensures { Writes out.old at (proc_text text.now links.now q) 128 result out.new }
+    ensures { Writes out.old at (proc_text version.now.text version.now.links q) 128 result out.new }
 {
     let a = text::put_byte(out, at, b'P');
-    let b = put_part(out, a, name_in(text, links, q));
-    text::put_byte(out, b, 10)
+    let b = put_part(out, a, name_in(version, q));
+    text::put_byte(out, b, b'\n')
 }
 
-// The byte of a kind.
+// The byte of a kind by its number; a number that no kind has counts as that of an exit.
 fn kind_byte(k: usize) -> u8
     ensures { result ∷ [] ≡ kind_field (kind_from k) }
 {
-    if k == 0 {
-        return b'E';
+    match Kind::try_from(k) {
+        Ok(Kind::Entry) => b'E',
+        Ok(Kind::Step) => b'S',
+        Ok(Kind::Call) => b'C',
+        Ok(Kind::Exit) | Err(_) => b'X',
     }
-    if k == 1 {
-        return b'S';
-    }
-    if k == 2 {
-        return b'C';
-    }
-    b'X'
 }
 
 // `N,kind`, how a node begins.
@@ -296,21 +227,14 @@ fn put_kind(out: &mut [u8], at: usize, k: usize) -> usize
 }
 
 // `N,kind,label,callee`, a node.
-fn put_node(
-    out: &mut [u8],
-    at: usize,
-    text: &[u8],
-    nodes: &[usize],
-    links: &[usize],
-    m: usize,
-) -> usize
+fn put_node(out: &mut [u8], at: usize, version: &Program, m: usize) -> usize
     requires { at ≤ 2 ^ 31 }
-    ensures { Writes out.old at (node_text text.now nodes.now links.now m) 128 result out.new }
+    ensures { Writes out.old at (node_text version.now.text version.now.nodes version.now.links m) 128 result out.new }
 {
-    let a = put_kind(out, at, versions::kind(nodes, m));
-    let b = put_part(out, a, label_in(text, nodes, m));
-    let c = put_part(out, b, callee_in(text, nodes, links, m));
-    text::put_byte(out, c, 10)
+    let a = put_kind(out, at, version.kind(m));
+    let b = put_part(out, a, label_in(version, m));
+    let c = put_part(out, b, callee_in(version, m));
+    text::put_byte(out, c, b'\n')
 }
 
 // `B,source`, how an edge begins.
@@ -323,145 +247,84 @@ fn put_source(out: &mut [u8], at: usize, x: usize) -> usize
 }
 
 // `B,source,word,target`, an edge.
-fn put_edge(out: &mut [u8], at: usize, text: &[u8], links: &[usize], e: usize) -> usize
+fn put_edge(out: &mut [u8], at: usize, version: &Program, e: usize) -> usize
     requires { at ≤ 2 ^ 31 }
-    ensures { Writes out.old at (edge_text text.now links.now e) 128 result out.new }
+    ensures { Writes out.old at (edge_text version.now.text version.now.links e) 128 result out.new }
 {
-    let a = put_source(out, at, versions::source(links, e));
-    let b = put_part(out, a, word_in(text, links, e));
-    let c = writer::put_field(out, b, versions::target(links, e));
-    text::put_byte(out, c, 10)
+    let a = put_source(out, at, version.source(e));
+    let b = put_part(out, a, word_in(version, e));
+    let c = writer::put_field(out, b, version.target(e));
+    text::put_byte(out, c, b'\n')
 }
 
 // ---- procedures
 
-// The lines of the nodes from `from` up to `to`.
-fn put_nodes(
+// Lets `put` write the lines from `from` up to `to`.
+fn put_run<F: Fn(&mut [u8], usize, usize) -> usize>(
     out: &mut [u8],
     at: usize,
-    text: &[u8],
-    nodes: &[usize],
-    links: &[usize],
     from: usize,
     to: usize,
+    put: F,
 ) -> usize
-    requires { (at ≤ 2 ^ 30) × (to ≤ 512) }
-    ensures { Writes out.old at (run_from (node_text text.now nodes.now links.now) from (to - from)) (2 ^ 16) result out.new }
+    requires { (at ≤ 2 ^ 30) × (to ≤ 1024) × Callable F.Fn put }
+    ensures { RunPut F.Fn put out.old at from to result out.new }
 {
     let mut k = at;
-    let mut m = from;
-    while m < to {
-        k = put_node(out, k, text, nodes, links, m);
-        m += 1;
-    }
-    k
-}
-
-// The lines of the edges from `from` up to `to`.
-fn put_edges(
-    out: &mut [u8],
-    at: usize,
-    text: &[u8],
-    links: &[usize],
-    from: usize,
-    to: usize,
-) -> usize
-    requires { (at ≤ 2 ^ 30) × (to ≤ 1024) }
-    ensures { Writes out.old at (run_from (edge_text text.now links.now) from (to - from)) (2 ^ 17) result out.new }
-{
-    let mut k = at;
-    let mut e = from;
-    while e < to {
-        k = put_edge(out, k, text, links, e);
-        e += 1;
+    for i in from..to {
+        k = put(out, k, i);
     }
     k
 }
 
 // Where the procedure q begins in the nodes (k is 3) or in the edges (k is 4), of which there are `count`.
-fn begin(links: &[usize], k: usize, procs: usize, count: usize, q: usize) -> usize
+fn begin(version: &Program, k: usize, procs: usize, count: usize, q: usize) -> usize
     requires { k ≤ 6 }
-    ensures { result ≡ begins links.now k procs count q }
+    ensures { result ≡ begins version.now.links k procs count q }
 {
     if procs <= q {
         return count;
     }
-    let place = proc_number(links, q, k);
-    if count < place {
-        return count;
-    }
-    place
+    version.proc_number(q, k).min(count)
 }
 
 // The nodes and the edges of the procedure q.
-fn put_its_nodes(
-    out: &mut [u8],
-    at: usize,
-    text: &[u8],
-    nodes: &[usize],
-    links: &[usize],
-    had: Count,
-    q: usize,
-) -> usize
-    requires { (at ≤ 2 ^ 29) × Small had × (q ≤ 64) }
-    ensures { Writes out.old at (nodes_text text.now nodes.now links.now had q) (2 ^ 16) result out.new }
+fn put_its_nodes(out: &mut [u8], at: usize, version: &Program, had: Counts, q: usize) -> usize
+    requires { (at ≤ 2 ^ 29) × Small (counts_of had) × (q ≤ 64) }
+    ensures { Writes out.old at (nodes_text version.now.text version.now.nodes version.now.links (counts_of had) q) (2 ^ 16) result out.new }
 {
-    let from = begin(links, 3, had.procs, had.nodes, q);
-    let to = begin(links, 3, had.procs, had.nodes, q + 1);
-    put_nodes(out, at, text, nodes, links, from, to)
+    let from = begin(version, 3, had.procs, had.nodes, q);
+    let to = begin(version, 3, had.procs, had.nodes, q + 1);
+    put_run(out, at, from, to, |out, k, m| put_node(out, k, version, m))
 }
 
-fn put_its_edges(
-    out: &mut [u8],
-    at: usize,
-    text: &[u8],
-    links: &[usize],
-    had: Count,
-    q: usize,
-) -> usize
-    requires { (at ≤ 2 ^ 29) × Small had × (q ≤ 64) }
-    ensures { Writes out.old at (edges_text text.now links.now had q) (2 ^ 17) result out.new }
+fn put_its_edges(out: &mut [u8], at: usize, version: &Program, had: Counts, q: usize) -> usize
+    requires { (at ≤ 2 ^ 29) × Small (counts_of had) × (q ≤ 64) }
+    ensures { Writes out.old at (edges_text version.now.text version.now.links (counts_of had) q) (2 ^ 17) result out.new }
 {
-    let from = begin(links, 4, had.procs, had.edges, q);
-    let to = begin(links, 4, had.procs, had.edges, q + 1);
-    put_edges(out, at, text, links, from, to)
+    let from = begin(version, 4, had.procs, had.edges, q);
+    let to = begin(version, 4, had.procs, had.edges, q + 1);
+    put_run(out, at, from, to, |out, k, e| put_edge(out, k, version, e))
 }
 
 // The procedure q: its P line, its nodes, its edges.
-fn put_procedure(
-    out: &mut [u8],
-    at: usize,
-    text: &[u8],
-    nodes: &[usize],
-    links: &[usize],
-    had: Count,
-    q: usize,
-) -> usize
-    requires { (at ≤ 2 ^ 28) × Small had × (q ≤ 64) }
-    ensures { Writes out.old at (procedure_text text.now nodes.now links.now had q) (2 ^ 18) result out.new }
+fn put_procedure(out: &mut [u8], at: usize, version: &Program, had: Counts, q: usize) -> usize
+    requires { (at ≤ 2 ^ 28) × Small (counts_of had) × (q ≤ 64) }
+    ensures { Writes out.old at (procedure_text version.now.text version.now.nodes version.now.links (counts_of had) q) (2 ^ 18) result out.new }
 {
-    let a = put_proc(out, at, text, links, q);
-    let b = put_its_nodes(out, a, text, nodes, links, had, q);
-    put_its_edges(out, b, text, links, had, q)
+    let a = put_proc(out, at, version, q);
+    let b = put_its_nodes(out, a, version, had, q);
+    put_its_edges(out, b, version, had, q)
 }
 
-// Writes the program file that the tables and the text hold, and answers its length.
-pub fn write_program(
-    text: &[u8],
-    nodes: &[usize],
-    links: &[usize],
-    had: Count,
-    out: &mut [u8],
-) -> usize
-    requires { Small had }
-    ensures { Writes out.old 0 (back_text text.now nodes.now links.now had) (2 ^ 24) result out.new }
+// Writes the program file that the version holds, and answers its length.
+pub fn write_program(version: &Program, had: Counts, out: &mut [u8]) -> usize
+    requires { Small (counts_of had) }
+    ensures { Writes out.old 0 (back_text version.now.text version.now.nodes version.now.links (counts_of had)) (2 ^ 24) result out.new }
 {
-    let procs = had.procs;
     let mut k = 0;
-    let mut q = 0;
-    while q < procs {
-        k = put_procedure(out, k, text, nodes, links, had, q);
-        q += 1;
+    for q in 0..had.procs {
+        k = put_procedure(out, k, version, had, q);
     }
     k
 }

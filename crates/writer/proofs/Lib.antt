@@ -1,4 +1,5 @@
 pub mod Lines
+pub mod Counts
 pub mod Sets
 pub mod Pairs
 pub mod Sheets

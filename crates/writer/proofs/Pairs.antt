@@ -59,9 +59,6 @@ module _ {o o₁ w : List ℕ} {at a b from k : ℕ} (inv : PartnersPut o at w a
   pub partners_room : from < b → b ≤ 512 → at ≤ 2 ^ 31 → k ≤ 2 ^ 32
   partners_room h l s = omega (arith, inv.within)
 
-  pub partners_done : from ≤ b → b ≤ from → PartnersPut o at w a b b k o₁
-  partners_done h l = let q : from ≡ b = omega arith in rw q at inv
-
   module _ (m : ℕ) (next : NextPartner w a from m) (few : b ≤ 512) where
     -- What is found, for a table that holds c pairs.
     found_is : (c : ℕ) → Store w c → NewBelow w c b → m ≡ found (first b (λ j. leb from j and listed (pairs_in w c) a j))
@@ -77,17 +74,17 @@ module _ {o o₁ w : List ℕ} {at a b from k : ℕ} (inv : PartnersPut o at w a
           size = writes_length p ∙ inv.size;
         }
 
-    pub partners_out : from < b → m ≤ from → PartnersPut o at w a b b k o₁
+    pub partners_out : from ≤ b → m ≤ from → PartnersPut o at w a b b k o₁
     unfolding Partners
     partners_out h l =
         record {
-          puts = λ c s n. rw (partners_end w c a b from m (found_is c s n) l (omega arith)) (inv.puts c s n);
+          puts = λ c s n. rw (partners_end w c a b from m (found_is c s n) l h) (inv.puts c s n);
           within = omega (arith, inv.within);
           size = inv.size;
         }
 
     -- A partner past the new nodes is none of a table of pairs.
-    pub partners_over : from < b → b < m → PartnersPut o at w a b b k o₁
+    pub partners_over : from ≤ b → b < m → PartnersPut o at w a b b k o₁
     unfolding Partners
     partners_over h l =
         record {
@@ -99,7 +96,7 @@ module _ {o o₁ w : List ℕ} {at a b from k : ℕ} (inv : PartnersPut o at w a
 pub partners_size : {o o₁ w : List ℕ} {at a b n k : ℕ} → PartnersPut o at w a b n k o₁ → length o₁ ≡ length o
 partners_size p = p.size
 
-pub ruleset partners = (partners_none, partners_room, partners_done, partners_on, partners_out, partners_over, partners_size)
+pub ruleset partners = (partners_none, partners_room, partners_on, partners_out, partners_over, partners_size)
 
 -- ---- `put_pairs`
 

@@ -1,13 +1,11 @@
 -- The turns and the returns of the loops over edges and over tests.
-use mathlib.Core.Path.{◌≡◌, refl, sym, ap, ◌∙◌}
+use mathlib.Core.Path.{◌≡◌, sym, ap, ◌∙◌}
 use mathlib.Core.Bool.{Bool, true, false}
 use mathlib.Core.List.{List, [], ◌∷◌, ◌++◌, map, map-append}
-use Prim.Native.Nat.{ℕ, suc, ◌+◌, ◌*◌, ◌^◌, ◌≤◌, ◌<◌}
-use native.Mathlib.Numerals.{add-one}
+use Prim.Native.Nat.{ℕ, ◌+◌, ◌*◌, ◌^◌, ◌≤◌, ◌<◌}
 use native.Mathlib.Omega.{arith}
 use lib.ListN.{length, take, length-take}
-use Rattle.laws.specs.Tests.{count, those}
-use Rattle.laws.specs.TestLaws.{count_skip, count_more}
+use Rattle.laws.specs.Tests.{those}
 use Rattle.laws.specs.Bits.{bit_in}
 use Rattle.rules.specs.Text.{Bytes, text_of}
 use Rattle.rules.specs.Sheet.{r_text}
@@ -33,18 +31,6 @@ module _ (g : ℕ → Bool) (n : ℕ) (f : ℕ → Bytes) where
 
     turn_skip : g n ≡ false → Writes o at (text_of (map f (those (n + 1) g))) (m * (n + 1)) k o₁
     turn_skip e = rw (lines_skip e) (record { puts = inv.puts; within = omega (arith, inv.within) })
-
--- One more is counted, or none.
-module _ (g : ℕ → Bool) (i : ℕ) (t : Bool) (is : t ≡ g i) (n : ℕ) (inv : n ≡ count i g) where
-  pub count_on : t ≡ true → n + 1 ≡ count (i + 1) g
-  count_on y = let q : count (suc i) g ≡ suc (count i g) = count_more g i (sym is ∙ y) in simp add-one (ap suc inv ∙ sym q)
-
-  pub count_pass : t ≡ false → n ≡ count (i + 1) g
-  count_pass y = simp add-one (inv ∙ sym (count_skip g i (sym is ∙ y)))
-
-pub count_start : (g : ℕ → Bool) → 0 ≡ count 0 g
-unfolding count
-count_start g = refl
 
 -- ---- edges
 
@@ -103,9 +89,4 @@ pub repeats_done : (text tests rows set : List ℕ) (i n : ℕ) {o o₁ : List �
     → Writes o at (repeat_text text tests rows set n) (15 * n) k o₁
 repeats_done text tests rows set i n p h l = let q : i ≡ n = omega arith in rw q at p
 
-pub count_done : (g : ℕ → Bool) (i n k : ℕ) → k ≡ count i g → i ≤ n → n ≤ i → k ≡ count n g
-count_done g i n k e h l = let q : i ≡ n = omega arith in rw q at e
-
 pub ruleset tests = (name_is, name_short, repeats_on, repeats_skip, repeats_none, repeats_room, repeats_done)
-
-pub ruleset counts = (count_on, count_pass, count_start, count_done)

@@ -19,8 +19,15 @@ use Rattle.rules.specs.SuiteFile.{TestListing, coverage_at, read_tests, test_cou
 use Rattle.rules.specs.Sheet.{Sheet, crossed, d_text, end_text, head_text, m_text, r_text, record_text, selected, sheet_lines, sheet_text, v_text}
 use Rattle.rules.specs.Job.{output_after, refusal, written, wrote}
 use Rattle.rules.proofs.Closure.{dangers_inside, pairs_ascend, pairs_inside}
-use Rattle.answer.specs.declared.Answer.{Answer}
+use Rattle.std.specs.Prelude.{Result, Ok, Err}
+use Rattle.std.specs.Fn.{Shared}
+use Rattle.std.specs.List.{count_by, range_with_len}
+use denote.Ref.{MutBor}
+use Rattle.answer.specs.Refusals.{Answer}
+use Rattle.answer.specs.declared.Fault.TheVariants.{OutputShort}
+use Rattle.answer.specs.declared.Refusal.{Refusal}
 use Rattle.answer.specs.Outcomes.{Told, refusal_told, told_as}
+use Rattle.answer.specs.Refusals.{told}
 use Rattle.text.specs.Puts.{Puts, puts_front, puts_length, puts_measure, puts_then}
 use Rattle.pairset.specs.Store.{new_at, old_at, pairs_in}
 use Rattle.pairset.specs.StoreLaws.{listed_of}
@@ -33,6 +40,8 @@ use Rattle.writer.specs.Laws.{asc_same, d_lines, text_append, text_more, those_m
 use Rattle.writer.specs.Writes.{Writes, writes_length}
 use Rattle.writer.specs.Texts.{edge_text, pair_text, repeat_text, short_name, table_text}
 use Rattle.writer.specs.Claims.{NewBelow, Pairs, PairsPut}
+use Rattle.writer.proofs.Counts.{counted}
+use Rattle.writer.specs.Measured.{Measured, Measures, WritesAt}
 use Rattle.writer.specs.Sheets.{Marked, RecordWrites, RecordWritten, Selection, Selects, SheetPut, SheetPuts, SheetWrites, SheetWritten, TextWritten, record_line, record_of, sheet_of}
 
 -- ---- the tests that were read
@@ -163,13 +172,15 @@ module _ (old new : Program) (l : TestListing) (s : Selection) (h : Selects old 
   table_below = subst (λ (b : ℕ). NewBelow s.table s.pair_count b) (sym h.new_nodes) (below_new old new s.table s.pair_count h.held)
 
 pub sheet_puts : {o o₁ o₂ o₃ o₄ o₅ : List ℕ} {r₁ r₂ r₃ r₄ r₅ : ℕ} (s : Selection) (d r : ℕ) → s.edges ≤ 1024
-    → d ≡ count s.edges (bit_in s.set) → r ≡ count s.tested (row_meets s.rows s.set)
+    → d ≡ count_by (bit_in s.set) (range_with_len 0 s.edges) → r ≡ count_by (row_meets s.rows s.set) (range_with_len 0 s.tested)
     → Writes o 0 (text_of (head_text ∷ [])) 8 r₁ o₁ → PairsPut o₁ r₁ s.table s.olds s.news r₂ o₂
     → Writes o₂ r₂ (edge_text 68 s.set s.edges) (23 * s.edges) r₃ o₃
     → Writes o₃ r₃ (repeat_text s.text s.tests s.rows s.set s.tested) (15 * s.tested) r₄ o₄
     → Writes o₄ r₄ (text_of (end_text s.pair_count d r ∷ [])) 67 r₅ o₅ → SheetPut s o r₅ o₅
 unfolding SheetPuts Pairs
-sheet_puts {o = o} {o₅ = o₅} {r₅ = r₅} s d r most ed er a b c e z =
+sheet_puts {o = o} {o₅ = o₅} {r₅ = r₅} s d r most nd nr a b c e z =
+    let ed : d ≡ count s.edges (bit_in s.set) = counted (bit_in s.set) d s.edges nd in
+    let er : r ≡ count s.tested (row_meets s.rows s.set) = counted (row_meets s.rows s.set) r s.tested nr in
     record {
       puts = λ old new l h. subst (λ (vs : Bytes). Puts o 0 vs r₅ o₅) (parts_are old new l s h most d r ed er)
           (puts_then a.puts (puts_then (b.puts s.pair_count h.held.store (table_below old new l s h most d r ed er)) (puts_then c.puts (puts_then e.puts z.puts))));
@@ -177,11 +188,6 @@ sheet_puts {o = o} {o₅ = o₅} {r₅ = r₅} s d r most ed er a b c e z =
     }
 
 -- ---- measuring, then writing
-
--- What is written into no bytes leaves none: the output after measuring is o₁ before o, and o₁ is no bytes.
-none_left : (o₁ o : List ℕ) → length o₁ ≡ 0 → o₁ ++ o ≡ o
-none_left [] o h = refl
-none_left (x ∷ o₁) o h = absurd (let z : ⊥ = omega arith in z)
 
 -- Where there is room, the bytes are written.
 told_put : (o : List ℕ) {vs o₂ : List ℕ} {k : ℕ} → length vs ≤ length o → Puts o 0 vs k o₂ → Told (written (length o) vs) (record { number = 0; place = k }) o o₂
@@ -198,62 +204,51 @@ told_none o vs h =
     told_as q (refusal_told 16 0 o)
 
 -- `write_text`
-pub text_written : (o : List ℕ) {vs o₂ : List ℕ} {k : ℕ} → length vs ≤ length o → Puts o 0 vs k o₂ → TextWritten vs o (record { number = 0; place = k }) o₂
+pub text_written : (o : List ℕ) {vs o₂ : List ℕ} {k : ℕ} → length vs ≤ length o → Puts o 0 vs k o₂ → TextWritten vs o (told (Ok k)) o₂
 text_written o h w = record { told = told_put o h w; size = puts_length w }
 
-pub text_short : (o vs : List ℕ) → length o < length vs → TextWritten vs o (record { number = 16; place = 0 }) o
+pub text_short : (o vs : List ℕ) → length o < length vs → TextWritten vs o (told (Err (record { fault = OutputShort; place = 0 }))) o
 text_short o vs h = record { told = told_none o vs h; size = refl }
 
-module _ {vs o₁ : List ℕ} {n : ℕ} (o : List ℕ) (p : Puts [] 0 vs n o₁) where
-  told_short : length o < n → Told (written (length o) vs) (record { number = 16; place = 0 }) o o
-  told_short h = told_none o vs (omega (arith, (puts_measure p).0))
+-- A writer whose calls write the bytes vs, measured and then called.
+module _ {F : Type 0} (g : Shared F (MutBor (List ℕ) × Unit {0}) (ℕ × (MutBor (List ℕ) × Unit {0}))) (f : F) where
+  module _ (vs : Bytes) (m : ℕ) (writes : (p q : MutBor (List ℕ)) (r : ℕ) → g.post f (p, tt) (r, (q, tt)) → Writes p.now 0 vs m r q.now) where
+    written_at : {o o' : List ℕ} {r : ℕ} → WritesAt g f o r o' → Writes o 0 vs m r o'
+    written_at {o} {o'} {r} w = subst (λ (s : List ℕ). Writes s 0 vs m r o') w.shows (subst (λ (s : List ℕ). Writes w.shown.now 0 vs m r s) w.leaves (writes w.shown w.left r w.says))
 
-  told_written : {o₂ : List ℕ} {k : ℕ} → n ≤ length o → Puts o 0 vs k o₂ → Told (written (length o) vs) (record { number = 0; place = n }) o o₂
-  told_written {o₂} {k} h w =
-      let m : n ≡ length vs = (puts_measure p).0 in
-      let e : k ≡ n = omega (arith, w.next) in
-      subst (λ (q : ℕ). Told (written (length o) vs) (record { number = 0; place = q }) o o₂) e (told_put o (omega arith) w)
+    -- What it answers of no bytes is how many there are.
+    len_is : (n : ℕ) → Measures g f n → n ≡ length vs
+    len_is n p = (puts_measure (written_at p.measured).puts).0
 
--- Any text, measured and then written.
-module _ {vs o₁ : List ℕ} {m n : ℕ} (o : List ℕ) (p : Writes [] 0 vs m n o₁) where
-  kept : o₁ ++ o ≡ o
-  kept = none_left o₁ o (writes_length p)
+    pub text_measured : (o : List ℕ) (r : Result ℕ Refusal) (o' : List ℕ) → Measured g f o r o' → TextWritten vs o (told r) o'
+    text_measured o (Ok k) o' p = text_written o (omega (arith, len_is p.len p.measures, p.outcome.0)) (written_at p.outcome.1).puts
+    text_measured o (Err e) o' p =
+        rw (p.outcome.1, p.outcome.2) (text_short o vs (omega (arith, len_is p.len p.measures, p.outcome.0)))
 
-  pub measured_short : length (o₁ ++ o) < n → TextWritten vs o (record { number = 16; place = 0 }) (o₁ ++ o)
-  measured_short h =
-      let k : length o < n = rw kept at h in
-      rw kept (record { told = told_short o p.puts k; size = refl })
+  -- The same of a sheet, whose bytes are known only for a selection.
+  module _ (s : Selection) (writes : (p q : MutBor (List ℕ)) (r : ℕ) → g.post f (p, tt) (r, (q, tt)) → SheetPut s p.now r q.now) where
+    sheet_at : {o o' : List ℕ} {r : ℕ} → WritesAt g f o r o' → SheetPut s o r o'
+    sheet_at {o} {o'} {r} w = subst (λ (l : List ℕ). SheetPut s l r o') w.shows (subst (λ (l : List ℕ). SheetPut s w.shown.now r l) w.leaves (writes w.shown w.left r w.says))
 
-  pub measured_written : {o₂ : List ℕ} {r : ℕ} → n ≤ length (o₁ ++ o) → Writes (o₁ ++ o) 0 vs m r o₂ → TextWritten vs o (record { number = 0; place = n }) o₂
-  measured_written {o₂} {r} h q =
-      let k : n ≤ length o = rw kept at h in
-      let w : Writes o 0 vs m r o₂ = rw kept at q in
-      record { told = told_written o p.puts k w.puts; size = writes_length w }
+    sheet_len : (n : ℕ) → Measures g f n → (old new : Program) (l : TestListing) → Selects old new l s → n ≡ length (sheet_of old new l)
+    unfolding SheetPuts
+    sheet_len n p old new l h = (puts_measure ((sheet_at p.measured).puts old new l h)).0
 
--- `write_sheet`
-module _ {s : Selection} {o₁ : List ℕ} {n : ℕ} (o : List ℕ) (p : SheetPut s [] n o₁) where
-  back : o₁ ++ o ≡ o
-  back = none_left o₁ o p.size
-
-  pub sheet_short : length (o₁ ++ o) < n → SheetWritten s o (record { number = 16; place = 0 }) (o₁ ++ o)
-  unfolding SheetPuts SheetWrites
-  sheet_short h =
-      let l : length o < n = rw back at h in
-      rw back (record { writes = λ old new t g. told_short o (p.puts old new t g) l; size = refl })
-
-  pub sheet_written : {o₂ : List ℕ} {k : ℕ} → n ≤ length (o₁ ++ o) → SheetPut s (o₁ ++ o) k o₂ → SheetWritten s o (record { number = 0; place = k }) o₂
-  unfolding SheetPuts SheetWrites
-  sheet_written {o₂} {k} h q =
-      let l : n ≤ length o = rw back at h in
-      let w : SheetPut s o k o₂ = rw back at q in
-      record { writes = λ old new t g. told_put o (omega (arith, (puts_measure (p.puts old new t g)).0)) (w.puts old new t g); size = w.size }
+    pub sheet_measured : (o : List ℕ) (r : Result ℕ Refusal) (o' : List ℕ) → Measured g f o r o' → SheetWritten s o (told r) o'
+    unfolding SheetPuts SheetWrites
+    sheet_measured o (Ok k) o' p =
+        let w : SheetPut s o k o' = sheet_at p.outcome.1 in
+        record { writes = λ old new l h. told_put o (omega (arith, sheet_len p.len p.measures old new l h, p.outcome.0)) (w.puts old new l h); size = w.size }
+    sheet_measured o (Err e) o' p =
+        rw (p.outcome.1, p.outcome.2)
+        (record { writes = λ old new l h. told_none o (sheet_of old new l) (omega (arith, sheet_len p.len p.measures old new l h, p.outcome.0)); size = refl })
 
 -- Not measured: it fits in any case.
-pub sheet_fits : {s : Selection} {o o₂ : List ℕ} {k : ℕ} → 65536 ≤ length o → SheetPut s o k o₂ → SheetWritten s o (record { number = 0; place = k }) o₂
+pub sheet_fits : {s : Selection} {o o₂ : List ℕ} {k : ℕ} → 65536 ≤ length o → SheetPut s o k o₂ → SheetWritten s o (told (Ok k)) o₂
 unfolding SheetPuts SheetWrites
 sheet_fits {o = o} h w = record { writes = λ old new t g. told_put o (omega (arith, g.short)) (w.puts old new t g); size = w.size }
 
-pub ruleset sheets = (sheet_short, sheet_written, sheet_fits)
+pub ruleset sheets = (sheet_fits)
 
 -- ---- record lines
 
@@ -271,28 +266,21 @@ record_is old new l text tests rows i marks edges h =
 pub marks_short : (marks line : Bytes) (edges : ℕ) → line ≡ take edges marks → edges ≤ 1024 → length line ≤ 1024
 marks_short marks line edges e h = rw e (omega (arith, length-take edges marks))
 
-module _ (text : Bytes) (tests rows : List ℕ) (i : ℕ) (marks : Bytes) (edges : ℕ) {name line o₁ : List ℕ} {n : ℕ} (crossed : ℕ) (o : List ℕ)
-    (en : name ≡ short_name text tests i) (ec : crossed ≡ row_ones rows i) (em : line ≡ take edges marks) (p : Writes [] 0 (text_of (v_text name crossed line ∷ [])) 1061 n o₁) where
+module _ (text : Bytes) (tests rows : List ℕ) (i : ℕ) (marks : Bytes) (edges : ℕ) {name line : List ℕ} (crossed : ℕ)
+    (en : name ≡ short_name text tests i) (ec : crossed ≡ row_ones rows i) (em : line ≡ take edges marks) where
   line_is : text_of (v_text name crossed line ∷ []) ≡ record_line text tests rows i marks edges
   unfolding record_line
   line_is = cc
 
   -- The line, as a text that was written, is the record line.
-  record_told : (r : Answer) (o₂ : List ℕ) → TextWritten (text_of (v_text name crossed line ∷ [])) o r o₂ → RecordWritten text tests rows i marks edges o r o₂
+  pub record_told : (o : List ℕ) (r : Answer) (o₂ : List ℕ) → TextWritten (text_of (v_text name crossed line ∷ [])) o r o₂ → RecordWritten text tests rows i marks edges o r o₂
   unfolding RecordWrites
-  record_told r o₂ t =
+  record_told o r o₂ t =
       record {
         writes = λ old new l m. subst (λ (b : Bytes). Told (written (length o) b) r o o₂) (line_is ∙ record_is old new l text tests rows i marks edges m) t.told;
         size = t.size;
       }
 
-  pub record_short : length (o₁ ++ o) < n → RecordWritten text tests rows i marks edges o (record { number = 16; place = 0 }) (o₁ ++ o)
-  record_short h = record_told _ _ (measured_short o p h)
-
-  pub record_written : {o₂ : List ℕ} {r : ℕ} → n ≤ length (o₁ ++ o) → Writes (o₁ ++ o) 0 (text_of (v_text name crossed line ∷ [])) 1061 r o₂
-      → RecordWritten text tests rows i marks edges o (record { number = 0; place = n }) o₂
-  record_written h q = record_told _ _ (measured_written o p h q)
-
-pub ruleset records = (marks_short, record_short, record_written)
+pub ruleset records = (marks_short)
 
 pub ruleset texts = (text_written, text_short)

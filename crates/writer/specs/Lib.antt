@@ -3,4 +3,5 @@ pub mod Laws
 pub mod Writes
 pub mod Texts
 pub mod Claims
+pub mod Measured
 pub mod Sheets

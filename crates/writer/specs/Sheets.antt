@@ -10,7 +10,7 @@ use Rattle.rules.specs.Closing.{dangers, pairs}
 use Rattle.rules.specs.SuiteFile.{TestListing, coverage_at, read_tests, test_count, test_name}
 use Rattle.rules.specs.Sheet.{marks_of, record_text, selected, sheet_text, v_text}
 use Rattle.rules.specs.Job.{Given, writing, written}
-use Rattle.answer.specs.declared.Answer.{Answer}
+use Rattle.answer.specs.Refusals.{Answer}
 use Rattle.answer.specs.Outcomes.{Told}
 use Rattle.text.specs.Puts.{Puts}
 use Rattle.coverage.specs.Rows.{row_ones}

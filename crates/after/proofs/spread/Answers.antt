@@ -1,6 +1,6 @@
-use borrow.Author.Rules.{rules}
-use Rattle.after.proofs.All.{all}
+use mathlib.Core.Path.{refl}
+use Rattle.after.proofs.Search.{spread_done}
 use Rattle.after.proofs.spread.Goals as goal
 
 pub returns : goal.returns
-returns c = search (all, rules)
+returns c = spread_done _ _ _ _ _ _ _ _ _ _ _ _ refl c.find_owners.ensures refl c.note_all.ensures refl c.run.ensures

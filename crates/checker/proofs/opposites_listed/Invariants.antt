@@ -1,8 +1,9 @@
+use Rattle.laws.specs.Places.{place}
 use Rattle.checker.proofs.Laws.{ListedFrom}
 use Rattle.checker.proofs.opposites_listed.Given as goal
 
-abbrev pub invariant-loop-place : goal.invariant-loop-place
-invariant-loop-place l = ListedFrom l.ol l.nl l.w l.e l.last l.place
+abbrev pub invariant-loop-next : goal.invariant-loop-next
+invariant-loop-next l = ListedFrom l.old l.new l.w l.e (place l.fn.last) (place l.next)
 
-abbrev pub decreases-loop-place : goal.decreases-loop-place
-decreases-loop-place l = l.place
+abbrev pub decreases-loop-next : goal.decreases-loop-next
+decreases-loop-next l = place l.next

@@ -1,11 +1,8 @@
-use Prim.Native.Nat.{◌≤◌, ◌-◌, ◌*◌}
+use Prim.Native.Nat.{◌*◌}
 use mathlib.Core.Path.{◌≡◌}
 use Rattle.laws.specs.Tests.{count}
 use Rattle.coverage.specs.Rows.{edge_bit}
 use Rattle.coverage.proofs.ones.Given as goal
 
 abbrev pub invariant-loop-k : goal.invariant-loop-k
-invariant-loop-k l = (l.k ≤ 16) × (l.sum ≡ count (64 * l.k) (edge_bit l.rows l.test))
-
-abbrev pub decreases-loop-k : goal.decreases-loop-k
-decreases-loop-k l = 16 - l.k
+invariant-loop-k l = l.sum ≡ count (64 * l.k) (edge_bit l.rows l.test)

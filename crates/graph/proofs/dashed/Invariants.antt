@@ -1,8 +1,9 @@
+use Rattle.laws.specs.Places.{place}
 use Rattle.graph.proofs.Laws.{DashedBelow}
 use Rattle.graph.proofs.dashed.Given as goal
 
-abbrev pub invariant-loop-place : goal.invariant-loop-place
-invariant-loop-place l = DashedBelow l.links l.n l.place
+abbrev pub invariant-loop-next : goal.invariant-loop-next
+invariant-loop-next l = DashedBelow l.links l.n (place l.next)
 
-abbrev pub decreases-loop-place : goal.decreases-loop-place
-decreases-loop-place l = l.place
+abbrev pub decreases-loop-next : goal.decreases-loop-next
+decreases-loop-next l = place l.next

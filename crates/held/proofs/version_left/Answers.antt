@@ -1,15 +1,6 @@
-use borrow.Author.Rules.{rules}
-use Rattle.held.proofs.Laws.{all}
+use native.Mathlib.Omega.{arith}
+use Rattle.held.proofs.Laws.{version_is}
 use Rattle.held.proofs.version_left.Goals as goal
 
-pub returns-then-room-lt512 : goal.returns-then-room-lt512
-returns-then-room-lt512 c = search (all, rules)
-
-pub returns-then-lent-lt6080 : goal.returns-then-lent-lt6080
-returns-then-lent-lt6080 c = search (all, rules)
-
-pub returns-then-r-ne0 : goal.returns-then-r-ne0
-returns-then-r-ne0 c = search (all, rules)
-
 pub returns : goal.returns
-returns c = search (all, rules)
+returns c = version_is _ _ _ _ _ _ _ _ (omega arith) (omega arith) c.text.ensures c.nodes.ensures c.links-links.ensures c.tables_left.ensures

@@ -1,15 +1,14 @@
-use mathlib.Core.Path.{refl}
-use Rattle.job.proofs.TestsLaws.{old_gone, new_version_gone, both_none, both_job}
+use mathlib.Core.Path.{◌∙◌, sym}
+use Rattle.records.proofs.Laws.{jobs_same}
+use Rattle.job.proofs.TestsLaws.{both_job, both_none}
 use Rattle.job.proofs.both_due.Goals as goal
 
-pub returns-then-number-ne0 : goal.returns-then-number-ne0
-returns-then-number-ne0 c = old_gone _ _ _ _ _ _ _ _ _ _ c.run.ensures _ c.version_left-had.ensures _ refl c.if-number-ne0.true
+pub returns-then-eq : goal.returns-then-eq
+returns-then-eq c =
+    both_none _ _ _ _ _ _ _ _ _ _ c.part.ensures _ (sym c.in_ok-had.ensures.ok_part ∙ c.counts.ensures) _ c.part-2.ensures _ (sym c.in_ok-next.ensures.ok_part ∙ c.counts-2.ensures)
+    _ c.with_old.ensures _ c.with_new.ensures _ (jobs_same _ _ _ c.eq.ensures) c.if-eq.true
 
-pub returns-then-number-ne0-2 : goal.returns-then-number-ne0-2
-returns-then-number-ne0-2 c = new_version_gone _ _ _ _ _ _ _ _ _ _ c.run.ensures _ c.version_left-had.ensures _ refl c.if-number-ne0.false _ c.run-2.ensures _ c.version_left-next.ensures _ refl c.if-number-ne0-2.true
-
-pub returns-then-same_job : goal.returns-then-same_job
-returns-then-same_job c = both_none _ _ _ _ _ _ _ _ _ _ c.run.ensures _ c.version_left-had.ensures _ refl c.if-number-ne0.false _ c.run-2.ensures _ c.version_left-next.ensures _ refl c.if-number-ne0-2.false _ c.with_old.ensures _ c.with_new.ensures _ c.same_job.ensures c.if-same_job.true
-
-pub returns : goal.returns
-returns c = both_job _ _ _ _ _ _ _ _ _ _ c.run.ensures _ c.version_left-had.ensures _ refl c.if-number-ne0.false _ c.run-2.ensures _ c.version_left-next.ensures _ refl c.if-number-ne0-2.false _ c.with_old.ensures _ c.with_new.ensures _ c.same_job.ensures c.if-same_job.false
+pub returns-else-eq : goal.returns-else-eq
+returns-else-eq c =
+    both_job _ _ _ _ _ _ _ _ _ _ c.part.ensures _ (sym c.in_ok-had.ensures.ok_part ∙ c.counts.ensures) _ c.part-2.ensures _ (sym c.in_ok-next.ensures.ok_part ∙ c.counts-2.ensures)
+    _ c.with_old.ensures _ c.with_new.ensures _ (jobs_same _ _ _ c.eq.ensures) c.if-eq.false

@@ -1,20 +1,12 @@
 use borrow.Author.Rules.{rules}
-use Rattle.job.proofs.All.{all}
-use mathlib.Core.Path.{refl}
-use Rattle.job.proofs.NewLaws.{new_gone}
+use Rattle.records.proofs.Laws.{jobs_same}
+use Rattle.job.proofs.NewLaws.{new_job_lem, new_none}
 use Rattle.job.proofs.new_due.Goals as goal
 
-pub returns-then-job-ne1 : goal.returns-then-job-ne1
-returns-then-job-ne1 c = search (all, rules)
+pub returns-in-Some : goal.returns-in-Some
+returns-in-Some c =
+    new_none _ _ _ _ _ _ _ _ c.if-job-ne1.false _ c.long_enough.ensures (search rules) _ c.part.ensures _ c.in-Some.ensures _ c.with_old.ensures _ (jobs_same _ _ _ c.eq.ensures) c.if-eq.true
 
-pub returns-then-number-ne0 : goal.returns-then-number-ne0
-returns-then-number-ne0 c = new_gone _ _ _ _ _ _ _ _ c.if-job-ne1.false _ c.long_enough.ensures c.if-long_enough.true _ c.run.ensures _ c.version_left-had.ensures _ refl c.if-number-ne0.true
-
-pub returns-then-same_job : goal.returns-then-same_job
-returns-then-same_job c = search (all, rules)
-
-pub returns-then-long_enough : goal.returns-then-long_enough
-returns-then-long_enough c = search (all, rules)
-
-pub returns : goal.returns
-returns c = search (all, rules)
+pub returns-in_default : goal.returns-in_default
+returns-in_default c =
+    new_job_lem _ _ _ _ _ _ _ _ c.if-job-ne1.false _ c.long_enough.ensures (search rules) _ c.part.ensures _ c.in-Some.ensures _ c.with_old.ensures _ (jobs_same _ _ _ c.eq.ensures) c.if-eq.false

@@ -1,18 +1,14 @@
-use borrow.Author.Rules.{rules}
-use Rattle.job.proofs.All.{all}
-use mathlib.Core.Path.{refl, sym, subst}
-use Prim.Native.Nat.{ℕ, ◌≤◌}
-use Rattle.job.proofs.NewLaws.{new_room, new_done}
+use Rattle.std.proofs.lemmas.Result.{err_from_is_err_and}
+use Rattle.job.proofs.NewLaws.{new_due_taken, new_refused, new_done}
 use Rattle.job.proofs.take_new.Goals as goal
 
-pub returns-then-due-ne0 : goal.returns-then-due-ne0
-returns-then-due-ne0 c = search (all, rules)
+pub returns-in-Err : goal.returns-in-Err
+returns-in-Err c = new_due_taken _ _ _ _ _ _ c.in-Err.fault _ c.in-Err.ensures
 
-pub read_into-had-requires : goal.read_into-had-requires
-read_into-had-requires c = search (all, rules)
-
-pub returns-then-number-ne0 : goal.returns-then-number-ne0
-returns-then-number-ne0 c = search (all, rules)
+pub returns-in_err-had : goal.returns-in_err-had
+returns-in_err-had c =
+    let p = err_from_is_err_and c.from_residual.result c.from_residual.ensures.1 in
+    rw (p.1, p.2) (new_refused _ _ _ _ _ _ c.in_default.ensures _ _ c.in_err-had.ensures)
 
 pub returns : goal.returns
-returns c = new_done _ _ _ _ _ _ _ c.new_due-due.ensures c.if-due-ne0.false _ _ c.read_into-had.ensures _ _ _ refl c.if-number-ne0.false (subst (λ (k : ℕ). 8128 ≤ k) (sym c.read_into-had.auto.work) (new_room _ _ _ _ _ _ c.new_due-due.ensures c.if-due-ne0.false)) c.copy_links.ensures c.with_new.ensures
+returns c = new_done _ _ _ _ _ _ c.in_default.ensures _ _ _ _ c.in_ok-had.ensures c.read_into.auto.work c.copy_links.ensures c.with_new.ensures

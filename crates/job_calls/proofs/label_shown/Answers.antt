@@ -6,5 +6,5 @@ returns c =
     shown_is
     c.args.job.now c.args.ot.now c.args.on.now c.args.ol.now c.args.nt.now c.args.nn.now c.args.nl.now c.args.tt.now c.args.tests.now c.args.rows.now
     c.args.scratch.now c.load_both.new.out c.load_both.ensures
-    c.args.side c.args.node c.label_on-found.result c.shown_part.result.now c.label_on-found.new.w
-    c.label_on-found.ensures.0 c.label_on-found.ensures.1 c.shown_part.ensures
+    c.args.side c.args.node c.unwrap_or-label.result c.shown_part.result.now c.label_on.new.w
+    (rw c.unwrap_or-label.ensures c.label_on.ensures.0) c.label_on.ensures.1 c.shown_part.ensures

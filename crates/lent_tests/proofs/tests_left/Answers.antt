@@ -1,15 +1,17 @@
 use borrow.Author.Rules.{rules}
-use Rattle.lent_tests.proofs.Laws.{all, left_done, left_names, left_rows}
+use mathlib.Core.Path.{◌∙◌, sym}
+use Rattle.lent_tests.proofs.Laws.{both_no, both_yes, left_refused, left_told}
 use Rattle.lent_tests.proofs.tests_left.Goals as goal
+use Rattle.lent_tests.proofs.tests_left.Goals.{then-same_tests, else-same_tests}
 
-pub returns-then-number-ne0 : goal.returns-then-number-ne0
-returns-then-number-ne0 c = search (all, rules)
-
-pub returns-then-same_rows : goal.returns-then-same_rows
-returns-then-same_rows c = left_done _ _ _ _ _ _ _ c.read_tests-r.ensures (search rules) (search rules) c.if-number-ne0.false _ c.same_tests.ensures c.if-same_tests.true _ c.same_rows.ensures c.if-same_rows.true
-
-pub returns-then-same_tests : goal.returns-then-same_tests
-returns-then-same_tests c = left_rows _ _ _ _ _ _ _ c.read_tests-r.ensures (search rules) (search rules) c.if-number-ne0.false _ c.same_tests.ensures c.if-same_tests.true _ c.same_rows.ensures c.if-same_rows.false _ c.refused-then-same_tests.ensures
+pub returns-in_err-count : goal.returns-in_err-count
+returns-in_err-count c = rw c.from_residual.ensures (left_refused _ _ _ _ _ _ _ c.read_tests.ensures c.in_err-count.ensures.value)
 
 pub returns : goal.returns
-returns c = left_names _ _ _ _ _ _ _ c.read_tests-r.ensures (search rules) (search rules) c.if-number-ne0.false _ c.same_tests.ensures c.if-same_tests.false _ c.refused-2.ensures
+returns c =
+    left_told _ _ _ _ _ _ _ c.read_tests.ensures _ c.in_ok-count.ensures.value (search rules) (search rules) _
+    (elim c.if-same_tests.branch [
+      | then-same_tests w ↦ both_yes _ _ _ (sym c.same_tests.ensures ∙ w.if-same_tests.true) (w.same-is ∙ w.same_rows-same.ensures)
+      | else-same_tests w ↦ both_no _ _ _ (sym c.same_tests.ensures ∙ w.if-same_tests.false) (w.same-is ∙ w.if-same_tests.false)
+    ])
+    _ c.then_some.ensures

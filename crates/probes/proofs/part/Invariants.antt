@@ -1,10 +1,9 @@
-use mathlib.Core.Path.{◌≡◌}
-use lib.ListN.{length}
+use Rattle.laws.specs.Places.{place}
 use Rattle.probes.proofs.Starts.{PartsTo}
 use Rattle.probes.proofs.part.Given as goal
 
 abbrev pub invariant-loop-place : goal.invariant-loop-place
-invariant-loop-place l = (length l.set ≡ length l.initial.set) × PartsTo l.on l.ol l.nn l.nl l.w l.e l.n l.initial.set l.set l.place
+invariant-loop-place l = PartsTo l.old.nodes l.old.links l.new.nodes l.new.links l.w l.e l.n l.initial.set l.set (place l.place)
 
 abbrev pub decreases-loop-place : goal.decreases-loop-place
-decreases-loop-place l = l.place
+decreases-loop-place l = place l.place

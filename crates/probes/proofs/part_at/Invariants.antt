@@ -1,10 +1,9 @@
-use mathlib.Core.Path.{◌≡◌}
-use lib.ListN.{length}
+use Rattle.laws.specs.Places.{place}
 use Rattle.probes.proofs.Starts.{PartsFrom}
 use Rattle.probes.proofs.part_at.Given as goal
 
-abbrev pub invariant-loop-f : goal.invariant-loop-f
-invariant-loop-f l = (length l.set ≡ length l.initial.set) × PartsFrom l.on l.ol l.nn l.nl l.w l.e l.n l.m l.initial.set l.set l.f
+abbrev pub invariant-loop-place : goal.invariant-loop-place
+invariant-loop-place l = PartsFrom l.old.nodes l.old.links l.new.nodes l.new.links l.w l.e l.n l.m l.initial.set l.set (place l.place)
 
-abbrev pub decreases-loop-f : goal.decreases-loop-f
-decreases-loop-f l = l.f
+abbrev pub decreases-loop-place : goal.decreases-loop-place
+decreases-loop-place l = place l.place

@@ -1,21 +1,7 @@
-use borrow.Author.Rules.{rules}
-use Rattle.reader.proofs.All.{all}
+use Rattle.reader.proofs.Forms.{edge_added}
 use Rattle.reader.proofs.edge_line.Goals as goal
 
-pub returns-then-rest-from : goal.returns-then-rest-from
-returns-then-rest-from c = search (all, rules)
-
-pub returns-then-more-word : goal.returns-then-more-word
-returns-then-more-word c = search (all, rules)
-
-pub returns-then-source-gt65536 : goal.returns-then-source-gt65536
-returns-then-source-gt65536 c = search (all, rules)
-
-pub returns-then-target-gt65536 : goal.returns-then-target-gt65536
-returns-then-target-gt65536 c = search (all, rules)
-
-pub returns-then-is_word : goal.returns-then-is_word
-returns-then-is_word c = search (all, rules)
-
 pub returns : goal.returns
-returns c = search (all, rules)
+returns c =
+    edge_added _ _ _ _ _ _ _ _ c.first_short-from.ensures _ _ c.if-rest-from.false c.after-more.ensures c.first_short-word.ensures _ c.if-more-word.false c.after-to.ensures _ c.in-Some.ensures _ c.in-Some-number.ensures
+    _ c.is_word.ensures c.if-not-is_word.false c.add_edge.ensures

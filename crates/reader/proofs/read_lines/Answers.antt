@@ -1,58 +1,22 @@
 use borrow.Author.Rules.{rules}
+use native.Mathlib.Omega.{arith}
+use Rattle.std.proofs.lemmas.Result.{err_from_is_err_and}
+use Rattle.answer.specs.Refusals.{fault_some}
 use Rattle.reader.proofs.All.{all}
-use Rattle.reader.proofs.Turns.{line_room}
+use Rattle.reader.proofs.Turns.{head_on, lines_stop}
 use Rattle.reader.proofs.read_lines.Goals as goal
-
-pub counted-had-requires : goal.counted-had-requires
-counted-had-requires c = search (all, rules)
-
-pub loop-at-init : goal.loop-at-init
-loop-at-init c = search (all, rules)
-
-pub after-rest-requires : goal.after-rest-requires
-after-rest-requires c = search (all, rules)
-
-pub find-len-requires : goal.find-len-requires
-find-len-requires c = search (all, rules)
-
-pub refused-requires : goal.refused-requires
-refused-requires c = search (all, rules)
-
-pub shape_of-work-then-rest-len : goal.shape_of-work-then-rest-len
-shape_of-work-then-rest-len c = search (all, rules)
 
 pub returns-then-rest-len : goal.returns-then-rest-len
 returns-then-rest-len c = search (all, rules)
 
-pub front-requires : goal.front-requires
-front-requires c = search (all, rules)
-
-pub step-had-requires : goal.step-had-requires
-step-had-requires c = record { small = search rules; at_bound = (search rules, search rules, search line_room, search rules) }
-
-pub shape_of-work-then-number-ne0 : goal.shape_of-work-then-number-ne0
-shape_of-work-then-number-ne0 c = search (all, rules)
-
-pub returns-then-number-ne0 : goal.returns-then-number-ne0
-returns-then-number-ne0 c = search (all, rules)
-
-pub overflow_add-at : goal.overflow_add-at
-overflow_add-at c = search (all, rules)
-
-pub overflow_add-at-in-loop-at : goal.overflow_add-at-in-loop-at
-overflow_add-at-in-loop-at c = search (all, rules)
-
-pub overflow_add-line : goal.overflow_add-line
-overflow_add-line c = search (all, rules)
-
-pub loop-at-smaller : goal.loop-at-smaller
-loop-at-smaller c = search (all, rules)
+pub returns-in_err-had : goal.returns-in_err-had
+returns-in_err-had c =
+    let p = err_from_is_err_and c.from_residual.result c.from_residual.ensures.1 in
+    rw (p.1, p.2) (let h = c.in_err-had.ensures in lines_stop _ _ _ _ _ _ c.loop-at.invariant _ c.after-rest.ensures _ c.find-len.ensures (search rules) _ c.front.ensures _ _ h.stepped (λ z. let x = fault_some c.in_err-had.field-0.0.fault in let y : ⊥ = omega arith in y) h.small)
 
 pub loop-at-preserved : goal.loop-at-preserved
-loop-at-preserved c = search (all, rules)
-
-pub shape_of-work : goal.shape_of-work
-shape_of-work c = search (all, rules)
+loop-at-preserved c =
+    let h = c.in_ok-had.ensures in head_on _ _ _ _ _ _ c.loop-at.invariant _ c.after-rest.ensures _ c.find-len.ensures (search rules) _ c.front.ensures _ _ h.stepped (search rules) h.small (search rules)
 
 pub returns : goal.returns
 returns c = search (all, rules)

@@ -2,4 +2,4 @@ use Rattle.rivetyellow.proofs.Laws.{program_packs}
 use Rattle.rivetyellow.proofs.ry_program.Goals as goal
 
 pub returns : goal.returns
-returns c = let both = program_packs _ _ _ _ _ _ _ _ _ c.whole_job-a.ensures c.pack.ensures in record { value = both.0; out_after = both.1 }
+returns c = let both = program_packs _ _ _ _ _ _ _ _ _ c.whole_job.ensures c.pack_answer.ensures in record { value = both.0; out_after = both.1 }

@@ -1,6 +1,5 @@
-use borrow.Author.Rules.{rules}
-use Rattle.rivetyellow.proofs.Laws.{all}
+use Rattle.rivetyellow.proofs.Laws.{old_packs}
 use Rattle.rivetyellow.proofs.ry_read_old.Goals as goal
 
 pub returns : goal.returns
-returns c = search (all, rules)
+returns c = old_packs _ _ _ _ _ c.read_into.ensures c.read_answer.ensures c.pack_answer.ensures

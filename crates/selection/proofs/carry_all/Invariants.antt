@@ -1,11 +1,5 @@
-use mathlib.Core.Path.{◌≡◌}
-use Prim.Native.Nat.{◌≤◌, ◌-◌}
-use lib.ListN.{length}
 use Rattle.selection.specs.Marks.{AllCarried}
 use Rattle.selection.proofs.carry_all.Given as goal
 
 abbrev pub invariant-loop-e : goal.invariant-loop-e
-invariant-loop-e l = (l.e ≤ l.edges) × (length l.marks ≡ length l.initial.marks) × AllCarried l.on l.ol l.nn l.nl l.w l.rows l.test l.edges l.e l.initial.marks l.marks
-
-abbrev pub decreases-loop-e : goal.decreases-loop-e
-decreases-loop-e l = l.edges - l.e
+invariant-loop-e l = AllCarried l.old.nodes l.old.links l.new.nodes l.new.links l.w l.rows l.test l.edges l.e l.initial.marks l.marks

@@ -1,10 +1,9 @@
-use mathlib.Core.Path.{◌≡◌}
-use lib.ListN.{length}
+use Rattle.laws.specs.Places.{place}
 use Rattle.selection.proofs.Marks.{RaisedFrom}
 use Rattle.selection.proofs.raise_at.Given as goal
 
-abbrev pub invariant-loop-f : goal.invariant-loop-f
-invariant-loop-f l = (length l.marks ≡ length l.initial.marks) × RaisedFrom l.on l.ol l.nn l.nl l.w l.e l.n l.m l.most l.initial.marks l.marks l.f
+abbrev pub invariant-loop-place : goal.invariant-loop-place
+invariant-loop-place l = RaisedFrom l.old.nodes l.old.links l.new.nodes l.new.links l.w l.e l.n l.m l.most l.initial.marks l.marks (place l.place)
 
-abbrev pub decreases-loop-f : goal.decreases-loop-f
-decreases-loop-f l = l.f
+abbrev pub decreases-loop-place : goal.decreases-loop-place
+decreases-loop-place l = place l.place

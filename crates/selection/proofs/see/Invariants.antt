@@ -1,8 +1,9 @@
+use Rattle.laws.specs.Places.{place}
 use Rattle.selection.proofs.Counterparts.{SeesFrom}
 use Rattle.selection.proofs.see.Given as goal
 
-abbrev pub invariant-loop-f : goal.invariant-loop-f
-invariant-loop-f l = SeesFrom l.on l.ol l.nn l.nl l.w l.e l.n l.m l.before l.seen l.f
+abbrev pub invariant-loop-place : goal.invariant-loop-place
+invariant-loop-place l = SeesFrom l.old.nodes l.old.links l.new.nodes l.new.links l.w l.e l.n l.m l.fn.before l.seen (place l.place)
 
-abbrev pub decreases-loop-f : goal.decreases-loop-f
-decreases-loop-f l = l.f
+abbrev pub decreases-loop-place : goal.decreases-loop-place
+decreases-loop-place l = place l.place

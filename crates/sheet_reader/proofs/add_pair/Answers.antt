@@ -1,18 +1,7 @@
 use borrow.Author.Rules.{rules}
-use Rattle.sheet_reader.proofs.All.{all}
+use Rattle.std.proofs.Common.{arith}
+use Rattle.sheet_reader.proofs.Steps.{pair_added}
 use Rattle.sheet_reader.proofs.add_pair.Goals as goal
 
-pub returns-then-i-gt65536 : goal.returns-then-i-gt65536
-returns-then-i-gt65536 c = search (all, rules)
-
-pub returns-then-j-gt65536 : goal.returns-then-j-gt65536
-returns-then-j-gt65536 c = search (all, rules)
-
-pub returns-then-bounds-pairs : goal.returns-then-bounds-pairs
-returns-then-bounds-pairs c = search (all, rules)
-
-pub returns-then-pair_fits : goal.returns-then-pair_fits
-returns-then-pair_fits c = search (all, rules)
-
 pub returns : goal.returns
-returns c = search (all, rules)
+returns c = pair_added _ _ _ _ _ _ c.in_ok-i.ensures.0 c.in_ok-j.ensures.0 _ c.in_ok-i.ensures.1 _ c.in_ok-j.ensures.1 _ c.pair_fits.ensures (search rules) _ c.append.ensures c.requires.small c.requires.bounded (omega arith) c.requires.limit_in_bounds

@@ -1,15 +1,13 @@
-use borrow.Author.Rules.{rules}
-use Rattle.sheet_reader.proofs.All.{all}
+use Rattle.std.proofs.Common.{arith}
+use Rattle.std.proofs.lemmas.Grind.{common_steps}
+use Rattle.laws.specs.Tests.{◌and◌}
+use Rattle.sheet_reader.specs.Reading.{edge_fits}
 use Rattle.sheet_reader.proofs.edge_fits.Goals as goal
 
-pub returns-then-tests-gt0 : goal.returns-then-tests-gt0
-returns-then-tests-gt0 c = search (all, rules)
+pub returns-then-e-edges : goal.returns-then-e-edges
+unfolding edge_fits ◌and◌
+returns-then-e-edges c = grind (arith, common_steps)
 
-pub returns-then-edges-e : goal.returns-then-edges-e
-returns-then-edges-e c = search (all, rules)
-
-pub returns-then-underway : goal.returns-then-underway
-returns-then-underway c = search (all, rules)
-
-pub returns : goal.returns
-returns c = search (all, rules)
+pub returns-else-e-edges : goal.returns-else-e-edges
+unfolding edge_fits ◌and◌
+returns-else-e-edges c = grind (arith, common_steps)

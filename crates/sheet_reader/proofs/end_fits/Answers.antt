@@ -1,15 +1,13 @@
-use borrow.Author.Rules.{rules}
-use Rattle.sheet_reader.proofs.All.{all}
+use Rattle.std.proofs.Common.{arith}
+use Rattle.std.proofs.lemmas.Grind.{common_steps}
+use Rattle.laws.specs.Tests.{◌and◌}
+use Rattle.sheet_reader.specs.Reading.{end_fits}
 use Rattle.sheet_reader.proofs.end_fits.Goals as goal
 
-pub returns-then-a-pairs : goal.returns-then-a-pairs
-returns-then-a-pairs c = search (all, rules)
+pub returns-then-b-had : goal.returns-then-b-had
+unfolding end_fits ◌and◌
+returns-then-b-had c = grind (arith, common_steps)
 
-pub returns-then-b-edges : goal.returns-then-b-edges
-returns-then-b-edges c = search (all, rules)
-
-pub returns-then-underway : goal.returns-then-underway
-returns-then-underway c = search (all, rules)
-
-pub returns : goal.returns
-returns c = search (all, rules)
+pub returns-else-b-had : goal.returns-else-b-had
+unfolding end_fits ◌and◌
+returns-else-b-had c = grind (arith, common_steps)

@@ -1,21 +1,13 @@
-use borrow.Author.Rules.{rules}
-use Rattle.sheet_reader.proofs.All.{all}
+use Rattle.std.proofs.Common.{arith}
+use Rattle.std.proofs.lemmas.Grind.{common_steps}
+use Rattle.laws.specs.Tests.{◌and◌}
+use Rattle.sheet_reader.specs.Reading.{pair_fits}
 use Rattle.sheet_reader.proofs.pair_fits.Goals as goal
 
-pub returns-then-edges-gt0 : goal.returns-then-edges-gt0
-returns-then-edges-gt0 c = search (all, rules)
+pub returns-then-b-bounds : goal.returns-then-b-bounds
+unfolding pair_fits ◌and◌
+returns-then-b-bounds c = grind (arith, common_steps)
 
-pub returns-then-tests-gt0 : goal.returns-then-tests-gt0
-returns-then-tests-gt0 c = search (all, rules)
-
-pub returns-then-olds-a : goal.returns-then-olds-a
-returns-then-olds-a c = search (all, rules)
-
-pub returns-then-news-b : goal.returns-then-news-b
-returns-then-news-b c = search (all, rules)
-
-pub returns-then-underway : goal.returns-then-underway
-returns-then-underway c = search (all, rules)
-
-pub returns : goal.returns
-returns c = search (all, rules)
+pub returns-else-b-bounds : goal.returns-else-b-bounds
+unfolding pair_fits ◌and◌
+returns-else-b-bounds c = grind (arith, common_steps)

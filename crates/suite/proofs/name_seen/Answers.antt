@@ -1,27 +1,12 @@
-use borrow.Author.Rules.{rules}
-use Rattle.suite.proofs.All.{all}
+use Rattle.std.proofs.Common.{ℕ, refl, arith, rules, tests}
+use Rattle.std.proofs.lemmas.Iterator.{YieldsList-from_range}
+use Rattle.std.proofs.lemmas.Iterator.Search.{any_from_yields_List}
+use Rattle.rules.specs.Text.{same}
+use Rattle.suite.specs.Reading.{name_at}
+use Rattle.suite.proofs.Forms.{names_any}
 use Rattle.suite.proofs.name_seen.Goals as goal
 
-pub loop-i-init : goal.loop-i-init
-loop-i-init c = search (all, rules)
-
-pub name_at-requires : goal.name_at-requires
-name_at-requires c = search (all, rules)
-
-pub same-requires : goal.same-requires
-same-requires c = search (all, rules)
-
-pub returns-then-same : goal.returns-then-same
-returns-then-same c = search (all, rules)
-
-pub overflow_add-i : goal.overflow_add-i
-overflow_add-i c = search (all, rules)
-
-pub loop-i-smaller : goal.loop-i-smaller
-loop-i-smaller c = search (all, rules)
-
-pub loop-i-preserved : goal.loop-i-preserved
-loop-i-preserved c = search (all, rules)
-
 pub returns : goal.returns
-returns c = search (all, rules)
+returns c =
+    names_any c.args.text.now c.args.tests.now c.args.count c.args.name.now _
+    (any_from_yields_List (λ (i : ℕ). same (name_at c.args.text.now c.args.tests.now i) c.args.name.now) _ _ _ c.any.ensures.ran (YieldsList-from_range 0 c.args.count c.args.count refl (omega arith)) (λ x b q k. search (rules, tests)))

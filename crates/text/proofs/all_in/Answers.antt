@@ -1,45 +1,16 @@
-use borrow.Author.Rules.{rules}
-use Rattle.text.proofs.Laws.{all}
+use Rattle.std.proofs.Common.{◌<◌, ◌≤◌, length, arith, rules}
+use Rattle.text.proofs.Laws.{left_last, left_not, left_short}
 use Rattle.text.proofs.all_in.Goals as goal
 
-pub all_from-requires : goal.all_from-requires
-all_from-requires c = search (all, rules)
+pub returns-then-not-block_in : goal.returns-then-not-block_in
+returns-then-not-block_in c =
+    left_not _ _ _ c.loop-block.invariant _ _ _ c.in-Some.ensures.cases.0 c.in-Some.ensures.cases.1 c.block_in.ensures c.if-not-block_in.true
 
-pub returns-then-s-lt16 : goal.returns-then-s-lt16
-returns-then-s-lt16 c = search (all, rules)
+pub returns-in-Some-split_last_chunk : goal.returns-in-Some-split_last_chunk
+returns-in-Some-split_last_chunk c =
+    let short : length c.loop-block.rest.now < 16 = search rules in
+    let long : 16 ≤ length c.args.s.now = omega (arith, c.in-Some-split_last_chunk.ensures.cases.2) in
+    left_last _ _ _ c.loop-block.invariant _ _ short long c.in-Some-split_last_chunk.ensures.cases.1 c.block_in-in-Some-split_last_chunk.ensures
 
-pub loop-i-init : goal.loop-i-init
-loop-i-init c = search (all, rules)
-
-pub overflow_sub-s : goal.overflow_sub-s
-overflow_sub-s c = search (all, rules)
-
-pub part-requires : goal.part-requires
-part-requires c = search (all, rules)
-
-pub block_in-requires : goal.block_in-requires
-block_in-requires c = search (all, rules)
-
-pub overflow_add-i : goal.overflow_add-i
-overflow_add-i c = search (all, rules)
-
-pub loop-i-smaller : goal.loop-i-smaller
-loop-i-smaller c = search (all, rules)
-
-pub loop-i-preserved : goal.loop-i-preserved
-loop-i-preserved c = search (all, rules)
-
-pub returns-else-block_in : goal.returns-else-block_in
-returns-else-block_in c = search (all, rules)
-
-pub overflow_sub-s-2 : goal.overflow_sub-s-2
-overflow_sub-s-2 c = search (all, rules)
-
-pub part-requires-2 : goal.part-requires-2
-part-requires-2 c = search (all, rules)
-
-pub block_in-requires-2 : goal.block_in-requires-2
-block_in-requires-2 c = search (all, rules)
-
-pub returns : goal.returns
-returns c = search (all, rules)
+pub returns-in-None : goal.returns-in-None
+returns-in-None c = left_short _ _ _ c.loop-block.invariant _ c.all_short.ensures

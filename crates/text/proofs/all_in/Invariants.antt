@@ -1,12 +1,10 @@
-use Prim.Native.Nat.{◌≤◌, ◌-◌}
-use mathlib.Core.Path.{◌≡◌}
-use lib.ListN.{length, drop}
-use Rattle.rules.specs.Text.{all_bytes}
+use Rattle.std.proofs.Common.{length}
 use Rattle.text.specs.Scans.{class_byte}
+use Rattle.text.proofs.Laws.{Left}
 use Rattle.text.proofs.all_in.Given as goal
 
-abbrev pub invariant-loop-i : goal.invariant-loop-i
-invariant-loop-i l = (l.i ≤ length l.s) × (16 ≤ length l.s) × (all_bytes (class_byte l.k) l.s ≡ all_bytes (class_byte l.k) (drop l.i l.s))
+abbrev pub invariant-loop-block : goal.invariant-loop-block
+invariant-loop-block l = Left (class_byte l.class) l.s l.rest
 
-abbrev pub decreases-loop-i : goal.decreases-loop-i
-decreases-loop-i l = length l.s - l.i
+abbrev pub decreases-loop-block : goal.decreases-loop-block
+decreases-loop-block l = length l.rest

@@ -1,11 +1,9 @@
-use Prim.Native.Nat.{◌+◌, ◌≤◌, ◌-◌}
-use mathlib.Core.Path.{◌≡◌}
-use lib.ListN.{length, drop}
+use Rattle.std.proofs.Common.{◌≡◌, ◌+◌, ◌-◌, ◌≤◌, length}
 use Rattle.text.specs.Scans.{span}
 use Rattle.text.proofs.find.Given as goal
 
-abbrev pub invariant-loop-i : goal.invariant-loop-i
-invariant-loop-i l = (l.i ≤ length l.s) × (span l.b l.s ≡ l.i + span l.b (drop l.i l.s))
+abbrev pub invariant-loop-block : goal.invariant-loop-block
+invariant-loop-block l = (length l.rest ≤ length l.s) × (span l.b l.s ≡ length l.s - length l.rest + span l.b l.rest)
 
-abbrev pub decreases-loop-i : goal.decreases-loop-i
-decreases-loop-i l = length l.s - l.i
+abbrev pub decreases-loop-block : goal.decreases-loop-block
+decreases-loop-block l = length l.rest

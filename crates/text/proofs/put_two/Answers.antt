@@ -1,12 +1,12 @@
 use borrow.Author.Rules.{rules}
-use Rattle.text.proofs.Laws.{all}
+use Rattle.text.proofs.Laws.{writes}
 use Rattle.text.proofs.put_two.Goals as goal
 
 pub put_one-next-requires : goal.put_one-next-requires
-put_one-next-requires c = search (all, rules)
+put_one-next-requires c = search (writes, rules)
 
 pub put_byte-requires : goal.put_byte-requires
-put_byte-requires c = search (all, rules)
+put_byte-requires c = search (writes, rules)
 
 pub returns : goal.returns
-returns c = search (all, rules)
+returns c = search (writes, rules)

@@ -1,8 +1,5 @@
 use Rattle.versions.proofs.Walks.{SameLeft}
 use Rattle.versions.proofs.same_callees.Given as goal
 
-abbrev pub invariant-loop-a : goal.invariant-loop-a
-invariant-loop-a l = SameLeft l.ot l.ol l.nt l.nl l.k l.l l.a l.b
-
-abbrev pub decreases-loop-a : goal.decreases-loop-a
-decreases-loop-a l = l.a
+abbrev pub invariant-loop-q : goal.invariant-loop-q
+invariant-loop-q l = SameLeft l.old.text l.old.links l.new.text l.new.links l.k l.l l.q-iterator.digits l.others.digits

@@ -1,9 +1,19 @@
-use borrow.Author.Rules.{rules}
-use Rattle.writeback.proofs.All.{all}
+use Rattle.std.proofs.Common.{arith, rules, ◌+◌}
+use Rattle.reader.specs.Result.{counts_of}
+use Rattle.writeback.specs.Back.{node_text}
+use Rattle.writeback.specs.Runs.{PutsLines}
+use Rattle.writeback.proofs.BackLaws.{begins_few}
+use Rattle.writeback.proofs.Lines.{its_nodes}
 use Rattle.writeback.proofs.put_its_nodes.Goals as goal
 
-pub put_nodes-requires : goal.put_nodes-requires
-put_nodes-requires c = search (all, rules)
+pub put_run-requires : goal.put_run-requires
+unfolding PutsLines
+put_run-requires c = (
+  omega (arith, c.requires.0),
+  omega (arith, c.begin-to.ensures, begins_few c.args.version.now.links 3 c.args.had.procs c.args.had.nodes (c.args.q + 1), c.requires.1.few_nodes),
+  record { may = λ p k i h. search rules; line = node_text c.args.version.now.text c.args.version.now.nodes c.args.version.now.links; puts = λ p q k i r h. search rules },
+)
 
 pub returns : goal.returns
-returns c = search (all, rules)
+unfolding PutsLines
+returns c = its_nodes _ _ _ _ (counts_of c.args.had) c.args.q _ _ _ _ _ _ c.put_run.ensures c.requires.1 c.args.version.now.nodes (λ p q k i r h. search rules) c.begin-from.ensures c.begin-to.ensures

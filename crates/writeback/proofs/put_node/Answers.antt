@@ -2,11 +2,5 @@ use borrow.Author.Rules.{rules}
 use Rattle.writeback.proofs.All.{all}
 use Rattle.writeback.proofs.put_node.Goals as goal
 
-pub put_part-b-requires : goal.put_part-b-requires
-put_part-b-requires c = search (all, rules)
-
-pub put_part-c-requires : goal.put_part-c-requires
-put_part-c-requires c = search (all, rules)
-
 pub returns : goal.returns
 returns c = search (all, rules)

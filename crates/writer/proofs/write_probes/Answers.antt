@@ -1,8 +1,6 @@
-use Rattle.writer.proofs.Sheets.{measured_short, measured_written}
+use Rattle.std.proofs.Common.{rules, ◌*◌}
+use Rattle.writer.proofs.Sheets.{text_measured}
 use Rattle.writer.proofs.write_probes.Goals as goal
 
-pub returns-then-out-len : goal.returns-then-out-len
-returns-then-out-len c = measured_short _ c.put_edges-len.ensures c.if-out-len.true
-
 pub returns : goal.returns
-returns c = measured_written _ c.put_edges-len.ensures c.if-out-len.false c.put_edges.ensures
+returns c = text_measured _ _ _ (23 * c.args.edges) (λ p q r k. search rules) _ _ _ c.measured.ensures

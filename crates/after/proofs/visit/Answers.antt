@@ -1,6 +1,0 @@
-use borrow.Author.Rules.{rules}
-use Rattle.after.proofs.All.{all}
-use Rattle.after.proofs.visit.Goals as goal
-
-pub returns : goal.returns
-returns c = search (all, rules)

@@ -1,9 +1,0 @@
-use Rattle.closure.specs.Claims.{Sized}
-use Rattle.closure.proofs.Turns.{Entering}
-use Rattle.closure.proofs.enter_callees.Given as goal
-
-abbrev pub invariant-loop-a : goal.invariant-loop-a
-invariant-loop-a l = Sized l.initial.w l.w (Entering l.ol l.nl l.limit l.initial.w l.initial.count l.k l.l l.w l.count l.a l.b)
-
-abbrev pub decreases-loop-a : goal.decreases-loop-a
-decreases-loop-a l = l.a

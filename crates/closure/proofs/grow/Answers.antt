@@ -1,9 +1,0 @@
-use borrow.Author.Rules.{rules}
-use Rattle.closure.proofs.All.{all}
-use Rattle.closure.proofs.grow.Goals as goal
-
-pub returns-then-limit-count : goal.returns-then-limit-count
-returns-then-limit-count c = search (all, rules)
-
-pub returns : goal.returns
-returns c = search (all, rules)

@@ -1,6 +1,0 @@
-use borrow.Author.Rules.{rules}
-use Rattle.coverage.proofs.Laws.{all}
-use Rattle.coverage.proofs.word_at.Goals as goal
-
-pub returns : goal.returns
-returns c = search (all, rules)

@@ -1,6 +1,0 @@
-use borrow.Author.Rules.{rules}
-use Rattle.job.proofs.All.{all}
-use Rattle.job.proofs.with_tests.Goals as goal
-
-pub returns : goal.returns
-returns c = search (all, rules)

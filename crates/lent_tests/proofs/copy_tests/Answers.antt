@@ -1,6 +1,0 @@
-use borrow.Author.Rules.{rules}
-use Rattle.lent_tests.proofs.Laws.{all}
-use Rattle.lent_tests.proofs.copy_tests.Goals as goal
-
-pub returns : goal.returns
-returns c = search (all, rules)

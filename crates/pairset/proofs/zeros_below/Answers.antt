@@ -1,6 +1,0 @@
-use borrow.Author.Rules.{rules}
-use Rattle.pairset.proofs.Laws.{all}
-use Rattle.pairset.proofs.zeros_below.Goals as goal
-
-pub overflow_cast-result : goal.overflow_cast-result
-overflow_cast-result c = search (all, rules)

@@ -1,6 +1,0 @@
-use borrow.Author.Rules.{rules}
-use Rattle.probes.proofs.All.{all}
-use Rattle.probes.proofs.find_after.Goals as goal
-
-pub returns : goal.returns
-returns c = search (all, rules)

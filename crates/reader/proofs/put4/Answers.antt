@@ -1,6 +1,0 @@
-use borrow.Author.Rules.{rules}
-use Rattle.reader.proofs.All.{all}
-use Rattle.reader.proofs.put4.Goals as goal
-
-pub returns : goal.returns
-returns c = search (all, rules)

@@ -1,9 +1,0 @@
-use borrow.Author.Rules.{rules}
-use Rattle.selection.proofs.All.{all}
-use Rattle.selection.proofs.joins.Goals as goal
-
-pub returns-then-goes_on : goal.returns-then-goes_on
-returns-then-goes_on c = search (all, rules)
-
-pub returns : goal.returns
-returns c = search (all, rules)

@@ -1,6 +1,0 @@
-use borrow.Author.Rules.{rules}
-use Rattle.text.proofs.Laws.{all}
-use Rattle.text.proofs.is_name.Goals as goal
-
-pub returns : goal.returns
-returns c = search (all, rules)

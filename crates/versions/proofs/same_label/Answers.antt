@@ -1,6 +1,0 @@
-use borrow.Author.Rules.{rules}
-use Rattle.versions.proofs.Laws.{all}
-use Rattle.versions.proofs.same_label.Goals as goal
-
-pub returns : goal.returns
-returns c = search (all, rules)

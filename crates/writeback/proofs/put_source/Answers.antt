@@ -1,6 +1,0 @@
-use borrow.Author.Rules.{rules}
-use Rattle.writeback.proofs.All.{all}
-use Rattle.writeback.proofs.put_source.Goals as goal
-
-pub returns : goal.returns
-returns c = search (all, rules)

@@ -1,6 +1,0 @@
-use borrow.Author.Rules.{rules}
-use Rattle.writer.proofs.All.{all}
-use Rattle.writer.proofs.test_name.Goals as goal
-
-pub returns : goal.returns
-returns c = search (all, rules)
