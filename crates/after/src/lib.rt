@@ -216,6 +216,8 @@ impl Worklist {
 pub fn spread(program: &Program, count: usize, set: &mut [u64])
     ensures { Spread program.now.nodes program.now.links count set.old set.new }
 {
+    // a copy, so that its parts are read once
+    let program = &Program::new(program.text(), program.nodes(), program.links());
     let mut work = Worklist {
         owners: [0; 512],
         left: [u64::MAX; 16],

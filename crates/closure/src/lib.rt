@@ -39,8 +39,8 @@ pub struct Growth {
 // What a search for pairs goes by: the two versions, the groups of the nodes of the new one, and how many pairs there may be.
 #[derive(Clone, Copy)]
 struct Search<'a> {
-    old: &'a Program<'a>,
-    new: &'a Program<'a>,
+    old: &'a Program<'a, 'a>,
+    new: &'a Program<'a, 'a>,
     groups: &'a [usize],
     limit: usize,
 }
@@ -319,7 +319,7 @@ pub fn close(old: &Program, new: &Program, limit: usize, w: &mut [usize]) -> Opt
 {
     // for a table without room nothing is promised; behind this test the compiler knows its length
     if w.len() < 4624 + 3 * limit {
-        return None;
+        return Some(0);
     }
     pairset::empty(w);
     let mut groups = [0; 1024];

@@ -106,7 +106,9 @@ pub fn edge_with(links: &[usize], n: usize, key: usize) -> Option<usize>
     None
 }
 
-// The edge that the node n takes for the word of this key: the one with that word, or else the one with the word `*`, whose key is 42.
+// The edge that the node n takes for the word of this key: the one with that word, or else the one with the word `*`, whose key is 42. Walks along
+// opposite edges come by here for each edge, so it is put into them.
+#[inline(always)]
 #[tactic(auto, using(crate::proofs::Laws::takes))]
 pub fn edge_taken(links: &[usize], n: usize, key: usize) -> Option<usize>
     ensures { EdgeTaken links.now n key (place result) }

@@ -64,7 +64,7 @@ struct Version<'a> {
 }
 
 impl<'a> Version<'a> {
-    fn program(&self) -> Program<'a>
+    fn program(&self) -> Program<'a, 'a>
         ensures { result ≡ memory self.now.text.now self.now.nodes.now self.now.links.now }
     {
         Program::new(self.text, self.nodes, self.links)
@@ -98,18 +98,15 @@ fn suite_due(
     requires { o.edges ≤ 1024 }
     ensures { due_of result ≡ suite_counts job o p (suite_left o.edges tests.now.text.now tests.now.names.now tests.now.rows.now) }
 {
-    let mut names = [0usize; 400];
-    let mut words = [0u64; 3200];
-    let Some(count) = held::suite_left(
+    let count = held::suite_left(
         tests.text,
         o.edges,
         tests.names,
         tests.rows,
-        &mut names,
-        &mut words,
-    ) else {
-        return Err(NOT_LEFT);
-    };
+        &mut [0; 400],
+        &mut [0; 3200],
+    )
+    .ok_or(NOT_LEFT)?;
     let left = Job {
         stage: 3,
         old_procs: o.procs,
@@ -372,10 +369,10 @@ fn label_of(
 }
 
 // Finds a label, by side and node number: none when refused.
-pub fn label_on(
+pub fn label_on<'a>(
     job: Job,
-    old: &Lent,
-    new: &Lent,
+    old: &Lent<'a>,
+    new: &Lent<'a>,
     tests: &Tests,
     side: usize,
     node: usize,

@@ -16,6 +16,8 @@ use Rattle.rules.specs.Check.{broken}
 use Rattle.rules.specs.Layout.{write_program}
 use Rattle.rules.proofs.Theorems.{written_unchanged}
 use Rattle.rules.specs.Job.{Given, Outcome, by_side, checking, has_node, judged, labelling, outcome, output_after, refusal, request_by, serving, success, writing_back, written}
+use Rattle.std.specs.Prelude.{Option, Result}
+use Rattle.answer.specs.declared.Refusal.{Refusal}
 use Rattle.answer.specs.Refusals.{Answer}
 use Rattle.answer.specs.Outcomes.{Answered, Told, answered_as, refusal_told, told_as}
 use Rattle.versions.specs.Memory.{Memory}
@@ -24,7 +26,7 @@ use Rattle.writer.specs.Sheets.{TextWritten}
 use Rattle.intake.specs.declared.Counts.{Counts}
 use Rattle.intake.specs.Ready.{Ready}
 use Rattle.checker.specs.Checking.{Checks}
-use Rattle.work.specs.Work.{Done, ProbesDone, RecordDone, SheetDone}
+use Rattle.work.specs.Work.{Done, ProbesDone, ProbesOr, RecordDone, RecordOr, SheetDone, SheetOr, told_or}
 use Rattle.requests.specs.declared.Request.{Request}
 use Rattle.requests.specs.declared.Request.TheVariants.{Check, Label, Probes, Program, Record, Sheet, Unknown}
 use Rattle.requests.specs.Requests.{LabelTold, ProgramTold, Served, asked, nodes_on, text_on}
@@ -200,11 +202,18 @@ module _ (v v' : Memory) (tt tests rows : List ℕ) (had : Counts) (input w w' o
       record { claim = λ g y. subst (λ (x : Answer). Told (refusal 6 0) x out out') (sym er) (subst (λ (o : Bytes). Told (refusal 6 0) (record { number = 6; place = 0 }) out o) (sym eo) (refusal_told 6 0 out)); size = ap length e; room = ap length eo }
 
   module _ (q : Request) where
-    pub sheet_asked : q ≡ Sheet → 16912 ≤ length w → Done w w' out out' (SheetDone max_pairs too_many v v' tt tests rows had w out r out') → Does q
-    sheet_asked e room d = subst Does (sym e) (sheet_served room d)
+    pub sheet_asked : (a : Option (Result ℕ Refusal)) → q ≡ Sheet → 16912 ≤ length w → r ≡ told_or too_many a → Done w w' out out' (SheetOr max_pairs v v' tt tests rows had w out a out') → Does q
+    unfolding SheetOr
+    sheet_asked a e room x d =
+        subst Does (sym e)
+        (sheet_served room (record { claim = subst (λ (z : Answer). SheetDone max_pairs too_many v v' tt tests rows had w out z out') (sym x) (d.claim too_many); size = d.size; room = d.room }))
 
-    pub record_asked : (i : ℕ) → q ≡ Record i → 16912 ≤ length w → Done w w' out out' (RecordDone max_pairs too_many v v' tt tests rows had i w out r out') → Does q
-    record_asked i e room d = subst Does (sym e) (record_served i room d)
+    pub record_asked : (i : ℕ) (a : Option (Result ℕ Refusal)) → q ≡ Record i → 16912 ≤ length w → r ≡ told_or too_many a → Done w w' out out' (RecordOr max_pairs v v' tt tests rows had i w out a out')
+        → Does q
+    unfolding RecordOr
+    record_asked i a e room x d =
+        subst Does (sym e)
+        (record_served i room (record { claim = subst (λ (z : Answer). RecordDone max_pairs too_many v v' tt tests rows had i w out z out') (sym x) (d.claim too_many); size = d.size; room = d.room }))
 
     pub check_asked : q ≡ Check → length w' ≡ length w → out' ≡ out → Checks max_pairs v v' had.old_nodes had.new_nodes had.old_edges tt tests rows had.tests input r → Does q
     check_asked e a b d = subst Does (sym e) (check_served a b d)
@@ -215,8 +224,11 @@ module _ (v v' : Memory) (tt tests rows : List ℕ) (had : Counts) (input w w' o
     pub program_asked : (side : ℕ) → q ≡ Program side → w' ≡ w → ProgramTold v.text v'.text side out r out' → Does q
     program_asked side e a d = subst Does (sym e) (program_served side a d)
 
-    pub probes_asked : q ≡ Probes → 16912 ≤ length w → Done w w' out out' (ProbesDone max_pairs too_many v v' had w out r out') → Does q
-    probes_asked e room d = subst Does (sym e) (probes_served room d)
+    pub probes_asked : (a : Option (Result ℕ Refusal)) → q ≡ Probes → 16912 ≤ length w → r ≡ told_or too_many a → Done w w' out out' (ProbesOr max_pairs v v' had w out a out') → Does q
+    unfolding ProbesOr
+    probes_asked a e room x d =
+        subst Does (sym e)
+        (probes_served room (record { claim = subst (λ (z : Answer). ProbesDone max_pairs too_many v v' had w out z out') (sym x) (d.claim too_many); size = d.size; room = d.room }))
 
     pub unknown_asked : q ≡ Unknown → w' ≡ w → out' ≡ out → r ≡ record { number = 6; place = 0 } → Does q
     unknown_asked e a b d = subst Does (sym e) (unknown_served a b d)

@@ -8,9 +8,9 @@ ghost use Rattle.answer.specs.Refusals.{told};
 ghost use Rattle.checker.specs.Checking.{Checks};
 ghost use Rattle.intake.specs.Ready.{Few};
 ghost use Rattle.rules.specs.Job.{request_by};
-ghost use Rattle.rules.specs.Text.{max_pairs};
+ghost use Rattle.rules.specs.Text.{max_pairs, too_many};
 ghost use Rattle.work.specs.Loads.{had_in};
-ghost use Rattle.work.specs.Work.{Done};
+ghost use Rattle.work.specs.Work.{Done, told_or};
 ghost use Rattle.requests.specs.Requests.{LabelTold, ProgramTold, Served, asked, nodes_on};
 
 use answer::{Fault, Refusal};
@@ -114,6 +114,19 @@ fn program(old: &Program, new: &Program, side: usize, out: &mut [u8]) -> Result<
     }
 }
 
+// What a call of `work` answers, which is None where more pairs exist than the limit: then with the number for that.
+fn within(answer: Option<Result<usize, Refusal>>) -> Result<usize, Refusal>
+    ensures { told result ≡ told_or too_many answer }
+{
+    match answer {
+        Some(answer) => answer,
+        None => Err(Refusal {
+            fault: TOO_MANY,
+            place: 0,
+        }),
+    }
+}
+
 // Does what is asked, of programs and tests in memory; `input` is the text that the request comes with, and `w` the table of the pairs.
 pub fn serve(
     job: &Loaded,
@@ -127,12 +140,12 @@ pub fn serve(
     ensures { Done w.old w.new out.old out.new (Served (asked request) job.now.old.now job.now.new.now job.now.suite.now.text job.now.suite.now.names job.now.suite.now.rows (had_in job.now) input.now out.old (told result) out.new) }
 {
     match request {
-        Request::Sheet => work::write_sheet(MAX_PAIRS, TOO_MANY, job, w, out),
-        Request::Record(i) => work::write_record(MAX_PAIRS, TOO_MANY, job, i, w, out),
+        Request::Sheet => within(work::write_sheet(MAX_PAIRS, job, w, out)),
+        Request::Record(i) => within(work::write_record(MAX_PAIRS, job, i, w, out)),
         Request::Check => check(job, input, w),
         Request::Label(side, node) => label(job, side, node),
         Request::Program(side) => program(job.old, job.new, side, out),
-        Request::Probes => work::write_probes(MAX_PAIRS, TOO_MANY, job, w, out),
+        Request::Probes => within(work::write_probes(MAX_PAIRS, job, w, out)),
         Request::Unknown => not_named(),
     }
 }

@@ -22,7 +22,7 @@ use Rattle.pairset.specs.Store.{Has, danger_in, danger_word, pairs_in}
 use Rattle.pairset.specs.StoreLaws.{before_le, danger_bit_lem}
 use Rattle.versions.specs.MemoryLaws.{source_is, target_is, well_formed}
 use Rattle.versions.specs.Claims.{GoesOn}
-use Rattle.versions.specs.Opposite.{FindsBefore, LastOpposite, OppositeBefore, SoleOpposite, opposite_below, opposites, side_at, side_of_lem, side_of}
+use Rattle.versions.specs.Opposite.{FindsBefore, LastOpposite, OppositeBefore, opposite_below, opposites, side_at, side_of_lem, side_of}
 use Rattle.selection.specs.Compared.{Compared, EndsMeet, Fits, Fitting, LastFitting, ends_pair, ends_met, hit_at, hit_below, partner_below, same_bool}
 use Rattle.selection.specs.Dangers.{Copies, DangersCopied}
 
@@ -150,18 +150,6 @@ module _ (ol nl w : List ℕ) (e m : ℕ) (met : Bool) where
   pub last_any : (last r : ℕ) → LastOpposite ol nl e m last → Fitting ol nl w e last met r → LastFitting ol nl w e m met r
   last_any last r q t = record { last = last; is_last = q; fitting = t }
 
-  module _ (f : ℕ) (so : SoleOpposite ol nl e m (suc f)) (t : Bool) (et : EndsMeet ol nl w e f met t) where
-    pub last_sole : t ≡ true → LastFitting ol nl w e m met (suc f)
-    unfolding SoleOpposite
-    last_sole y = last_any (suc f) (suc f) (so (omega arith)).last (fit_hit ol nl w e (suc f) met f (fit_start ol nl w e (suc f) met) t et (omega arith) y)
-
-    pub last_none : t ≡ false → LastFitting ol nl w e m met 0
-    unfolding SoleOpposite
-    last_none y =
-        let s = so (omega arith) in
-        let b : OppositeBefore ol nl e f 0 = rw (less_one f) at s.before in
-        last_any (suc f) 0 s.last (fit_end ol nl w e (suc f) met (fit_on ol nl w e (suc f) met f (fit_start ol nl w e (suc f) met) t et 0 y b))
-
 -- ---- the pair of the node that an old edge leaves
 
 module _ (on ol nn nl w : List ℕ) (e n m : ℕ) (g : Bool) (go : GoesOn on ol nn nl w n m g) where
@@ -173,7 +161,7 @@ module _ (on ol nn nl w : List ℕ) (e n m : ℕ) (g : Bool) (go : GoesOn on ol 
       let l = (well_formed _ o h.old_in).sources e i in
       go h.old_text h.new_text o p c h.old_in h.new_in h.held.store (omega (arith, en)) (partner_below h n m j)
 
-pub ruleset fittings = (ends_alike, ends_apart, fit_start, fit_end, fit_hit, fit_on, opposite_le, last_any, last_sole, last_none)
+pub ruleset fittings = (ends_alike, ends_apart, fit_start, fit_end, fit_hit, fit_on, opposite_le, last_any)
 
 -- ---- `copy_dangers`
 

@@ -31,7 +31,9 @@ fn ends_meet(old: &Program, new: &Program, w: &[usize], e: usize, f: usize, ends
 }
 
 // The first edge from the place down, among the edges opposite to the old edge e, with such ends; where the nodes that they leave are a pair that may go
-// on: then the ends are alike just where they are a pair.
+// on: then the ends are alike just where they are a pair. This and the next three are put into the walks over partners: what does not change along
+// them is then read once.
+#[inline(always)]
 fn fitting(
     old: &Program,
     new: &Program,
@@ -52,7 +54,8 @@ fn fitting(
     None
 }
 
-// The last such edge of the new node m; by the short way where there is one.
+// The last such edge of the new node m.
+#[inline(always)]
 fn last_fitting(
     old: &Program,
     new: &Program,
@@ -63,20 +66,13 @@ fn last_fitting(
 ) -> Option<usize>
     ensures { LastFitting old.now.links new.now.links w.now e m (is_met ends) (place result) }
 {
-    let own = versions::sole_opposite(old, new, e, m);
-    let Some(f) = own else {
-        let last = versions::last_opposite(old, new, e, m);
-        return fitting(old, new, w, e, last, ends);
-    };
-    if ends_meet(old, new, w, e, f, ends) {
-        own
-    } else {
-        None
-    }
+    let last = versions::last_opposite(old, new, e, m);
+    fitting(old, new, w, e, last, ends)
 }
 
 // For the pair of n, which the old edge e leaves, and m: the last edge of m that is joined with e, or that parts from it, as `ends` says. For tables that
 // do not hold two programs and their pairs it is left open.
+#[inline(always)]
 pub fn joins(
     old: &Program,
     new: &Program,
@@ -96,6 +92,7 @@ pub fn joins(
 }
 
 // The one before f, which is such an edge.
+#[inline(always)]
 pub fn joins_before(
     old: &Program,
     new: &Program,

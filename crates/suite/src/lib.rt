@@ -19,21 +19,21 @@ use text::Class;
 
 // The tests of a suite: the text with their names, where each name stands in it, and their rows.
 #[derive(Drop)]
-pub struct Suite<'a> {
-    text: &'a [u8],
+pub struct Suite<'t, 'a> {
+    text: &'t [u8],
     names: &'a [usize],
     rows: &'a [u64],
     count: usize,
 }
 
-impl<'a> Model for Suite<'a> {
+impl<'t, 'a> Model for Suite<'t, 'a> {
     ghost Value = { Tests };
 
     ghost view = { λ s. tests s.text.now s.names.now s.rows.now s.count };
 }
 
-impl<'a> Suite<'a> {
-    pub fn new(text: &'a [u8], names: &'a [usize], rows: &'a [u64], count: usize) -> Suite<'a>
+impl<'t, 'a> Suite<'t, 'a> {
+    pub fn new(text: &'t [u8], names: &'a [usize], rows: &'a [u64], count: usize) -> Suite<'t, 'a>
         ensures { result ≡ tests text.now names.now rows.now count }
     {
         Suite {
@@ -45,7 +45,7 @@ impl<'a> Suite<'a> {
     }
 
     // The text with the names.
-    pub fn text(&self) -> &'a [u8]
+    pub fn text(&self) -> &'t [u8]
         ensures { result.now ≡ self.now.text }
     {
         self.text
@@ -73,7 +73,7 @@ impl<'a> Suite<'a> {
     }
 
     // The name of the test i.
-    pub fn name(&self, i: usize) -> &'a [u8]
+    pub fn name(&self, i: usize) -> &'t [u8]
         requires { i ≤ 200 }
         ensures { result.now ≡ name_at self.now.text self.now.names i }
     {

@@ -1,12 +1,12 @@
 -- The turns and the returns of this crate's functions, as `search` finds them: the premises are what the code holds there.
 use mathlib.Core.Path.{◌≡◌, refl, sym, ap, ap₂, ◌∙◌}
 use mathlib.Core.Bool.{Bool, true, false, ◌&&◌, ◌||◌, not}
-use mathlib.Core.List.{List, [], ◌∷◌, ◌++◌, append_assoc}
+use mathlib.Core.List.{List, [], ◌∷◌, ◌++◌, append_assoc, append-nil}
 use Prim.Native.Nat.{ℕ, zero, suc, ◌+◌, ◌-◌, ◌*◌, ◌/◌, ◌%◌, ◌^◌, ◌≤◌, ◌<◌, min}
-use native.Mathlib.Nat.{add-sub_cancel_left}
 use native.Mathlib.Omega.{arith}
+use Rattle.std.proofs.Common.{add-one, zero-add}
 use lib.Dec.{eqb, leb, ltb}
-use lib.ListN.{length, get_or, take, drop, length-drop, length-append, take-append-drop}
+use lib.ListN.{length, get_or, set, take, drop, length-drop, length-append, take-append-drop}
 use lib.Seq.{drop-drop, length-take-le, set_out, sets, sets-eq, length-sets}
 use borrow.Author.Tests.{le-leb, le-ltb, lt-leb, lt-ltb}
 use Rattle.laws.specs.Tests.{◌and◌, ◌or◌, isnt, choose, has}
@@ -143,11 +143,36 @@ module _ {A : Type 0} (d s : List A) (at n : ℕ) (e : n ≡ min (length s) (len
       whole ∙ sets-eq (take n s) d at (omega arith) ∙ append_assoc (take at d) (take n s) (drop (at + length (take n s)) d)
       ∙ ap (λ (k : ℕ). take at d ++ (take n s ++ drop (at + k) d)) m
 
-  pub copy_some : (x : List A) → at < length d → x ≡ take n s → put_mid at (at + n - at) d x ≡ sets d at s
-  copy_some x h q =
-      ap (λ (y : List A). take at d ++ (y ++ drop (at + n - at) (drop at d))) q
-      ∙ ap (λ (r : List A). take at d ++ (take n s ++ r)) (ap (λ (k : ℕ). drop k (drop at d)) (add-sub_cancel_left at n) ∙ drop-drop n at d)
-      ∙ sym (sets_fit h)
+-- One more of s put at the front of d, and no more.
+module _ {A : Type 0} (d₀ d s : List A) (i n : ℕ) (inv : sets d₀ 0 s ≡ sets d i (drop i s)) (e : n ≡ min (length s) (length d₀)) where
+  pub front_on : (x : A) → i < n → x ≡ get_or s i x → sets d₀ 0 s ≡ sets (set d i x) (i + 1) (drop (i + 1) s)
+  front_on x h q = inv ∙ ap (sets d i) (drop_at s i x (omega (arith, e)) ∙ ap (λ (y : A). y ∷ drop (i + 1) s) (sym q))
+      ∙ ap (λ (k : ℕ). sets (set d i x) k (drop (i + 1) s)) (sym (add-one i))
+
+  pub front_done : length d ≡ length d₀ → n ≤ i → d ≡ sets d₀ 0 s
+  front_done l h =
+      below_or i (length s)
+      (λ b. sym (inv ∙ sets_out (drop i s) d i (omega (arith, e, l))))
+      (λ b. sym (inv ∙ ap (sets d i) (drop_end s i b)))
+
+front_none : {A : Type 0} (s : List A) → take 0 s ≡ []
+front_none [] = refl
+front_none (x ∷ s) = refl
+
+-- What stands from a place on, with s put at its front.
+pub copy_front : {A : Type 0} (d s x : List A) (at : ℕ) → at < length d → x ≡ sets (take (length d - at) (drop at d)) 0 s → put_mid at (length d - at) d x ≡ sets d at s
+copy_front {A} d s x at h q =
+    let n = min (length s) (length d - at) in
+    let l : length (drop at d) ≡ length d - at = length-drop at d in
+    let none : drop (length d - at) (drop at d) ≡ [] = drop_end (drop at d) (length d - at) (omega (arith, l)) in
+    let all : take (length d - at) (drop at d) ≡ drop at d =
+    sym (append-nil _) ∙ ap (λ (r : List A). take (length d - at) (drop at d) ++ r) (sym none) ∙ take-append-drop (length d - at) (drop at d) in
+    ap (λ (r : List A). take at d ++ r)
+    (ap₂ (λ (y r : List A). y ++ r)
+    (q ∙ ap (λ (r : List A). sets r 0 s) all ∙ sets_fit (drop at d) s 0 n (omega (arith, l)) (omega (arith, l)) ∙ ap₂ (λ (f : List A) (k : ℕ). f ++ (take n s ++ drop k (drop at d))) (front_none (drop at d)) (zero-add n)
+    ∙ ap (λ (r : List A). take n s ++ r) (drop-drop n at d))
+    none ∙ append-nil _)
+    ∙ sym (sets_fit d s at n refl h)
 
 -- Lists are equal by E just if they are without a front and an end that they share.
 module _ {A : Type 0} (E : A → A → Bool) (equiv : IsEquivalence E) where
@@ -189,7 +214,7 @@ module _ {A : Type 0} (E : A → A → Bool) (equiv : IsEquivalence E) where
 
 pub ruleset bits = (bit_read, bit_out, bit_in_lem)
 
-pub ruleset stores = (copy_none, copy_some, run_equal)
+pub ruleset stores = (copy_none, front_on, front_done, copy_front, run_equal)
 
 -- ---- the classes
 
@@ -416,15 +441,37 @@ module _ (s : Bytes) where
   pub number_zeros : get_or s 0 0 ≡ 48 → 2 ≤ length s → ◌≡◌ {A = Option ℕ} None (choose (is_number s) (Some (min (value_from 0 s) 65536)) None)
   number_zeros e h = number_not (sym (number_zero s h e))
 
-  module _ (t : Bool) (e : t ≡ all_bytes (class_byte Digit) s) (g : 1 ≤ length s) (h : (get_or s 0 0 ≡ 48 → ⊥) ⊎ (length s ≤ 1)) where
-    pub number_other : t ≡ false → ◌≡◌ {A = Option ℕ} None (choose (is_number s) (Some (min (value_from 0 s) 65536)) None)
-    number_other n = number_not (only_digits s g h ∙ sym e ∙ n)
+  -- What it is, by the bytes alone: the invariant of the loop at its start.
+  pub number_start : 1 ≤ length s → (get_or s 0 0 ≡ 48 → ⊥) ⊎ (length s ≤ 1)
+      → ◌≡◌ {A = Option ℕ} (choose (is_number s) (Some (min (value_from 0 s) 65536)) None) (choose (all_bytes digit_byte s) (Some (min (value_from 0 s) 65536)) None)
+  number_start g h = ap (λ (t : Bool). choose {A = Option ℕ} t (Some (min (value_from 0 s) 65536)) None) (only_digits s g h)
 
-    pub number_some : (v : ℕ) → t ≡ true → v ≡ min (value_from 0 s) 65536 → Some v ≡ choose (is_number s) (Some (min (value_from 0 s) 65536)) None
-    unfolding choose
-    number_some v y q = sym (simp (only_digits s g h, ← e, y, q))
+module _ (s : Bytes) (x : Option ℕ) (v i : ℕ) (inv : x ≡ choose (all_bytes digit_byte (drop i s)) (Some (min (value_from v (drop i s)) 65536)) None) where
+  module _ (t : Bool) (h : i < length s) (e : t ≡ digit_byte (get_or s i 0)) where
+    number_step : x ≡ choose (t and all_bytes digit_byte (drop (i + 1) s)) (Some (min (value_from v (drop i s)) 65536)) None
+    unfolding all_bytes
+    number_step =
+        inv ∙ ap (λ (l : Bytes). choose {A = Option ℕ} (all_bytes digit_byte l) (Some (min (value_from v (drop i s)) 65536)) None) (drop_at s i 0 h)
+        ∙ ap (λ (u : Bool). choose {A = Option ℕ} (u and all_bytes digit_byte (drop (i + 1) s)) (Some (min (value_from v (drop i s)) 65536)) None) (sym e)
 
-pub ruleset numbers = (number_no_byte, number_zeros, number_other, number_some)
+    pub number_off : t ≡ false → None ≡ x
+    unfolding choose ◌and◌
+    number_off y = sym (number_step ∙ ap (λ (u : Bool). choose {A = Option ℕ} (u and all_bytes digit_byte (drop (i + 1) s)) (Some (min (value_from v (drop i s)) 65536)) None) y)
+
+    pub number_on : (w : ℕ) → t ≡ true → w ≡ min (v * 10 + (get_or s i 0 - 48)) 65536
+        → x ≡ choose (all_bytes digit_byte (drop (i + 1) s)) (Some (min (value_from w (drop (i + 1) s)) 65536)) None
+    unfolding ◌and◌
+    number_on w y q =
+        number_step
+        ∙ ap₂ (λ (u : Bool) (n : ℕ). choose {A = Option ℕ} (u and all_bytes digit_byte (drop (i + 1) s)) (Some n) None) y (value_next s v i w h q)
+
+  pub number_done : length s ≤ i → v ≤ 65536 → Some v ≡ x
+  unfolding choose all_bytes value_from
+  number_done h l =
+      let q : v ≡ min v 65536 = omega arith in
+      ap Some q ∙ sym (inv ∙ ap (λ (l : Bytes). choose {A = Option ℕ} (all_bytes digit_byte l) (Some (min (value_from v l) 65536)) None) (drop_end s i h))
+
+pub ruleset numbers = (number_no_byte, number_zeros, number_start, number_off, number_on, number_done)
 
 -- ---- `put_byte`, `put_bytes`, `put_decimal`
 

@@ -226,14 +226,23 @@ pub fn clear(s: &mut [usize])
     s.fill(0);
 }
 
+// Puts what s holds at the front of d, as far as d goes. A loop, since the library's method compiles to `memmove`, which no host is asked for.
+#[tactic(auto, using(crate::proofs::Laws::stores))]
+fn put_front<T: Copy>(d: &mut [T], s: &[T])
+    ensures { d.new ≡ sets d.old 0 s.now }
+{
+    for i in 0..s.len().min(d.len()) {
+        d[i] = s[i];
+    }
+}
+
 // Puts what s holds into d from at on, as far as d goes.
 #[tactic(auto, using(crate::proofs::Laws::stores))]
 pub fn copy<T: Copy>(d: &mut [T], at: usize, s: &[T])
     ensures { d.new ≡ sets d.old at s.now }
 {
     if at < d.len() {
-        let n = s.len().min(d.len() - at);
-        d[at..at + n].copy_from_slice(&s[..n]);
+        put_front(&mut d[at..], s);
     }
 }
 
@@ -435,11 +444,14 @@ pub fn number(s: &[u8]) -> Option<usize>
     if first == b'0' && 1 < s.len() {
         return None;
     }
-    if all_in(Class::Digit, s) {
-        Some(value(s))
-    } else {
-        None
+    let mut v = 0;
+    for b in s {
+        if !in_class(Class::Digit, *b) {
+            return None;
+        }
+        v = with_digit(v, *b);
     }
+    Some(v)
 }
 
 // A number below 4,096 for some bytes.

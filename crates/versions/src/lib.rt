@@ -19,13 +19,13 @@ use std::marker::Model;
 // ---- a version
 
 #[derive(Drop)]
-pub struct Program<'a> {
-    text: &'a [u8],
+pub struct Program<'t, 'a> {
+    text: &'t [u8],
     nodes: &'a [usize],
     links: &'a [usize],
 }
 
-impl<'a> Model for Program<'a> {
+impl<'t, 'a> Model for Program<'t, 'a> {
     ghost Value = { Memory };
 
     ghost view = { λ p. memory p.text.now p.nodes.now p.links.now };
@@ -55,14 +55,14 @@ fn part_in_row<'a>(text: &'a [u8], table: &[usize], size: usize, i: usize, at: u
     )
 }
 
-impl<'a> Program<'a> {
-    pub fn new(text: &'a [u8], nodes: &'a [usize], links: &'a [usize]) -> Program<'a>
+impl<'t, 'a> Program<'t, 'a> {
+    pub fn new(text: &'t [u8], nodes: &'a [usize], links: &'a [usize]) -> Program<'t, 'a>
         ensures { result ≡ memory text.now nodes.now links.now }
     {
         Program { text, nodes, links }
     }
 
-    pub fn text(&self) -> &'a [u8]
+    pub fn text(&self) -> &'t [u8]
         ensures { result.now ≡ self.now.text }
     {
         self.text
@@ -129,14 +129,14 @@ impl<'a> Program<'a> {
     }
 
     // The label of the node n.
-    pub fn label(&self, n: usize) -> &'a [u8]
+    pub fn label(&self, n: usize) -> &'t [u8]
         ensures { result.now ≡ part_at self.now.text self.now.nodes (node_base n + 1) }
     {
         part_in_row(self.text, self.nodes, 4, n, 1)
     }
 
     // The name of the procedure q.
-    pub fn name(&self, q: usize) -> &'a [u8]
+    pub fn name(&self, q: usize) -> &'t [u8]
         ensures { result.now ≡ part_at self.now.text self.now.links (proc_base q) }
     {
         part_in_row(self.text, self.links, 7, q, 0)
@@ -270,7 +270,7 @@ fn same_callees(old: &Program, new: &Program, k: usize, l: usize) -> bool
 
 // Whether the old node n and the new node m are alike. Only a call has a callee field, of the names of the procedures that it calls.
 #[tactic(auto, using(crate::proofs::Laws::alikes))]
-pub fn alike<'a>(old: &Program<'a>, new: &Program<'a>, n: usize, m: usize) -> bool
+pub fn alike<'t, 'a>(old: &Program<'t, 'a>, new: &Program<'t, 'a>, n: usize, m: usize) -> bool
     ensures { Alike old.now new.now n m result }
 {
     let kind = old.kind(n);
@@ -316,6 +316,7 @@ fn opposite_from(
 
 // The last edge of the new node m that is opposite to the old edge e. To an edge with another word than `*`, this is the one that m takes for that
 // word.
+#[inline(always)]
 #[tactic(auto, using(crate::proofs::Opposites::all))]
 pub fn last_opposite(old: &Program, new: &Program, e: usize, m: usize) -> Option<usize>
     ensures { LastOpposite old.now.links new.now.links e m (place result) }
@@ -410,6 +411,7 @@ fn exits_met(old: &Program, new: &Program, w: &[usize], k: usize, l: usize) -> b
 }
 
 // Whether the pair of the old node n and the new node m may go on by the pairs of the table: for a call, the exits of all its callees are among them.
+#[inline(always)]
 #[tactic(auto, using(crate::proofs::Laws::goes))]
 pub fn goes_on(old: &Program, new: &Program, w: &[usize], n: usize, m: usize) -> bool
     ensures { GoesOn old.now.nodes old.now.links new.now.nodes new.now.links w.now n m result }

@@ -16,7 +16,9 @@ use Rattle.rules.specs.SuiteFile.{coverage_at, read_tests, test_count}
 use Rattle.rules.specs.Closing.{pairs}
 use Rattle.rules.specs.Job.{Given, probes_bytes, record_bytes, recording, refusal, sheet_bytes, writing, written}
 use Rattle.rules.proofs.ReadBack.{selected_short}
-use Rattle.answer.specs.Refusals.{Answer}
+use Rattle.std.specs.Prelude.{Some, None, Result}
+use Rattle.answer.specs.declared.Refusal.{Refusal}
+use Rattle.answer.specs.Refusals.{Answer, told}
 use Rattle.answer.specs.Outcomes.{Told, refusal_told, told_as}
 use Rattle.pairset.specs.Store.{pair_base}
 use Rattle.versions.specs.Memory.{InMemory, Memory, memory}
@@ -35,7 +37,7 @@ use Rattle.writer.specs.Laws.{probes_text_lem}
 use Rattle.writer.specs.Sheets.{ProbesWritten, RecordWrites, RecordWritten, SheetWrites, SheetWritten, selection, writing_written}
 use Rattle.intake.specs.declared.Counts.{Counts}
 use Rattle.intake.specs.Ready.{Few, Ready}
-use Rattle.work.specs.Work.{Chosen, Done, ProbesDone, RecordDone, RecordFrom, Selected, SelectDone, SheetDone}
+use Rattle.work.specs.Work.{Chosen, Done, ProbesDone, ProbesOr, RecordDone, RecordFrom, RecordOr, Selected, SelectDone, SheetDone, SheetOr}
 
 -- ---- `select`
 
@@ -112,26 +114,27 @@ module _ (limit over : ℕ) (v v' : Memory) (tt tests rows : List ℕ) (had : Co
         subst (λ (g : Given). Told (writing limit over g (length out) (b g)) r out out') (sym y.given_is)
         (told_as (writing_written limit over (giving g y) (length out) (b (giving g y)) (held_few g y w' set' c x m)) t)
 
-  -- ---- `write_sheet`
+-- ---- `write_sheet`, `write_record`, for whatever number the caller has for more pairs
 
+module _ (limit : ℕ) (v v' : Memory) (tt tests rows : List ℕ) (had : Counts) (w : List ℕ) (out : Bytes) where
   pub sheet_many : (w' set set' : List ℕ) (c : ℕ) → Selected limit v v' w w' set set' c → length set ≡ 16 → limit < c
-      → Done w w' out out (SheetDone limit over v v' tt tests rows had w out (record { number = over; place = 0 }) out)
-  unfolding SheetDone
+      → Done w w' out out (SheetOr limit v v' tt tests rows had w out None out)
+  unfolding SheetOr SheetDone
   sheet_many w' set set' c s k m =
       record {
-        claim = λ g y l. told_many sheet_bytes w' set' c g y (chosen w' set set' c s k g y l) m;
+        claim = λ over g y l. told_many limit over v v' tt tests rows had w out sheet_bytes w' set' c g y (chosen limit over v v' tt tests rows had w out w' set set' c s k g y l) m;
         size = s.size;
         room = refl;
       }
 
-  pub sheet_few : limit ≤ 4096 → (w' set set' : List ℕ) (c : ℕ) → Selected limit v v' w w' set set' c → length set ≡ 16 → c ≤ limit → (r : Answer) (out' : Bytes)
-      → SheetWritten (selection w' c had.old_nodes had.new_nodes set' had.old_edges tt tests rows had.tests) out r out'
-      → Done w w' out out' (SheetDone limit over v v' tt tests rows had w out r out')
-  unfolding SheetDone SheetWrites sheet_bytes
+  pub sheet_few : limit ≤ 4096 → (w' set set' : List ℕ) (c : ℕ) → Selected limit v v' w w' set set' c → length set ≡ 16 → c ≤ limit → (r : Result ℕ Refusal) (out' : Bytes)
+      → SheetWritten (selection w' c had.old_nodes had.new_nodes set' had.old_edges tt tests rows had.tests) out (told r) out'
+      → Done w w' out out' (SheetOr limit v v' tt tests rows had w out (Some r) out')
+  unfolding SheetOr SheetDone SheetWrites sheet_bytes
   sheet_few most w' set set' c s k m r out' h =
       record {
-        claim = λ g y l.
-            let x = chosen w' set set' c s k g y l in
+        claim = λ over g y l.
+            let x = chosen limit over v v' tt tests rows had w out w' set set' c s k g y l in
             let t = h.writes y.o.program y.p.program y.l
             (record {
               old_nodes = y.old_nodes_n;
@@ -141,79 +144,80 @@ module _ (limit over : ℕ) (v v' : Memory) (tt tests rows : List ℕ) (had : Co
               dangerous = (x.marked m).bits;
               suite_read = ap (λ (n : ℕ). read_tests n tt) y.old_edges_n ∙ y.tests_read;
               suite_held = subst (λ (n : ℕ). Holds n tests rows had.tests y.l) (sym y.old_edges_n) y.tests_in;
-              short = selected_short limit (giving g y) (edge_count y.o.program) (suite_read (edge_count y.o.program) tt y.l y.tests_read) (held_few g y w' set' c x m) most
-                  (sound v y.o y.old_in) (sound v' y.p y.new_in);
+              short = selected_short limit (giving limit over v v' tt tests rows had w out g y) (edge_count y.o.program) (suite_read (edge_count y.o.program) tt y.l y.tests_read)
+                  (held_few limit over v v' tt tests rows had w out g y w' set' c x m) most (sound v y.o y.old_in) (sound v' y.p y.new_in);
             }) in
-            told_few sheet_bytes w' set' c g y x m r out' t;
+            told_few limit over v v' tt tests rows had w out sheet_bytes w' set' c g y x m (told r) out' t;
         size = s.size;
         room = h.size;
       }
 
-  -- ---- `write_record`
-
-  pub record_none : (i : ℕ) → had.tests ≤ i → Done w w out out (RecordDone limit over v v' tt tests rows had i w out (record { number = 6; place = 0 }) out)
-  unfolding RecordDone
-  record_none i h =
+  pub record_none : (i : ℕ) (r : Result ℕ Refusal) → had.tests ≤ i → told r ≡ record { number = 6; place = 0 } → Done w w out out (RecordOr limit v v' tt tests rows had i w out (Some r) out)
+  unfolding RecordOr RecordDone
+  record_none i r h e =
       record {
-        claim = λ g y l.
-            subst (λ (g : Given). Told (recording limit over g i (length out)) (record { number = 6; place = 0 }) out out) (sym y.given_is)
-            (told_as (recording_no limit over (giving g y) i (length out) (omega (arith, y.tests_in.counted))) (refusal_told 6 0 out));
+        claim = λ over g y l.
+            subst (λ (g : Given). Told (recording limit over g i (length out)) (told r) out out) (sym y.given_is)
+            (told_as (recording_no limit over (giving limit over v v' tt tests rows had w out g y) i (length out) (omega (arith, y.tests_in.counted)))
+            (subst (λ (a : Answer). Told (refusal 6 0) a out out) (sym e) (refusal_told 6 0 out)));
         size = refl;
         room = refl;
       }
 
   pub record_many : (w' set set' : List ℕ) (c i : ℕ) → i < had.tests → Selected limit v v' w w' set set' c → length set ≡ 16 → limit < c
-      → Done w w' out out (RecordDone limit over v v' tt tests rows had i w out (record { number = over; place = 0 }) out)
-  unfolding RecordDone
+      → Done w w' out out (RecordOr limit v v' tt tests rows had i w out None out)
+  unfolding RecordOr RecordDone
   record_many w' set set' c i below s k m =
       record {
-        claim = λ g y l.
-            let x = chosen w' set set' c s k g y l in
+        claim = λ over g y l.
+            let x = chosen limit over v v' tt tests rows had w out w' set set' c s k g y l in
+            let given = giving limit over v v' tt tests rows had w out g y in
             subst (λ (g : Given). Told (recording limit over g i (length out)) (record { number = over; place = 0 }) out out) (sym y.given_is)
             (told_as
-            (recording_yes limit over (giving g y) i (length out) (omega (arith, y.tests_in.counted))
-            ∙ writing_many limit over (giving g y) (length out) (record_bytes (giving g y) i) (too_many limit y.o.program y.p.program w' set' c x m))
+            (recording_yes limit over given i (length out) (omega (arith, y.tests_in.counted))
+            ∙ writing_many limit over given (length out) (record_bytes given i) (too_many limit y.o.program y.p.program w' set' c x m))
             (refusal_told over 0 out));
         size = s.size;
         room = refl;
       }
 
-  pub record_few : (w' set set' : List ℕ) (c i : ℕ) → i < had.tests → Selected limit v v' w w' set set' c → length set ≡ 16 → c ≤ limit → (r : Answer) (out' : Bytes)
-      → Done w' w' out out' (RecordFrom v.nodes v.links v'.nodes v'.links tt tests rows had i w' set' out r out') → Done w w' out out' (RecordDone limit over v v' tt tests rows had i w out r out')
-  unfolding RecordDone RecordFrom
+  pub record_few : (w' set set' : List ℕ) (c i : ℕ) → i < had.tests → Selected limit v v' w w' set set' c → length set ≡ 16 → c ≤ limit → (r : Result ℕ Refusal) (out' : Bytes)
+      → Done w' w' out out' (RecordFrom v.nodes v.links v'.nodes v'.links tt tests rows had i w' set' out (told r) out')
+      → Done w w' out out' (RecordOr limit v v' tt tests rows had i w out (Some r) out')
+  unfolding RecordOr RecordDone RecordFrom
   record_few w' set set' c i below s k m r out' h =
       record {
-        claim = λ g y l. h.claim limit over v.text v'.text g c y (chosen w' set set' c s k g y l) (s.set_size ∙ k) m below;
+        claim = λ over g y l. h.claim limit over v.text v'.text g c y (chosen limit over v v' tt tests rows had w out w' set set' c s k g y l) (s.set_size ∙ k) m below;
         size = s.size;
         room = h.room;
       }
 
 -- ---- `write_probes`
 
-module _ (limit over : ℕ) (v v' : Memory) (had : Counts) (w : List ℕ) (out : Bytes) (w' dangers dangers' : List ℕ) (c : ℕ)
+module _ (limit : ℕ) (v v' : Memory) (had : Counts) (w : List ℕ) (out : Bytes) (w' dangers dangers' : List ℕ) (c : ℕ)
     (s : Selected limit v v' w w' dangers dangers' c) (k : length dangers ≡ 16) where
-  pub probes_many : limit < c → Done w w' out out (ProbesDone limit over v v' had w out (record { number = over; place = 0 }) out)
-  unfolding ProbesDone
+  pub probes_many : limit < c → Done w w' out out (ProbesOr limit v v' had w out None out)
+  unfolding ProbesOr ProbesDone
   probes_many m =
       record {
-        claim = λ tt tests rows g y l.
+        claim = λ over tt tests rows g y l.
             told_many limit over v v' tt tests rows had w out probes_bytes w' dangers' c g y (chosen limit over v v' tt tests rows had w out w' dangers dangers' c s k g y l) m;
         size = s.size;
         room = refl;
       }
 
   pub probes_few : c ≤ limit → (set set' : List ℕ) → set ≡ replicate 16 0 → ProbesFound v.nodes v.links v'.nodes v'.links w' dangers' had.old_edges had.new_nodes set set'
-      → (r : Answer) (out' : Bytes) → ProbesWritten set' had.new_edges out r out' → Done w w' out out' (ProbesDone limit over v v' had w out r out')
-  unfolding ProbesDone FindsProbes probes_bytes
+      → (r : Result ℕ Refusal) (out' : Bytes) → ProbesWritten set' had.new_edges out (told r) out' → Done w w' out out' (ProbesOr limit v v' had w out (Some r) out')
+  unfolding ProbesOr ProbesDone FindsProbes probes_bytes
   probes_few m set set' zero f r out' h =
       let long : 16 ≤ length set = omega (arith, ap length zero, length-replicate {A = ℕ} 16 0) in
       record {
-        claim = λ tt tests rows g y l.
+        claim = λ over tt tests rows g y l.
             let x = chosen limit over v v' tt tests rows had w out w' dangers dangers' c s k g y l in
             let found = f.finds y.o y.p c (record { old_text = v.text; new_text = v'.text; old_in = y.old_in; new_in = y.new_in; held = x.held m }) (x.marked m) y.old_edges_n
             y.new_nodes_n long (clear_bits set 16 zero) in
             let is = probes_text_lem y.o.program y.p.program set' had.new_edges y.new_edges_n found in
-            told_few limit over v v' tt tests rows had w out probes_bytes w' dangers' c g y x m r out' (told_as (ap (written (length out)) (sym is)) h.told);
+            told_few limit over v v' tt tests rows had w out probes_bytes w' dangers' c g y x m (told r) out' (told_as (ap (written (length out)) (sym is)) h.told);
         size = s.size;
         room = h.size;
       }

@@ -1,20 +1,21 @@
 // The work of a job whose texts were read: the selection, the sheet, the list of probes, the record lines. `w` is the table of the pairs, with room for
-// `limit` of them: a call is refused with `over` where more exist. What a call that writes leaves in it is left open.
+// `limit` of them: a call answers None where more exist, and its contract holds for whatever number its caller has for that. What a call that writes
+// leaves in the table is left open.
 #![tactic(auto, using(crate::proofs::Laws::all))]
 
 ghost use Rattle.std.specs.Prelude.{◌≡◌, ◌≤◌, IfSome};
-ghost use Rattle.answer.specs.Refusals.{fault_number, told};
+ghost use Rattle.answer.specs.Refusals.{told};
 ghost use Rattle.closure.specs.Claims.{counted};
 ghost use Rattle.intake.specs.Ready.{Few};
 ghost use Rattle.work.specs.Loads.{had_in};
-ghost use Rattle.work.specs.Work.{Done, ProbesDone, RecordDone, RecordFrom, Selected, SheetDone};
+ghost use Rattle.work.specs.Work.{Done, ProbesOr, RecordFrom, RecordOr, Selected, SheetOr};
 
 use answer::{Fault, Refusal};
 use suite::Suite;
 use versions::Program;
 use writer::Sizes;
 
-// The limit on pairs, and why a call is refused where more exist, as the callers give them.
+// The limit on pairs, as the callers give it, and why they refuse where more exist.
 pub const MAX_PAIRS: usize = 4096;
 
 pub const TOO_MANY: Fault = Fault::TooManyPairs;
@@ -22,9 +23,9 @@ pub const TOO_MANY: Fault = Fault::TooManyPairs;
 // A job that was read: its programs and tests in memory, and how many nodes and edges the programs have.
 #[derive(Clone, Copy)]
 pub struct Loaded<'a> {
-    pub old: &'a Program<'a>,
-    pub new: &'a Program<'a>,
-    pub suite: &'a Suite<'a>,
+    pub old: &'a Program<'a, 'a>,
+    pub new: &'a Program<'a, 'a>,
+    pub suite: &'a Suite<'a, 'a>,
     pub old_nodes: usize,
     pub old_edges: usize,
     pub new_nodes: usize,
@@ -52,50 +53,38 @@ pub fn select(
 // Writes the sheet of the selection. What the table of the pairs holds afterwards is left open.
 pub fn write_sheet(
     limit: usize,
-    over: Fault,
     job: &Loaded,
     w: &mut [usize],
     out: &mut [u8],
-) -> Result<usize, Refusal>
+) -> Option<Result<usize, Refusal>>
     requires limit_bound { limit ≤ 4096 }
     requires few { Few (had_in job.now) }
-    ensures { Done w.old w.new out.old out.new (SheetDone limit (fault_number over) job.now.old.now job.now.new.now job.now.suite.now.text job.now.suite.now.names job.now.suite.now.rows (had_in job.now) w.old out.old (told result) out.new) }
+    ensures { Done w.old w.new out.old out.new (SheetOr limit job.now.old.now job.now.new.now job.now.suite.now.text job.now.suite.now.names job.now.suite.now.rows (had_in job.now) w.old out.old result out.new) }
 {
     let mut set = [0u64; 16];
-    let Some(pairs) = select(limit, job.old, job.new, w, &mut set) else {
-        return Err(Refusal {
-            fault: over,
-            place: 0,
-        });
-    };
+    let pairs = select(limit, job.old, job.new, w, &mut set)?;
     let sizes = Sizes {
         pairs,
         olds: job.old_nodes,
         news: job.new_nodes,
         edges: job.old_edges,
     };
-    writer::write_sheet(w, &set, sizes, job.suite, out)
+    Some(writer::write_sheet(w, &set, sizes, job.suite, out))
 }
 
 // Writes the list of probes. What the table of the pairs holds afterwards is left open.
 pub fn write_probes(
     limit: usize,
-    over: Fault,
     job: &Loaded,
     w: &mut [usize],
     out: &mut [u8],
-) -> Result<usize, Refusal>
+) -> Option<Result<usize, Refusal>>
     requires limit_bound { limit ≤ 4096 }
     requires few { Few (had_in job.now) }
-    ensures { Done w.old w.new out.old out.new (ProbesDone limit (fault_number over) job.now.old.now job.now.new.now (had_in job.now) w.old out.old (told result) out.new) }
+    ensures { Done w.old w.new out.old out.new (ProbesOr limit job.now.old.now job.now.new.now (had_in job.now) w.old out.old result out.new) }
 {
     let mut dangers = [0u64; 16];
-    let Some(_) = select(limit, job.old, job.new, w, &mut dangers) else {
-        return Err(Refusal {
-            fault: over,
-            place: 0,
-        });
-    };
+    select(limit, job.old, job.new, w, &mut dangers)?;
     let mut set = [0u64; 16];
     probes::find_probes(
         job.old,
@@ -106,7 +95,7 @@ pub fn write_probes(
         job.new_nodes,
         &mut set,
     );
-    writer::write_probes(&set, job.new_edges, out)
+    Some(writer::write_probes(&set, job.new_edges, out))
 }
 
 // Writes the record line of a test, from the pairs and the dangerous edges.
@@ -156,28 +145,22 @@ pub fn record_from(
 // Writes the record line of a test: refused where there is none of that number. What the table of the pairs holds afterwards is left open.
 pub fn write_record(
     limit: usize,
-    over: Fault,
     job: &Loaded,
     i: usize,
     w: &mut [usize],
     out: &mut [u8],
-) -> Result<usize, Refusal>
+) -> Option<Result<usize, Refusal>>
     requires limit_bound { limit ≤ 4096 }
     requires few { Few (had_in job.now) }
-    ensures { Done w.old w.new out.old out.new (RecordDone limit (fault_number over) job.now.old.now job.now.new.now job.now.suite.now.text job.now.suite.now.names job.now.suite.now.rows (had_in job.now) i w.old out.old (told result) out.new) }
+    ensures { Done w.old w.new out.old out.new (RecordOr limit job.now.old.now job.now.new.now job.now.suite.now.text job.now.suite.now.names job.now.suite.now.rows (had_in job.now) i w.old out.old result out.new) }
 {
     if job.suite.count() <= i {
-        return Err(Refusal {
+        return Some(Err(Refusal {
             fault: Fault::NotNamed,
             place: 0,
-        });
+        }));
     }
     let mut set = [0u64; 16];
-    let Some(_) = select(limit, job.old, job.new, w, &mut set) else {
-        return Err(Refusal {
-            fault: over,
-            place: 0,
-        });
-    };
-    record_from(job, i, w, &set, out)
+    select(limit, job.old, job.new, w, &mut set)?;
+    Some(record_from(job, i, w, &set, out))
 }

@@ -57,14 +57,14 @@ fn digits_of(v: usize) -> usize
 // ---- parts of the text
 
 // The name of the procedure q.
-fn name_in<'a>(version: &Program<'a>, q: usize) -> &'a [u8]
+fn name_in<'t>(version: &Program<'t, '_>, q: usize) -> &'t [u8]
     ensures { result.now ≡ name_in version.now.text version.now.links q }
 {
     text::front(version.name(q), 12)
 }
 
 // The label of the node m.
-fn label_in<'a>(version: &Program<'a>, m: usize) -> &'a [u8]
+fn label_in<'t>(version: &Program<'t, '_>, m: usize) -> &'t [u8]
     ensures { result.now ≡ label_in version.now.text version.now.nodes m }
 {
     text::front(version.label(m), 60)
@@ -91,7 +91,7 @@ fn names_long(version: &Program, callees: usize) -> usize
 }
 
 // The callee field of the node m.
-fn callee_in<'a>(version: &Program<'a>, m: usize) -> &'a [u8]
+fn callee_in<'t>(version: &Program<'t, '_>, m: usize) -> &'t [u8]
     ensures { result.now ≡ callee_in version.now.text version.now.nodes version.now.links m }
 {
     if !version.is_call(m) {
@@ -104,7 +104,7 @@ fn callee_in<'a>(version: &Program<'a>, m: usize) -> &'a [u8]
 }
 
 // The word of the edge e.
-fn word_in<'a>(version: &Program<'a>, e: usize) -> &'a [u8]
+fn word_in<'t>(version: &Program<'t, '_>, e: usize) -> &'t [u8]
     ensures { result.now ≡ word_in version.now.text version.now.links e }
 {
     let len = digits_of(version.word_key(e));

@@ -3,4 +3,4 @@ use Rattle.work.proofs.Laws.{probes_few}
 use Rattle.work.proofs.write_probes.Goals as goal
 
 pub returns : goal.returns
-returns c = probes_few _ _ _ _ _ _ _ _ _ _ _ c.in-Some.ensures.selects (search rules) c.in-Some.ensures.few _ _ (search rules) c.find_probes.ensures _ _ c.write_probes.ensures
+returns c = probes_few _ _ _ _ _ _ _ _ _ _ c.in_ok-select.ensures.selects (search rules) c.in_ok-select.ensures.few _ _ (search rules) c.find_probes.ensures _ _ c.write_probes.ensures
