@@ -202,18 +202,11 @@ module _ (v v' : Memory) (tt tests rows : List ℕ) (had : Counts) (input w w' o
       record { claim = λ g y. subst (λ (x : Answer). Told (refusal 6 0) x out out') (sym er) (subst (λ (o : Bytes). Told (refusal 6 0) (record { number = 6; place = 0 }) out o) (sym eo) (refusal_told 6 0 out)); size = ap length e; room = ap length eo }
 
   module _ (q : Request) where
-    pub sheet_asked : (a : Option (Result ℕ Refusal)) → q ≡ Sheet → 16912 ≤ length w → r ≡ told_or too_many a → Done w w' out out' (SheetOr max_pairs v v' tt tests rows had w out a out') → Does q
-    unfolding SheetOr
-    sheet_asked a e room x d =
-        subst Does (sym e)
-        (sheet_served room (record { claim = subst (λ (z : Answer). SheetDone max_pairs too_many v v' tt tests rows had w out z out') (sym x) (d.claim too_many); size = d.size; room = d.room }))
+    pub sheet_asked : q ≡ Sheet → 16912 ≤ length w → Done w w' out out' (SheetDone max_pairs too_many v v' tt tests rows had w out r out') → Does q
+    sheet_asked e room d = subst Does (sym e) (sheet_served room d)
 
-    pub record_asked : (i : ℕ) (a : Option (Result ℕ Refusal)) → q ≡ Record i → 16912 ≤ length w → r ≡ told_or too_many a → Done w w' out out' (RecordOr max_pairs v v' tt tests rows had i w out a out')
-        → Does q
-    unfolding RecordOr
-    record_asked i a e room x d =
-        subst Does (sym e)
-        (record_served i room (record { claim = subst (λ (z : Answer). RecordDone max_pairs too_many v v' tt tests rows had i w out z out') (sym x) (d.claim too_many); size = d.size; room = d.room }))
+    pub record_asked : (i : ℕ) → q ≡ Record i → 16912 ≤ length w → Done w w' out out' (RecordDone max_pairs too_many v v' tt tests rows had i w out r out') → Does q
+    record_asked i e room d = subst Does (sym e) (record_served i room d)
 
     pub check_asked : q ≡ Check → length w' ≡ length w → out' ≡ out → Checks max_pairs v v' had.old_nodes had.new_nodes had.old_edges tt tests rows had.tests input r → Does q
     check_asked e a b d = subst Does (sym e) (check_served a b d)
@@ -224,13 +217,27 @@ module _ (v v' : Memory) (tt tests rows : List ℕ) (had : Counts) (input w w' o
     pub program_asked : (side : ℕ) → q ≡ Program side → w' ≡ w → ProgramTold v.text v'.text side out r out' → Does q
     program_asked side e a d = subst Does (sym e) (program_served side a d)
 
-    pub probes_asked : (a : Option (Result ℕ Refusal)) → q ≡ Probes → 16912 ≤ length w → r ≡ told_or too_many a → Done w w' out out' (ProbesOr max_pairs v v' had w out a out') → Does q
-    unfolding ProbesOr
-    probes_asked a e room x d =
-        subst Does (sym e)
-        (probes_served room (record { claim = subst (λ (z : Answer). ProbesDone max_pairs too_many v v' had w out z out') (sym x) (d.claim too_many); size = d.size; room = d.room }))
+    pub probes_asked : q ≡ Probes → 16912 ≤ length w → Done w w' out out' (ProbesDone max_pairs too_many v v' had w out r out') → Does q
+    probes_asked e room d = subst Does (sym e) (probes_served room d)
 
     pub unknown_asked : q ≡ Unknown → w' ≡ w → out' ≡ out → r ≡ record { number = 6; place = 0 } → Does q
     unknown_asked e a b d = subst Does (sym e) (unknown_served a b d)
 
-pub ruleset all = (by_0, by_1, by_2, by_3, by_4, by_5, by_none, on_old, on_new, on_none, label_there, label_not, program_old, program_new, program_none, sheet_asked, record_asked, check_asked, label_asked, program_asked, probes_asked, unknown_asked)
+    -- Of what `within` makes of an answer.
+    pub sheet_within : (a : Option (Result ℕ Refusal)) → q ≡ Sheet → 16912 ≤ length w → r ≡ told_or too_many a → Done w w' out out' (SheetOr max_pairs v v' tt tests rows had w out a out') → Does q
+    unfolding SheetOr
+    sheet_within a e room x d =
+        sheet_asked e room (record { claim = subst (λ (z : Answer). SheetDone max_pairs too_many v v' tt tests rows had w out z out') (sym x) (d.claim too_many); size = d.size; room = d.room })
+
+    pub record_within : (i : ℕ) (a : Option (Result ℕ Refusal)) → q ≡ Record i → 16912 ≤ length w → r ≡ told_or too_many a → Done w w' out out' (RecordOr max_pairs v v' tt tests rows had i w out a out')
+        → Does q
+    unfolding RecordOr
+    record_within i a e room x d =
+        record_asked i e room (record { claim = subst (λ (z : Answer). RecordDone max_pairs too_many v v' tt tests rows had i w out z out') (sym x) (d.claim too_many); size = d.size; room = d.room })
+
+    pub probes_within : (a : Option (Result ℕ Refusal)) → q ≡ Probes → 16912 ≤ length w → r ≡ told_or too_many a → Done w w' out out' (ProbesOr max_pairs v v' had w out a out') → Does q
+    unfolding ProbesOr
+    probes_within a e room x d =
+        probes_asked e room (record { claim = subst (λ (z : Answer). ProbesDone max_pairs too_many v v' had w out z out') (sym x) (d.claim too_many); size = d.size; room = d.room })
+
+pub ruleset all = (by_0, by_1, by_2, by_3, by_4, by_5, by_none, on_old, on_new, on_none, label_there, label_not, program_old, program_new, program_none, sheet_within, record_within, check_asked, label_asked, program_asked, probes_within, unknown_asked)

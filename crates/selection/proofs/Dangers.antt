@@ -22,7 +22,7 @@ use Rattle.pairset.specs.Store.{Has, danger_in, danger_word, pairs_in}
 use Rattle.pairset.specs.StoreLaws.{before_le, danger_bit_lem}
 use Rattle.versions.specs.MemoryLaws.{source_is, target_is, well_formed}
 use Rattle.versions.specs.Claims.{GoesOn}
-use Rattle.versions.specs.Opposite.{FindsBefore, LastOpposite, OppositeBefore, opposite_below, opposites, side_at, side_of_lem, side_of}
+use Rattle.versions.specs.Opposite.{FindsBefore, LastOpposite, OppositeBefore, SoleOpposite, opposite_below, opposites, side_at, side_of_lem, side_of}
 use Rattle.selection.specs.Compared.{Compared, EndsMeet, Fits, Fitting, LastFitting, ends_pair, ends_met, hit_at, hit_below, partner_below, same_bool}
 use Rattle.selection.specs.Dangers.{Copies, DangersCopied}
 
@@ -149,6 +149,19 @@ opposite_le ol nl e f next q = q.below
 module _ (ol nl w : List ℕ) (e m : ℕ) (met : Bool) where
   pub last_any : (last r : ℕ) → LastOpposite ol nl e m last → Fitting ol nl w e last met r → LastFitting ol nl w e m met r
   last_any last r q t = record { last = last; is_last = q; fitting = t }
+
+  -- Where one edge alone is opposite, the short way.
+  module _ (f : ℕ) (so : SoleOpposite ol nl e m (suc f)) (t : Bool) (et : EndsMeet ol nl w e f met t) where
+    pub last_sole : t ≡ true → LastFitting ol nl w e m met (suc f)
+    unfolding SoleOpposite
+    last_sole y = last_any (suc f) (suc f) (so (omega arith)).last (fit_hit ol nl w e (suc f) met f (fit_start ol nl w e (suc f) met) t et (omega arith) y)
+
+    pub last_none : t ≡ false → LastFitting ol nl w e m met 0
+    unfolding SoleOpposite
+    last_none y =
+        let s = so (omega arith) in
+        let b : OppositeBefore ol nl e f 0 = rw (less_one f) at s.before in
+        last_any (suc f) 0 s.last (fit_end ol nl w e (suc f) met (fit_on ol nl w e (suc f) met f (fit_start ol nl w e (suc f) met) t et 0 y b))
 
 -- ---- the pair of the node that an old edge leaves
 

@@ -114,27 +114,26 @@ module _ (limit over : ℕ) (v v' : Memory) (tt tests rows : List ℕ) (had : Co
         subst (λ (g : Given). Told (writing limit over g (length out) (b g)) r out out') (sym y.given_is)
         (told_as (writing_written limit over (giving g y) (length out) (b (giving g y)) (held_few g y w' set' c x m)) t)
 
--- ---- `write_sheet`, `write_record`, for whatever number the caller has for more pairs
+  -- ---- `write_sheet`
 
-module _ (limit : ℕ) (v v' : Memory) (tt tests rows : List ℕ) (had : Counts) (w : List ℕ) (out : Bytes) where
   pub sheet_many : (w' set set' : List ℕ) (c : ℕ) → Selected limit v v' w w' set set' c → length set ≡ 16 → limit < c
-      → Done w w' out out (SheetOr limit v v' tt tests rows had w out None out)
-  unfolding SheetOr SheetDone
+      → Done w w' out out (SheetDone limit over v v' tt tests rows had w out (record { number = over; place = 0 }) out)
+  unfolding SheetDone
   sheet_many w' set set' c s k m =
       record {
-        claim = λ over g y l. told_many limit over v v' tt tests rows had w out sheet_bytes w' set' c g y (chosen limit over v v' tt tests rows had w out w' set set' c s k g y l) m;
+        claim = λ g y l. told_many sheet_bytes w' set' c g y (chosen w' set set' c s k g y l) m;
         size = s.size;
         room = refl;
       }
 
-  pub sheet_few : limit ≤ 4096 → (w' set set' : List ℕ) (c : ℕ) → Selected limit v v' w w' set set' c → length set ≡ 16 → c ≤ limit → (r : Result ℕ Refusal) (out' : Bytes)
-      → SheetWritten (selection w' c had.old_nodes had.new_nodes set' had.old_edges tt tests rows had.tests) out (told r) out'
-      → Done w w' out out' (SheetOr limit v v' tt tests rows had w out (Some r) out')
-  unfolding SheetOr SheetDone SheetWrites sheet_bytes
+  pub sheet_few : limit ≤ 4096 → (w' set set' : List ℕ) (c : ℕ) → Selected limit v v' w w' set set' c → length set ≡ 16 → c ≤ limit → (r : Answer) (out' : Bytes)
+      → SheetWritten (selection w' c had.old_nodes had.new_nodes set' had.old_edges tt tests rows had.tests) out r out'
+      → Done w w' out out' (SheetDone limit over v v' tt tests rows had w out r out')
+  unfolding SheetDone SheetWrites sheet_bytes
   sheet_few most w' set set' c s k m r out' h =
       record {
-        claim = λ over g y l.
-            let x = chosen limit over v v' tt tests rows had w out w' set set' c s k g y l in
+        claim = λ g y l.
+            let x = chosen w' set set' c s k g y l in
             let t = h.writes y.o.program y.p.program y.l
             (record {
               old_nodes = y.old_nodes_n;
@@ -144,83 +143,127 @@ module _ (limit : ℕ) (v v' : Memory) (tt tests rows : List ℕ) (had : Counts)
               dangerous = (x.marked m).bits;
               suite_read = ap (λ (n : ℕ). read_tests n tt) y.old_edges_n ∙ y.tests_read;
               suite_held = subst (λ (n : ℕ). Holds n tests rows had.tests y.l) (sym y.old_edges_n) y.tests_in;
-              short = selected_short limit (giving limit over v v' tt tests rows had w out g y) (edge_count y.o.program) (suite_read (edge_count y.o.program) tt y.l y.tests_read)
-                  (held_few limit over v v' tt tests rows had w out g y w' set' c x m) most (sound v y.o y.old_in) (sound v' y.p y.new_in);
+              short = selected_short limit (giving g y) (edge_count y.o.program) (suite_read (edge_count y.o.program) tt y.l y.tests_read) (held_few g y w' set' c x m) most
+                  (sound v y.o y.old_in) (sound v' y.p y.new_in);
             }) in
-            told_few limit over v v' tt tests rows had w out sheet_bytes w' set' c g y x m (told r) out' t;
+            told_few sheet_bytes w' set' c g y x m r out' t;
         size = s.size;
         room = h.size;
       }
 
-  pub record_none : (i : ℕ) (r : Result ℕ Refusal) → had.tests ≤ i → told r ≡ record { number = 6; place = 0 } → Done w w out out (RecordOr limit v v' tt tests rows had i w out (Some r) out)
-  unfolding RecordOr RecordDone
-  record_none i r h e =
+  -- ---- `write_record`
+
+  pub record_none : (i : ℕ) → had.tests ≤ i → Done w w out out (RecordDone limit over v v' tt tests rows had i w out (record { number = 6; place = 0 }) out)
+  unfolding RecordDone
+  record_none i h =
       record {
-        claim = λ over g y l.
-            subst (λ (g : Given). Told (recording limit over g i (length out)) (told r) out out) (sym y.given_is)
-            (told_as (recording_no limit over (giving limit over v v' tt tests rows had w out g y) i (length out) (omega (arith, y.tests_in.counted)))
-            (subst (λ (a : Answer). Told (refusal 6 0) a out out) (sym e) (refusal_told 6 0 out)));
+        claim = λ g y l.
+            subst (λ (g : Given). Told (recording limit over g i (length out)) (record { number = 6; place = 0 }) out out) (sym y.given_is)
+            (told_as (recording_no limit over (giving g y) i (length out) (omega (arith, y.tests_in.counted))) (refusal_told 6 0 out));
         size = refl;
         room = refl;
       }
 
   pub record_many : (w' set set' : List ℕ) (c i : ℕ) → i < had.tests → Selected limit v v' w w' set set' c → length set ≡ 16 → limit < c
-      → Done w w' out out (RecordOr limit v v' tt tests rows had i w out None out)
-  unfolding RecordOr RecordDone
+      → Done w w' out out (RecordDone limit over v v' tt tests rows had i w out (record { number = over; place = 0 }) out)
+  unfolding RecordDone
   record_many w' set set' c i below s k m =
       record {
-        claim = λ over g y l.
-            let x = chosen limit over v v' tt tests rows had w out w' set set' c s k g y l in
-            let given = giving limit over v v' tt tests rows had w out g y in
+        claim = λ g y l.
+            let x = chosen w' set set' c s k g y l in
             subst (λ (g : Given). Told (recording limit over g i (length out)) (record { number = over; place = 0 }) out out) (sym y.given_is)
             (told_as
-            (recording_yes limit over given i (length out) (omega (arith, y.tests_in.counted))
-            ∙ writing_many limit over given (length out) (record_bytes given i) (too_many limit y.o.program y.p.program w' set' c x m))
+            (recording_yes limit over (giving g y) i (length out) (omega (arith, y.tests_in.counted))
+            ∙ writing_many limit over (giving g y) (length out) (record_bytes (giving g y) i) (too_many limit y.o.program y.p.program w' set' c x m))
             (refusal_told over 0 out));
         size = s.size;
         room = refl;
       }
 
-  pub record_few : (w' set set' : List ℕ) (c i : ℕ) → i < had.tests → Selected limit v v' w w' set set' c → length set ≡ 16 → c ≤ limit → (r : Result ℕ Refusal) (out' : Bytes)
-      → Done w' w' out out' (RecordFrom v.nodes v.links v'.nodes v'.links tt tests rows had i w' set' out (told r) out')
-      → Done w w' out out' (RecordOr limit v v' tt tests rows had i w out (Some r) out')
-  unfolding RecordOr RecordDone RecordFrom
+  pub record_few : (w' set set' : List ℕ) (c i : ℕ) → i < had.tests → Selected limit v v' w w' set set' c → length set ≡ 16 → c ≤ limit → (r : Answer) (out' : Bytes)
+      → Done w' w' out out' (RecordFrom v.nodes v.links v'.nodes v'.links tt tests rows had i w' set' out r out') → Done w w' out out' (RecordDone limit over v v' tt tests rows had i w out r out')
+  unfolding RecordDone RecordFrom
   record_few w' set set' c i below s k m r out' h =
       record {
-        claim = λ over g y l. h.claim limit over v.text v'.text g c y (chosen limit over v v' tt tests rows had w out w' set set' c s k g y l) (s.set_size ∙ k) m below;
+        claim = λ g y l. h.claim limit over v.text v'.text g c y (chosen w' set set' c s k g y l) (s.set_size ∙ k) m below;
         size = s.size;
         room = h.room;
       }
 
 -- ---- `write_probes`
 
-module _ (limit : ℕ) (v v' : Memory) (had : Counts) (w : List ℕ) (out : Bytes) (w' dangers dangers' : List ℕ) (c : ℕ)
+module _ (limit over : ℕ) (v v' : Memory) (had : Counts) (w : List ℕ) (out : Bytes) (w' dangers dangers' : List ℕ) (c : ℕ)
     (s : Selected limit v v' w w' dangers dangers' c) (k : length dangers ≡ 16) where
-  pub probes_many : limit < c → Done w w' out out (ProbesOr limit v v' had w out None out)
-  unfolding ProbesOr ProbesDone
+  pub probes_many : limit < c → Done w w' out out (ProbesDone limit over v v' had w out (record { number = over; place = 0 }) out)
+  unfolding ProbesDone
   probes_many m =
       record {
-        claim = λ over tt tests rows g y l.
+        claim = λ tt tests rows g y l.
             told_many limit over v v' tt tests rows had w out probes_bytes w' dangers' c g y (chosen limit over v v' tt tests rows had w out w' dangers dangers' c s k g y l) m;
         size = s.size;
         room = refl;
       }
 
   pub probes_few : c ≤ limit → (set set' : List ℕ) → set ≡ replicate 16 0 → ProbesFound v.nodes v.links v'.nodes v'.links w' dangers' had.old_edges had.new_nodes set set'
-      → (r : Result ℕ Refusal) (out' : Bytes) → ProbesWritten set' had.new_edges out (told r) out' → Done w w' out out' (ProbesOr limit v v' had w out (Some r) out')
-  unfolding ProbesOr ProbesDone FindsProbes probes_bytes
+      → (r : Answer) (out' : Bytes) → ProbesWritten set' had.new_edges out r out' → Done w w' out out' (ProbesDone limit over v v' had w out r out')
+  unfolding ProbesDone FindsProbes probes_bytes
   probes_few m set set' zero f r out' h =
       let long : 16 ≤ length set = omega (arith, ap length zero, length-replicate {A = ℕ} 16 0) in
       record {
-        claim = λ over tt tests rows g y l.
+        claim = λ tt tests rows g y l.
             let x = chosen limit over v v' tt tests rows had w out w' dangers dangers' c s k g y l in
             let found = f.finds y.o y.p c (record { old_text = v.text; new_text = v'.text; old_in = y.old_in; new_in = y.new_in; held = x.held m }) (x.marked m) y.old_edges_n
             y.new_nodes_n long (clear_bits set 16 zero) in
             let is = probes_text_lem y.o.program y.p.program set' had.new_edges y.new_edges_n found in
-            told_few limit over v v' tt tests rows had w out probes_bytes w' dangers' c g y x m (told r) out' (told_as (ap (written (length out)) (sym is)) h.told);
+            told_few limit over v v' tt tests rows had w out probes_bytes w' dangers' c g y x m r out' (told_as (ap (written (length out)) (sym is)) h.told);
         size = s.size;
         room = h.size;
       }
+
+-- ---- the same for whatever number the caller has for more pairs
+
+for_all : (w w' out out' : List ℕ) (X : ℕ → Type 0) → ((over : ℕ) → Done w w' out out' (X over)) → Done w w' out out' ((over : ℕ) → X over)
+for_all w w' out out' X f = record { claim = λ over. (f over).claim; size = (f 0).size; room = (f 0).room }
+
+module _ (limit : ℕ) (v v' : Memory) (tt tests rows : List ℕ) (had : Counts) (w : List ℕ) (out : Bytes) where
+  pub sheet_or_many : (w' set set' : List ℕ) (c : ℕ) → Selected limit v v' w w' set set' c → length set ≡ 16 → limit < c
+      → Done w w' out out (SheetOr limit v v' tt tests rows had w out None out)
+  unfolding SheetOr
+  sheet_or_many w' set set' c s k m = for_all _ _ _ _ _ (λ over. sheet_many limit over v v' tt tests rows had w out w' set set' c s k m)
+
+  pub sheet_or_few : limit ≤ 4096 → (w' set set' : List ℕ) (c : ℕ) → Selected limit v v' w w' set set' c → length set ≡ 16 → c ≤ limit → (r : Result ℕ Refusal) (out' : Bytes)
+      → SheetWritten (selection w' c had.old_nodes had.new_nodes set' had.old_edges tt tests rows had.tests) out (told r) out'
+      → Done w w' out out' (SheetOr limit v v' tt tests rows had w out (Some r) out')
+  unfolding SheetOr
+  sheet_or_few most w' set set' c s k m r out' h = for_all _ _ _ _ _ (λ over. sheet_few limit over v v' tt tests rows had w out most w' set set' c s k m (told r) out' h)
+
+  pub record_or_none : (i : ℕ) (r : Result ℕ Refusal) → had.tests ≤ i → told r ≡ record { number = 6; place = 0 } → Done w w out out (RecordOr limit v v' tt tests rows had i w out (Some r) out)
+  unfolding RecordOr
+  record_or_none i r h e =
+      for_all _ _ _ _ _
+      (λ over. subst (λ (a : Answer). Done w w out out (RecordDone limit over v v' tt tests rows had i w out a out)) (sym e) (record_none limit over v v' tt tests rows had w out i h))
+
+  pub record_or_many : (w' set set' : List ℕ) (c i : ℕ) → i < had.tests → Selected limit v v' w w' set set' c → length set ≡ 16 → limit < c
+      → Done w w' out out (RecordOr limit v v' tt tests rows had i w out None out)
+  unfolding RecordOr
+  record_or_many w' set set' c i below s k m = for_all _ _ _ _ _ (λ over. record_many limit over v v' tt tests rows had w out w' set set' c i below s k m)
+
+  pub record_or_few : (w' set set' : List ℕ) (c i : ℕ) → i < had.tests → Selected limit v v' w w' set set' c → length set ≡ 16 → c ≤ limit → (r : Result ℕ Refusal) (out' : Bytes)
+      → Done w' w' out out' (RecordFrom v.nodes v.links v'.nodes v'.links tt tests rows had i w' set' out (told r) out')
+      → Done w w' out out' (RecordOr limit v v' tt tests rows had i w out (Some r) out')
+  unfolding RecordOr
+  record_or_few w' set set' c i below s k m r out' h = for_all _ _ _ _ _ (λ over. record_few limit over v v' tt tests rows had w out w' set set' c i below s k m (told r) out' h)
+
+module _ (limit : ℕ) (v v' : Memory) (had : Counts) (w : List ℕ) (out : Bytes) (w' dangers dangers' : List ℕ) (c : ℕ)
+    (s : Selected limit v v' w w' dangers dangers' c) (k : length dangers ≡ 16) where
+  pub probes_or_many : limit < c → Done w w' out out (ProbesOr limit v v' had w out None out)
+  unfolding ProbesOr
+  probes_or_many m = for_all _ _ _ _ _ (λ over. probes_many limit over v v' had w out w' dangers dangers' c s k m)
+
+  pub probes_or_few : c ≤ limit → (set set' : List ℕ) → set ≡ replicate 16 0 → ProbesFound v.nodes v.links v'.nodes v'.links w' dangers' had.old_edges had.new_nodes set set'
+      → (r : Result ℕ Refusal) (out' : Bytes) → ProbesWritten set' had.new_edges out (told r) out' → Done w w' out out' (ProbesOr limit v v' had w out (Some r) out')
+  unfolding ProbesOr
+  probes_or_few m set set' zero f r out' h = for_all _ _ _ _ _ (λ over. probes_few limit over v v' had w out w' dangers dangers' c s k m set set' zero f (told r) out' h)
 
 -- ---- `record_from`
 
@@ -267,4 +310,4 @@ record_put on ol nn nl tt tests rows had w out set none probed none' after marks
       room = h.size;
     }
 
-pub ruleset all = (select_many, select_few, sheet_many, sheet_few, probes_many, probes_few, record_put, record_none, record_many, record_few)
+pub ruleset all = (select_many, select_few, sheet_or_many, sheet_or_few, probes_or_many, probes_or_few, record_put, record_or_none, record_or_many, record_or_few)
