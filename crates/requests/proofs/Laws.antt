@@ -26,6 +26,7 @@ use Rattle.writer.specs.Sheets.{TextWritten}
 use Rattle.intake.specs.declared.Counts.{Counts}
 use Rattle.intake.specs.Ready.{Ready}
 use Rattle.checker.specs.Checking.{Checks}
+use Rattle.work.proofs.Laws.{at_number}
 use Rattle.work.specs.Work.{Done, ProbesDone, ProbesOr, RecordDone, RecordOr, SheetDone, SheetOr, told_or}
 use Rattle.requests.specs.declared.Request.{Request}
 use Rattle.requests.specs.declared.Request.TheVariants.{Check, Label, Probes, Program, Record, Sheet, Unknown}
@@ -226,18 +227,15 @@ module _ (v v' : Memory) (tt tests rows : List ℕ) (had : Counts) (input w w' o
     -- Of what `within` makes of an answer.
     pub sheet_within : (a : Option (Result ℕ Refusal)) → q ≡ Sheet → 16912 ≤ length w → r ≡ told_or too_many a → Done w w' out out' (SheetOr max_pairs v v' tt tests rows had w out a out') → Does q
     unfolding SheetOr
-    sheet_within a e room x d =
-        sheet_asked e room (record { claim = subst (λ (z : Answer). SheetDone max_pairs too_many v v' tt tests rows had w out z out') (sym x) (d.claim too_many); size = d.size; room = d.room })
+    sheet_within a e room x d = sheet_asked e room (at_number w w' out out' (λ (n : ℕ) (z : Answer). SheetDone max_pairs n v v' tt tests rows had w out z out') too_many a r x d)
 
     pub record_within : (i : ℕ) (a : Option (Result ℕ Refusal)) → q ≡ Record i → 16912 ≤ length w → r ≡ told_or too_many a → Done w w' out out' (RecordOr max_pairs v v' tt tests rows had i w out a out')
         → Does q
     unfolding RecordOr
-    record_within i a e room x d =
-        record_asked i e room (record { claim = subst (λ (z : Answer). RecordDone max_pairs too_many v v' tt tests rows had i w out z out') (sym x) (d.claim too_many); size = d.size; room = d.room })
+    record_within i a e room x d = record_asked i e room (at_number w w' out out' (λ (n : ℕ) (z : Answer). RecordDone max_pairs n v v' tt tests rows had i w out z out') too_many a r x d)
 
     pub probes_within : (a : Option (Result ℕ Refusal)) → q ≡ Probes → 16912 ≤ length w → r ≡ told_or too_many a → Done w w' out out' (ProbesOr max_pairs v v' had w out a out') → Does q
     unfolding ProbesOr
-    probes_within a e room x d =
-        probes_asked e room (record { claim = subst (λ (z : Answer). ProbesDone max_pairs too_many v v' had w out z out') (sym x) (d.claim too_many); size = d.size; room = d.room })
+    probes_within a e room x d = probes_asked e room (at_number w w' out out' (λ (n : ℕ) (z : Answer). ProbesDone max_pairs n v v' had w out z out') too_many a r x d)
 
 pub ruleset all = (by_0, by_1, by_2, by_3, by_4, by_5, by_none, on_old, on_new, on_none, label_there, label_not, program_old, program_new, program_none, sheet_within, record_within, check_asked, label_asked, program_asked, probes_within, unknown_asked)

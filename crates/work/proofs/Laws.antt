@@ -16,7 +16,7 @@ use Rattle.rules.specs.SuiteFile.{coverage_at, read_tests, test_count}
 use Rattle.rules.specs.Closing.{pairs}
 use Rattle.rules.specs.Job.{Given, probes_bytes, record_bytes, recording, refusal, sheet_bytes, writing, written}
 use Rattle.rules.proofs.ReadBack.{selected_short}
-use Rattle.std.specs.Prelude.{Some, None, Result}
+use Rattle.std.specs.Prelude.{Option, Some, None, Result}
 use Rattle.answer.specs.declared.Refusal.{Refusal}
 use Rattle.answer.specs.Refusals.{Answer, told}
 use Rattle.answer.specs.Outcomes.{Told, refusal_told, told_as}
@@ -37,7 +37,7 @@ use Rattle.writer.specs.Laws.{probes_text_lem}
 use Rattle.writer.specs.Sheets.{ProbesWritten, RecordWrites, RecordWritten, SheetWrites, SheetWritten, selection, writing_written}
 use Rattle.intake.specs.declared.Counts.{Counts}
 use Rattle.intake.specs.Ready.{Few, Ready}
-use Rattle.work.specs.Work.{Chosen, Done, ProbesDone, ProbesOr, RecordDone, RecordFrom, RecordOr, Selected, SelectDone, SheetDone, SheetOr}
+use Rattle.work.specs.Work.{Chosen, Done, ProbesDone, ProbesOr, RecordDone, RecordFrom, RecordOr, Selected, SelectDone, SheetDone, SheetOr, told_or}
 
 -- ---- `select`
 
@@ -224,6 +224,11 @@ module _ (limit over : ℕ) (v v' : Memory) (had : Counts) (w : List ℕ) (out :
 
 for_all : (w w' out out' : List ℕ) (X : ℕ → Type 0) → ((over : ℕ) → Done w w' out out' (X over)) → Done w w' out out' ((over : ℕ) → X over)
 for_all w w' out out' X f = record { claim = λ over. (f over).claim; size = (f 0).size; room = (f 0).room }
+
+-- What a caller has of it with the number `over`.
+pub at_number : (w w' out out' : List ℕ) (X : ℕ → Answer → Type 0) (over : ℕ) (a : Option (Result ℕ Refusal)) (r : Answer) → r ≡ told_or over a
+    → Done w w' out out' ((n : ℕ) → X n (told_or n a)) → Done w w' out out' (X over r)
+at_number w w' out out' X over a r e d = record { claim = subst (X over) (sym e) (d.claim over); size = d.size; room = d.room }
 
 module _ (limit : ℕ) (v v' : Memory) (tt tests rows : List ℕ) (had : Counts) (w : List ℕ) (out : Bytes) where
   pub sheet_or_many : (w' set set' : List ℕ) (c : ℕ) → Selected limit v v' w w' set set' c → length set ≡ 16 → limit < c
